@@ -1,0 +1,4 @@
+pub mod Answer
+pub mod Config
+pub mod Entry
+pub mod Prefix
