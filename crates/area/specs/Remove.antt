@@ -55,5 +55,5 @@ clearOf a stays p m k f i = cond (present (entryIn m f i)) (releaseOf a stays p 
 unfoldable pub removeOf : Area → Bool → Pool → List ℕ → List ℕ → End
 removeOf a stays p m [] = end p Not m
 removeOf a stays p m (i ∷ is) =
-    onWay (lastOf (a .base) (a .size) m (topOf (a .base) p) i is) (end p Not m) (end p Bad m)
+    onWay (lastOf (a .base) (a .size) m (topOf (a .base) (p .fresh)) i is) (end p Not m) (end p Bad m)
     (λ f. clearOf a stays p m (length is) f (lastIndex i is))

@@ -15,8 +15,8 @@ use Rattle.area.specs.Header.{entryIn, putOf, headOf}
 use Rattle.area.specs.Pool.{link, hopOf, onWay, End, ends, end, takeOf}
 
 -- the entry of the top table, which stands in the area's first frame once a frame is handed out
-unfoldable pub topOf : ℕ → Pool → ℕ
-topOf b p = cond (eqb (p .fresh) 0) 0 (link b)
+unfoldable pub topOf : ℕ → ℕ → ℕ
+topOf b fresh = cond (eqb fresh 0) 0 (link b)
 
 -- on from the entry e, n words read so far
 unfoldable pub lookOf : ℕ → ℕ → List ℕ → ℕ → List ℕ → ℕ → Look
@@ -29,7 +29,7 @@ roomBy a p k Broken = Bad
 
 -- how many tables a path lacks; Not if the area has no room for them
 unfoldable pub roomOf : Area → Pool → List ℕ → List ℕ → Way
-roomOf a p m is = roomBy a p (length is) (lookOf (a .base) (a .size) m (topOf (a .base) p) is 0)
+roomOf a p m is = roomBy a p (length is) (lookOf (a .base) (a .size) m (topOf (a .base) (p .fresh)) is 0)
 
 -- the frame that was handed out becomes a table
 abbrev pub headed : End → Way → ℕ → ℕ → ℕ → ℕ → End
