@@ -1,3 +1,4 @@
 pub mod Change
 pub mod Stores
 pub mod Invariant
+pub mod Grow

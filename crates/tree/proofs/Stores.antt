@@ -1,7 +1,7 @@
 -- What the stores of a table area leave of the entries and headers of its tables.
 -- Assumes nothing.
 use mathlib.Core.Path.{_≡_, refl, sym, ap, _∙_, subst}
-use mathlib.Core.Logic.{_≢_}
+use mathlib.Core.Logic.{_≢_, _⊎_, inl, inr}
 use Prim.Native.Nat.{ℕ, zero, suc, _+_, _*_, _-_, _/_, _%_, _<_, _≤_}
 use mathlib.Core.Bool.{Bool, true, false, cond}
 use native.Mathlib.Omega.{arith}
@@ -13,6 +13,7 @@ use lib.Dec.{ltb}
 use borrow.Author.Tests.{ltb-true, ltb-false}
 use Rattle.words.specs.Words.{at, wordIn, setIn, zeroed}
 use Rattle.words.proofs.Laws.{zeroed-length, zeroed-below, zeroed-above, zeroed-inside}
+use Rattle.area.specs.declared.Area.{Area}
 use Rattle.area.specs.Header.{entryIn, highOf, putOf, guestOf, levelOf, parentOf, slotOf, headOf}
 use Rattle.area.specs.Pool.{backOf}
 use Rattle.laws.proofs.Lists.{All}
@@ -42,6 +43,9 @@ high-head m n g h = record {
   slot = rw (h 4 (omega arith));
 }
 
+pub trans-head : {m n o : List ℕ} {g : ℕ} → SameHead m n g → SameHead n o g → SameHead m o g
+trans-head a b = record { guest = b .guest ∙ a .guest; level = b .level ∙ a .level; parent = b .parent ∙ a .parent; slot = b .slot ∙ a .slot }
+
 pub frame-head : (m n : List ℕ) (g : ℕ) → SameFrame m n g → SameHead m n g
 unfolding highOf
 frame-head m n g h = high-head m n g (λ k l. ap (λ x. x / 4503599627370496) (h k l))
@@ -49,6 +53,24 @@ frame-head m n g h = high-head m n g (λ k l. ap (λ x. x / 4503599627370496) (h
 pub frame-entry : (m n : List ℕ) (g j : ℕ) → SameFrame m n g → j < 512 → entryIn n g j ≡ entryIn m g j
 unfolding entryIn
 frame-entry m n g j h l = ap (λ x. x % 4503599627370496) (h j l)
+
+-- frames outside the area hold the same words, and the length is the same
+pub record Beside (a : Area) (m n : List ℕ) : Type 0 where
+  pub len : length n ≡ length m
+  pub else : (g : ℕ) → (g < a .base) ⊎ (a .base + a .size ≤ g) → SameFrame m n g
+
+pub beside-refl : (a : Area) (m : List ℕ) → Beside a m m
+beside-refl a m = record { len = refl; else = λ g o k l. refl }
+
+pub beside-trans : {a : Area} {m n o : List ℕ} → Beside a m n → Beside a n o → Beside a m o
+beside-trans b c = record { len = c .len ∙ b .len; else = λ g o k l. c .else g o k l ∙ b .else g o k l }
+
+-- one frame of the area changed
+pub beside-one : (a : Area) (m n : List ℕ) (f : ℕ) → a .base ≤ f → f < a .base + a .size → length n ≡ length m → ((g : ℕ) → g ≢ f → SameFrame m n g) → Beside a m n
+beside-one a m n f lo hi e h = record {
+  len = e;
+  else = λ g o. h g (λ q. elim o [ inl l ↦ (let z = q in omega arith) | inr l ↦ (let z = q in omega arith) ]);
+}
 
 -- ---- an entry is put
 pub put-length : (m : List ℕ) (f i e : ℕ) → length (putOf m f i e) ≡ length m
@@ -72,6 +94,9 @@ put-here m f i e l s = ap (λ x. x % 4503599627370496) (put-same m f i e l) ∙ 
 pub put-other : (m : List ℕ) (f i e g j : ℕ) → at g j ≢ at f i → entryIn (putOf m f i e) g j ≡ entryIn m g j
 unfolding entryIn
 put-other m f i e g j h = ap (λ x. x % 4503599627370496) (put-word m f i e (at g j) h)
+
+pub put-else : (m : List ℕ) (f i e g : ℕ) → i < 512 → g ≢ f → SameFrame m (putOf m f i e) g
+put-else m f i e g hi ne k l = put-word m f i e (at g k) (λ q. ne (at-inj g k f i l hi q .0))
 
 -- every header stays
 pub put-head : (m : List ℕ) (f i e g : ℕ) → at f i < length m → SameHead m (putOf m f i e) g
