@@ -5,6 +5,7 @@ use mathlib.Core.Logic.{_≢_}
 use Prim.Native.Nat.{ℕ}
 use native.Mathlib.Omega.{arith}
 use native.Mathlib.Decide.{ℕ-discrete}
+use mathlib.Core.Bool.{Bool, true, false}
 use mathlib.Core.List.{List, [], _∷_, List-discrete}
 use mathlib.Core.Option.{Option, none, some, IsSome}
 use lib.ListN.{length}
@@ -41,7 +42,10 @@ pub upd-other : {X : Type 0} (f : List ℕ → X) (p : List ℕ) (x : X) (q : Li
 unfolding upd
 upd-other f p x q h = pick-no (eq? p q) x (f q) h
 
--- ---- lists and options
+-- ---- tests, lists and options
+pub differ : {X : Type 0} → true ≡ false → X
+differ e = let z : _≡_ {A = ℕ} 0 1 = cc in absurd (omega arith)
+
 pub longer : (j : ℕ) (p : List ℕ) → _≢_ {A = List ℕ} p (j ∷ p)
 longer j p h = let k = ap length h in omega arith
 

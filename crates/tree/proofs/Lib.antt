@@ -2,3 +2,4 @@ pub mod Change
 pub mod Stores
 pub mod Invariant
 pub mod Grow
+pub mod Shrink
