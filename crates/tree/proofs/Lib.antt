@@ -3,3 +3,5 @@ pub mod Stores
 pub mod Invariant
 pub mod Grow
 pub mod Shrink
+pub mod Paths
+pub mod Find
