@@ -69,6 +69,16 @@ module _ {a : Area} {p : Pool} {ts : List ℕ → Option ℕ} {lv guest : List �
       go none e ih = let d = deep i x is e .1 in omega arith
       go (some f) e ih = omega arith
 
+  -- above a leaf no table is missing
+  pub lacks-leaf : (x is : List ℕ) → lv (onto x is) ≢ 0 → lacks ts x is ≡ 0
+  unfolding onto lacks
+  lacks-leaf x [] n = refl
+  lacks-leaf x (i ∷ is) n = go (ts x) refl (lacks-leaf (i ∷ x) is n)
+    where
+      go : (o : Option ℕ) → ts x ≡ o → lacks ts (i ∷ x) is ≡ 0 → onTable o 1 0 + lacks ts (i ∷ x) is ≡ 0
+      go none e ih = absurd (n (deep i x is e .0))
+      go (some f) e ih = omega arith
+
   look-is : (x is : List ℕ) (e n : ℕ) → e ≡ slot (ts x) (lv x) → Clear lv x is → Small is → ts (onto x is) ≡ none
       → lookOf (a .base) (a .size) m e is n ≡ Seen (lv (onto x is)) (n + steps ts x is)
   unfolding lookOf onto steps

@@ -23,6 +23,7 @@ use Rattle.area.specs.Pool.{link, hopOf}
 use Rattle.area.specs.Tree.{topOf}
 use Rattle.laws.proofs.Distinct.{In, Once}
 use Rattle.tree.proofs.Change.{no-empty, some-inj, not-some, is-some}
+use Rattle.tree.proofs.Paths.{Ext}
 
 -- ---- entries
 -- the entry of a slot: it names the table that hangs there, or is the leaf x, or 0
@@ -123,6 +124,16 @@ pub record Tables (a : Area) (p : Pool) (ts : List ℕ → Option ℕ) (lv guest
   pub link : (i : ℕ) (x : List ℕ) (f : ℕ) → ts (i ∷ x) ≡ some f → (ts x ≡ some (parentOf m f)) × (slotOf m f ≡ i)
   pub each : (f : ℕ) → a .base ≤ f → f < a .base + p .fresh → (levelOf m f ≡ 0) ⊎ ((x : List ℕ) × (ts x ≡ some f))
   pub guests : (x : List ℕ) (f : ℕ) → ts x ≡ some f → guestOf m f ≡ guest x
+
+-- a leaf below the table of y
+pub record Leaf (lv : List ℕ → ℕ) (y : List ℕ) : Type 0 where
+  pub path : List ℕ
+  pub under : Ext y path
+  pub set : lv path ≢ 0
+
+-- each table has a leaf below it, but the top one where it stays
+abbrev pub Exact : Bool → (List ℕ → Option ℕ) → (List ℕ → ℕ) → Type 0
+Exact stays ts lv = (y : List ℕ) → IsSome (ts y) → Leaf lv y ⊎ ((y ≡ []) × T stays)
 
 -- ---- what follows
 slot-small : (m : List ℕ) (f : ℕ) → slotOf m f < 512

@@ -1,7 +1,10 @@
 pub mod Change
 pub mod Stores
+pub mod Paths
 pub mod Invariant
 pub mod Grow
 pub mod Shrink
-pub mod Paths
 pub mod Find
+pub mod Insert
+pub mod Release
+pub mod Remove
