@@ -8,3 +8,5 @@ pub mod Find
 pub mod Insert
 pub mod Release
 pub mod Remove
+pub mod Whole
+pub mod Count
