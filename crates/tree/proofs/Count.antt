@@ -7,7 +7,7 @@ use native.Mathlib.Omega.{arith}
 use mathlib.Core.Bool.{Bool, true, false, _||_, _&&_, cond}
 use mathlib.Core.List.{List, [], _∷_, _++_, tail}
 use mathlib.Core.Option.{Option, none, some, IsSome}
-use lib.Dec.{T, eqb, not-T, T-not, eqb→eq}
+use lib.Dec.{T, eqb, not-T, T-not, eqb→eq, eqb-refl}
 use lib.ListN.{length}
 use Rattle.spec.specs.Prefix.{begins, same, any, consAll, propers, allPropers, distinct, tablesOf}
 use Rattle.spec.specs.Machine.{standing}
@@ -16,9 +16,9 @@ use Rattle.area.specs.declared.Pool.{Pool}
 use Rattle.laws.proofs.Lists.{same-is, same-refl, or-cases, or-left, or-right, and-left, and-right, both, begins-refl, is-true}
 use Rattle.laws.proofs.Distinct.{In, Once, distinct-is, in-head, in-left, in-right, in-split}
 use Rattle.tree.proofs.Change.{eq?, upd, upd-on, upd-at, upd-other, no-empty, is-some}
-use Rattle.tree.proofs.Paths.{onto, onto-long, turn-turn, Pre, Ext, ext-empty, ext-pre, pre-ext, pre-long, ext-long}
+use Rattle.tree.proofs.Paths.{onto, onto-long, turn-turn, turn-empty, turn-none, Pre, Ext, ext-empty, ext-pre, pre-ext, pre-long, ext-long}
 use Rattle.tree.proofs.Invariant.{Tables, Leaf, Exact, none-below}
-use Rattle.tree.proofs.Find.{onTable, steps, lacks}
+use Rattle.tree.proofs.Find.{onTable, steps, lacks, steps-lacks, lacks-leaf}
 use Rattle.tree.proofs.Whole.{Holds, above-leaf, Fits}
 
 -- the list has the paths with a leaf, from the top
@@ -333,6 +333,10 @@ unfolding tally
 tally-cons f i [] = refl
 tally-cons f i (q ∷ qs) = ap (λ n. cond (f (i ∷ q)) 1 0 + n) (tally-cons f i qs)
 
+tally-more : (f : List ℕ → Bool) (q : List ℕ) (qs : List (List ℕ)) → tally f (q ∷ qs) ≡ cond (f q) 1 0 + tally f qs
+unfolding tally
+tally-more f q qs = refl
+
 -- the tests agree on the prefixes
 pub tally-same : (f k : List ℕ → Bool) (qs : List (List ℕ)) → ((q : List ℕ) → In q qs → f q ≡ k q) → tally f qs ≡ tally k qs
 unfolding tally
@@ -360,3 +364,100 @@ module _ {a : Area} {p : Pool} {ts : List ℕ → Option ℕ} {lv guest : List �
           → onTable o 0 (1 + steps ts (i ∷ x) is) ≡ cond (stands o) 1 0 + tally (λ q. stands (ts (onto x q))) (consAll i (propers is))
       go none e rest = let k = steps-none (i ∷ x) is (none-below g i x e) in omega arith
       go (some f) e rest = omega arith
+
+-- a prefix of a path, as the specification tests it
+propers-begins : (q is : List ℕ) → In q (propers is) → T (begins q is)
+propers-begins q [] h = absurd h
+propers-begins q (i ∷ is) h = elim (or-cases (same q []) (any (same q) (consAll i (propers is))) h) [
+  | inl a ↦ subst (λ z. T (begins z (i ∷ is))) (sym (same-is q [] a)) tt
+  | inr a ↦ (let t = cons-in i q (propers is) a in
+      subst (λ z. T (begins z (i ∷ is))) (sym (t .whole)) (both (eqb i i) (begins (t .rest) is) (eqb-refl i) (propers-begins (t .rest) is (t .inside))))
+]
+
+begins-propers : (q is : List ℕ) → T (begins q is) → (q ≡ is) ⊎ In q (propers is)
+begins-propers [] [] h = inl refl
+begins-propers [] (i ∷ is) h = inr tt
+begins-propers (x ∷ q) [] h = absurd h
+begins-propers (x ∷ q) (i ∷ is) h =
+    let e : x ≡ i = eqb→eq x i (and-left (eqb x i) (begins q is) h) in
+    elim (begins-propers q is (and-right (eqb x i) (begins q is) h)) [
+      | inl a ↦ inl (ap₂ (λ b l. b ∷ l) e a)
+      | inr a ↦ inr (subst (λ z. In (z ∷ q) (propers (i ∷ is))) (sym e) (in-cons i q (propers is) a))
+    ]
+
+record Found (f : List ℕ → Bool) (xs : List (List ℕ)) : Type 0 where
+  pub path : List ℕ
+  pub listed : In path xs
+  pub passes : T (f path)
+
+any-found : (f : List ℕ → Bool) (xs : List (List ℕ)) → T (any f xs) → Found f xs
+any-found f [] h = absurd h
+any-found f (x ∷ xs) h = elim (or-cases (f x) (any f xs) h) [
+  | inl a ↦ record { path = x; listed = in-head x x xs refl; passes = a }
+  | inr a ↦ (let t = any-found f xs a in record { path = t .path; listed = or-right (same (t .path) x) _ (t .listed); passes = t .passes })
+]
+
+found-any : (f : List ℕ → Bool) (w : List ℕ) (xs : List (List ℕ)) → In w xs → T (f w) → T (any f xs)
+found-any f w [] h k = h
+found-any f w (x ∷ xs) h k = elim (or-cases (same w x) (any (same w) xs) h) [
+  | inl a ↦ or-left (f x) _ (subst (λ z. T (f z)) (same-is w x a) k)
+  | inr a ↦ or-right (f x) _ (found-any f w xs a k)
+]
+
+-- words that a lookup reads: one for each prefix that stands; the top table, where it stays, is always read
+abbrev pub wordsRead : Bool → List (List ℕ) → List ℕ → ℕ
+wordsRead stays xs is = cond stays (1 + standing (tail (propers is)) xs) (standing (propers is) xs)
+
+module _ {a : Area} {stays : Bool} {p : Pool} {m : List ℕ} {lv guest : List ℕ → ℕ} (h : Holds a stays p m lv guest) (is : List ℕ) (f : Fits a lv is) where
+  -- at a leaf, one word for each index
+  pub reads-leaf : lv (onto [] is) ≢ 0 → steps (h .tabs) [] is ≡ length is
+  reads-leaf set = let k = steps-lacks (h .tables) [] is in let n = lacks-leaf (h .tables) [] is set in omega arith
+
+  module _ (xs : List (List ℕ)) (l : Lists lv xs) where
+    -- a prefix stands exactly if a listed path begins with it
+    tested : (q : List ℕ) → In q (propers is) → ((q ≡ []) × T stays → ⊥) → stands (h .tabs (onto [] q)) ≡ any (begins q) xs
+    tested q k n = go (h .tabs (onto [] q)) refl (any (begins q) xs) refl
+      where
+        there : (w : List ℕ) → In w xs → lv (onto [] w) ≢ 0
+        there w i = l (onto [] w) .0 (subst (λ z. In z xs) (sym (turn-turn w)) i)
+
+        above : Found (begins q) xs → IsSome (h .tabs (onto [] q))
+        above t = elim (begins-propers q (t .path) (t .passes)) [
+          | inl e ↦ absurd (there q (subst (λ z. In z xs) (sym e) (t .listed)) (f .apart (onto [] q) .0 (propers-ext q is k)))
+          | inr e ↦ above-leaf h (onto [] q) (record { path = onto [] (t .path); under = propers-ext q (t .path) e; set = there (t .path) (t .listed) })
+        ]
+
+        begun : Leaf lv (onto [] q) ⊎ ((onto [] q ≡ []) × T stays) → T (any (begins q) xs)
+        begun (inl r) = found-any (begins q) (onto [] (r .path)) xs (l (r .path) .1 (r .set))
+            (propers-begins q (onto [] (r .path)) (subst (λ z. In z (propers (onto [] (r .path)))) (turn-turn q)
+            (ext-propers (onto [] q) (onto [] (r .path)) (subst (Ext (onto [] q)) (sym (turn-turn (r .path))) (r .under)))))
+        begun (inr r) = absurd (n (turn-none q (r .0), r .1))
+
+        go : (o : Option ℕ) → h .tabs (onto [] q) ≡ o → (t : Bool) → any (begins q) xs ≡ t → stands o ≡ t
+        go none e true c = absurd (subst IsSome e (above (any-found (begins q) xs (subst T (sym c) tt))))
+        go none e false c = refl
+        go (some d) e true c = refl
+        go (some d) e false c = absurd (subst T c (begun (h .exact (onto [] q) (is-some e))))
+
+    pub reads-is : steps (h .tabs) [] is ≡ wordsRead stays xs is
+    reads-is = steps-tally (h .tables) [] is ∙ go stays refl is refl
+      where
+        F : List ℕ → Bool
+        F q = stands (h .tabs (onto [] q))
+
+        go : (t : Bool) → stays ≡ t → (js : List ℕ) → is ≡ js → tally F (propers js) ≡ wordsRead t xs js
+        go false e js c = tally-same F (λ q. any (begins q) xs) (propers js) (λ q k. tested q (subst (λ z. In q (propers z)) (sym c) k) (λ n. subst T e (n .1))) ∙ sym (standing-tally (propers js) xs)
+        go true e [] c = absurd (let u = ap length c in omega (arith, f .nonempty))
+        go true e (j ∷ js) c = first
+          where
+            top : F [] ≡ true
+            top = seen (h .tabs (onto [] [])) (subst (λ z. IsSome (h .tabs z)) (sym turn-empty) (h .top (subst T (sym e) tt)))
+              where
+                seen : (o : Option ℕ) → IsSome o → stands o ≡ true
+                seen none k = absurd k
+                seen (some d) k = refl
+
+            first : tally F ([] ∷ consAll j (propers js)) ≡ 1 + standing (consAll j (propers js)) xs
+            first = tally-more F [] (consAll j (propers js)) ∙ ap₂ (λ t n. cond t 1 0 + n) top
+                (tally-same F (λ q. any (begins q) xs) (consAll j (propers js)) (λ q k. tested q (subst (λ z. In q (propers z)) (sym c) (or-right (same q []) _ k))
+                (λ n. no-empty j (cons-in j q (propers js) k .rest) (sym (cons-in j q (propers js) k .whole) ∙ n .0))) ∙ sym (standing-tally (consAll j (propers js)) xs))

@@ -31,6 +31,13 @@ pub turn-turn : (is : List ℕ) → onto [] (onto [] is) ≡ is
 unfolding onto
 turn-turn is = onto-back [] is
 
+pub turn-empty : onto [] [] ≡ []
+unfolding onto
+turn-empty = refl
+
+pub turn-none : (q : List ℕ) → onto [] q ≡ [] → q ≡ []
+turn-none q e = sym (turn-turn q) ∙ ap (onto []) e ∙ turn-empty
+
 -- every index is one of a table
 abbrev pub Small : List ℕ → Type 0
 Small [] = Unit {0}
