@@ -15,6 +15,7 @@ use Rattle.area.specs.declared.Area.{Area}
 use Rattle.area.specs.declared.Pool.{Pool}
 use Rattle.laws.proofs.Lists.{same-is, same-refl, or-cases, or-left, or-right, and-left, and-right, both, begins-refl, is-true}
 use Rattle.laws.proofs.Distinct.{In, Once, distinct-is, in-head, in-left, in-right, in-split}
+use Rattle.tree.specs.Run.{wordsRead}
 use Rattle.tree.proofs.Change.{eq?, upd, upd-on, upd-at, upd-other, no-empty, is-some}
 use Rattle.tree.proofs.Paths.{onto, onto-long, turn-turn, turn-empty, turn-none, Pre, Ext, ext-empty, ext-pre, pre-ext, pre-long, ext-long}
 use Rattle.tree.proofs.Invariant.{Tables, Leaf, Exact, none-below}
@@ -403,10 +404,6 @@ found-any f w (x ∷ xs) h k = elim (or-cases (same w x) (any (same w) xs) h) [
   | inl a ↦ or-left (f x) _ (subst (λ z. T (f z)) (same-is w x a) k)
   | inr a ↦ or-right (f x) _ (found-any f w xs a k)
 ]
-
--- words that a lookup reads: one for each prefix that stands; the top table, where it stays, is always read
-abbrev pub wordsRead : Bool → List (List ℕ) → List ℕ → ℕ
-wordsRead stays xs is = cond stays (1 + standing (tail (propers is)) xs) (standing (propers is) xs)
 
 module _ {a : Area} {stays : Bool} {p : Pool} {m : List ℕ} {lv guest : List ℕ → ℕ} (h : Holds a stays p m lv guest) (is : List ℕ) (f : Fits a lv is) where
   -- at a leaf, one word for each index

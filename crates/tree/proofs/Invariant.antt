@@ -214,8 +214,28 @@ module _ {a : Area} {p : Pool} {ts : List ℕ → Option ℕ} {lv guest : List �
 pub guests-same : {a : Area} {p : Pool} {ts : List ℕ → Option ℕ} {lv guest : List ℕ → ℕ} {fl : List ℕ} {ps : List (List ℕ)} {m : List ℕ} (other : List ℕ → ℕ)
     → ((x : List ℕ) → IsSome (ts x) → other x ≡ guest x) → Tables a p ts lv guest fl ps m → Tables a p ts lv other fl ps m
 guests-same other h g = record {
-  small = g .small; flat = g .flat; long = g .long; inj = g .inj; word = g .word; top = g .top; root = g .root; below = g .below;
-  narrow = g .narrow; plain = g .plain; solid = g .solid; inside = g .inside; chain = g .chain; nodup = g .nodup; off = g .off;
-  count = g .count; room = g .room; used = g .used; once = g .once; stand = g .stand; level = g .level; link = g .link; each = g .each;
+  small = g .small;
+  flat = g .flat;
+  long = g .long;
+  inj = g .inj;
+  word = g .word;
+  top = g .top;
+  root = g .root;
+  below = g .below;
+  narrow = g .narrow;
+  plain = g .plain;
+  solid = g .solid;
+  inside = g .inside;
+  chain = g .chain;
+  nodup = g .nodup;
+  off = g .off;
+  count = g .count;
+  room = g .room;
+  used = g .used;
+  once = g .once;
+  stand = g .stand;
+  level = g .level;
+  link = g .link;
+  each = g .each;
   guests = λ x f e. g .guests x f e ∙ sym (h x (is-some e));
 }

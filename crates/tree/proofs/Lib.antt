@@ -10,3 +10,6 @@ pub mod Release
 pub mod Remove
 pub mod Whole
 pub mod Count
+pub mod Claim
+pub mod Starts
+pub mod Local
