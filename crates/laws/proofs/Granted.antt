@@ -100,7 +100,7 @@ on-granted w g r k f h =
       t .mid .1,
       a .0 ∙ ap (λ x. some (x, t .mid .1)) (b .0),
       then-trace w (hosted g) k (w .hostCost g) [] (g ∷ []) (t .mid) (a .1) ∙ ap (more (w .hostCost g) [] (g ∷ [])) (b .1)
-      ∙ ap (λ n. ran n [] (g ∷ []) r) (add-zero (w .hostCost g)),
+          ∙ ap (λ n. ran n [] (g ∷ []) r) (add-zero (w .hostCost g)),
     )
 
 pub next-granted : (w : World) (st last : Bool) (g : ℕ) (v : Bool) (r : Place) → (trace w (next st last g v)) .result ≡ granted r → Arrived w st last g v r

@@ -5,3 +5,5 @@ pub mod Distinct
 pub mod Parts
 pub mod Granted
 pub mod Counts
+pub mod Depth
+pub mod Runs
