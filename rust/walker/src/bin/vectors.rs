@@ -1,0 +1,38 @@
+//! Prints random runs as lines of text:
+//! `vectors SEED CALLS [LEVELS [FRAMES H S]]`. Without sizes the seed chooses
+//! small ones.
+
+use walker::random::{run, Random, Sizes};
+use walker::vectors::lines;
+
+fn main() {
+    let numbers: Vec<u64> = std::env::args()
+        .skip(1)
+        .filter_map(|word| word.parse().ok())
+        .collect();
+    let (seed, calls, levels, sizes) = match numbers[..] {
+        [seed, calls] => (seed, calls, 4, None),
+        [seed, calls, levels] => (seed, calls, levels as u32, None),
+        [seed, calls, levels, frames, h, s] => (seed, calls, levels as u32, Some((frames, h, s))),
+        _ => {
+            eprintln!("vectors SEED CALLS [LEVELS [FRAMES H S]]");
+            std::process::exit(2);
+        }
+    };
+    let sizes = match sizes {
+        Some((frames, h, s)) => Sizes {
+            levels,
+            frames,
+            h,
+            s,
+        },
+        None => Sizes::small(&mut Random::new(seed.wrapping_add(1)), levels),
+    };
+    match lines(&run(seed, sizes, calls as usize)) {
+        Ok((lines, _)) => println!("{}", lines.join("\n")),
+        Err(number) => {
+            eprintln!("the opening is refused with {number}");
+            std::process::exit(1);
+        }
+    }
+}
