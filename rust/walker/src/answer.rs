@@ -28,36 +28,14 @@ pub const BAD_RECORD: u32 = 13;
 /// A call after a granted opening.
 #[derive(Clone, Copy, Debug, PartialEq, Eq)]
 pub enum Call {
-    Root {
-        frame: u64,
-    },
-    Map {
-        guest: u64,
-        host: u64,
-        writable: bool,
-    },
-    Unmap {
-        guest: u64,
-    },
-    SetMark {
-        address: u64,
-        level: u64,
-    },
-    ClearMark {
-        address: u64,
-        level: u64,
-    },
-    Load {
-        address: u64,
-    },
-    Store {
-        address: u64,
-        value: u64,
-    },
-    DeviceStore {
-        address: u64,
-        value: u64,
-    },
+    Root { frame: u64 },
+    Map { guest: u64, host: u64, writable: bool },
+    Unmap { guest: u64 },
+    SetMark { address: u64, level: u64 },
+    ClearMark { address: u64, level: u64 },
+    Load { address: u64 },
+    Store { address: u64, value: u64 },
+    DeviceStore { address: u64, value: u64 },
 }
 
 /// A fault with what it carries.
@@ -89,9 +67,7 @@ impl Fault {
     /// "L its level or 0"
     pub fn level(self) -> u32 {
         match self {
-            Fault::Absent { level } | Fault::Malformed { level } | Fault::Protected { level } => {
-                level
-            }
+            Fault::Absent { level } | Fault::Malformed { level } | Fault::Protected { level } => level,
             Fault::HostAbsent { .. } | Fault::HostReadOnly { .. } => 0,
         }
     }
@@ -113,19 +89,8 @@ impl Fault {
 #[derive(Clone, Copy, Debug, PartialEq, Eq)]
 pub enum Answer {
     Ok,
-    Value {
-        value: u64,
-        references: u64,
-        exits: u64,
-    },
-    Done {
-        references: u64,
-        exits: u64,
-    },
-    Fault {
-        fault: Fault,
-        references: u64,
-        exits: u64,
-    },
+    Value { value: u64, references: u64, exits: u64 },
+    Done { references: u64, exits: u64 },
+    Fault { fault: Fault, references: u64, exits: u64 },
     No(u32),
 }

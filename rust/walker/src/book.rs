@@ -34,12 +34,7 @@ pub struct Book {
 
 impl Book {
     pub fn new(levels: u32, shadow_frames: u64) -> Book {
-        Book {
-            levels,
-            shadow_frames,
-            marks: BTreeSet::new(),
-            held: BTreeMap::new(),
-        }
+        Book { levels, shadow_frames, marks: BTreeSet::new(), held: BTreeMap::new() }
     }
 
     fn indexes(&self, address: u64) -> Vec<u64> {
@@ -49,20 +44,14 @@ impl Book {
     /// "Levels 1 to 3 keep the first 4 - n indexes of the address given; 4 and 5 keep none."
     pub fn mark(&self, address: u64, level: u32) -> Mark {
         let kept = self.levels.saturating_sub(level) as usize;
-        Mark {
-            level,
-            prefix: self.indexes(address)[..kept].to_vec(),
-        }
+        Mark { level, prefix: self.indexes(address)[..kept].to_vec() }
     }
 
     /// "The depth d of an address is the greatest level among marks whose prefix
     /// it begins with, or 0."
     pub fn depth(&self, address: u64) -> u32 {
         let indexes = self.indexes(address);
-        let begun_with = self
-            .marks
-            .iter()
-            .filter(|mark| indexes.starts_with(&mark.prefix));
+        let begun_with = self.marks.iter().filter(|mark| indexes.starts_with(&mark.prefix));
         begun_with.map(|mark| mark.level).max().unwrap_or(0)
     }
 
@@ -82,11 +71,7 @@ impl Book {
     /// first." Yields how many paths were dropped.
     pub fn fill(&mut self, path: Vec<u64>, held: HeldPath) -> usize {
         let tables = different_proper_prefixes(self.held.keys().chain([&path]));
-        let dropped = if tables > self.shadow_frames {
-            self.drop_all()
-        } else {
-            0
-        };
+        let dropped = if tables > self.shadow_frames { self.drop_all() } else { 0 };
         self.held.insert(path, held);
         dropped
     }
@@ -94,9 +79,7 @@ impl Book {
     /// "A host frame is watched while the shadow part of some held path reads a
     /// guest entry in it."
     pub fn watched(&self, host: u64) -> bool {
-        self.held
-            .values()
-            .any(|held| held.words.iter().any(|word| word.frame == host))
+        self.held.values().any(|held| held.words.iter().any(|word| word.frame == host))
     }
 
     /// "A guest or device store drops every held path whose shadow part read the
@@ -109,8 +92,7 @@ impl Book {
     /// "Mapping or unmapping a guest frame drops every held path whose shadow
     /// part used its mapping."
     pub fn drop_by_mapping(&mut self, guest: u64) -> usize {
-        self.drop_where(|_, held| held.frames.contains(&guest))
-            .len()
+        self.drop_where(|_, held| held.frames.contains(&guest)).len()
     }
 
     /// "A mark set or cleared drops the paths that begin with its prefix."
@@ -123,20 +105,10 @@ impl Book {
         self.drop_where(|_, _| true).len()
     }
 
-    fn drop_where(
-        &mut self,
-        drops: impl Fn(&[u64], &HeldPath) -> bool,
-    ) -> Vec<(Vec<u64>, HeldPath)> {
-        let paths: Vec<Vec<u64>> = self
-            .held
-            .iter()
-            .filter(|(path, held)| drops(path, held))
-            .map(|(path, _)| path.clone())
-            .collect();
-        paths
-            .into_iter()
-            .filter_map(|path| self.held.remove_entry(&path))
-            .collect()
+    fn drop_where(&mut self, drops: impl Fn(&[u64], &HeldPath) -> bool) -> Vec<(Vec<u64>, HeldPath)> {
+        let paths: Vec<Vec<u64>> =
+            self.held.iter().filter(|(path, held)| drops(path, held)).map(|(path, _)| path.clone()).collect();
+        paths.into_iter().filter_map(|path| self.held.remove_entry(&path)).collect()
     }
 }
 
@@ -168,11 +140,7 @@ fn shadow_part_complete(walk: &Walk, levels: u32, depth: u32) -> bool {
 /// The book's note of a shadow part that met no fault. "Its writable bit is the
 /// and of the guest bits it covers, and at d = 0 of the host bit too."
 pub fn note_shadow_part(walk: &Walk, levels: u32, depth: u32) -> HeldPath {
-    let mut note = HeldPath {
-        words: Vec::new(),
-        frames: Vec::new(),
-        writable: true,
-    };
+    let mut note = HeldPath { words: Vec::new(), frames: Vec::new(), writable: true };
     let steps = &walk.steps[..shadow_steps(levels, depth)];
     for step in steps {
         match step {
@@ -183,13 +151,7 @@ pub fn note_shadow_part(walk: &Walk, levels: u32, depth: u32) -> HeldPath {
             Step::HostWalk { frame, .. } => note.frames.push(*frame),
         }
     }
-    if let (
-        0,
-        Some(Step::HostWalk {
-            found: Some(page), ..
-        }),
-    ) = (depth, steps.last())
-    {
+    if let (0, Some(Step::HostWalk { found: Some(page), .. })) = (depth, steps.last()) {
         note.writable = note.writable && page.writable;
     }
     note

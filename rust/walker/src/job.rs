@@ -24,10 +24,7 @@ struct Job {
 
 /// Runs the records of the input and yields the whole output.
 pub fn run_job(input: &[u8]) -> String {
-    let mut job = Job {
-        words: vec![0; (JOB_FRAMES * FRAME_WORDS) as usize],
-        unit: None,
-    };
+    let mut job = Job { words: vec![0; (JOB_FRAMES * FRAME_WORDS) as usize], unit: None };
     let mut rest = input;
     let mut output = String::new();
     let mut number = 0;
@@ -96,42 +93,15 @@ fn read_body(kind: u64, body: &[u8]) -> Option<Record> {
         return None;
     }
     let call = match kind {
-        1 => {
-            return Some(Record::Open {
-                h: number(&body[..2]) as u16,
-                s: number(&body[2..]) as u16,
-            })
-        }
-        2 => Call::Root {
-            frame: number(body),
-        },
-        3 => Call::Map {
-            guest: number(&body[..8]),
-            host: number(&body[8..16]),
-            writable: body[16] != 0,
-        },
-        4 => Call::Unmap {
-            guest: number(body),
-        },
-        5 => Call::SetMark {
-            address: number(&body[..8]),
-            level: body[8] as u64,
-        },
-        6 => Call::ClearMark {
-            address: number(&body[..8]),
-            level: body[8] as u64,
-        },
-        7 => Call::Load {
-            address: number(body),
-        },
-        8 => Call::Store {
-            address: number(&body[..8]),
-            value: number(&body[8..]),
-        },
-        9 => Call::DeviceStore {
-            address: number(&body[..8]),
-            value: number(&body[8..]),
-        },
+        1 => return Some(Record::Open { h: number(&body[..2]) as u16, s: number(&body[2..]) as u16 }),
+        2 => Call::Root { frame: number(body) },
+        3 => Call::Map { guest: number(&body[..8]), host: number(&body[8..16]), writable: body[16] != 0 },
+        4 => Call::Unmap { guest: number(body) },
+        5 => Call::SetMark { address: number(&body[..8]), level: body[8] as u64 },
+        6 => Call::ClearMark { address: number(&body[..8]), level: body[8] as u64 },
+        7 => Call::Load { address: number(body) },
+        8 => Call::Store { address: number(&body[..8]), value: number(&body[8..]) },
+        9 => Call::DeviceStore { address: number(&body[..8]), value: number(&body[8..]) },
         _ => return None,
     };
     Some(Record::Call(call))
@@ -150,10 +120,7 @@ fn body_length(kind: u64) -> Option<usize> {
 
 /// "numbers are little-endian"
 fn number(bytes: &[u8]) -> u64 {
-    bytes
-        .iter()
-        .rev()
-        .fold(0, |number, byte| number * 256 + *byte as u64)
+    bytes.iter().rev().fold(0, |number, byte| number * 256 + *byte as u64)
 }
 
 /// "`ok`; `value V R E`; `done R E`; `fault C L G R E`; `no N`. V is 16
@@ -161,23 +128,10 @@ fn number(bytes: &[u8]) -> u64 {
 pub fn answer_line(answer: &Answer) -> String {
     match answer {
         Answer::Ok => "ok".to_string(),
-        Answer::Value {
-            value,
-            references,
-            exits,
-        } => format!("value {value:016x} {references} {exits}"),
+        Answer::Value { value, references, exits } => format!("value {value:016x} {references} {exits}"),
         Answer::Done { references, exits } => format!("done {references} {exits}"),
-        Answer::Fault {
-            fault,
-            references,
-            exits,
-        } => {
-            format!(
-                "fault {} {} {} {references} {exits}",
-                fault.letter(),
-                fault.level(),
-                fault.frame()
-            )
+        Answer::Fault { fault, references, exits } => {
+            format!("fault {} {} {} {references} {exits}", fault.letter(), fault.level(), fault.frame())
         }
         Answer::No(number) => format!("no {number}"),
     }
@@ -188,19 +142,9 @@ pub fn write_record(record: &Record) -> Vec<u8> {
     let (kind, body) = match *record {
         Record::Open { h, s } => (1, [h.to_le_bytes(), s.to_le_bytes()].concat()),
         Record::Call(Call::Root { frame }) => (2, frame.to_le_bytes().to_vec()),
-        Record::Call(Call::Map {
-            guest,
-            host,
-            writable,
-        }) => (
-            3,
-            [
-                &guest.to_le_bytes()[..],
-                &host.to_le_bytes(),
-                &[writable as u8],
-            ]
-            .concat(),
-        ),
+        Record::Call(Call::Map { guest, host, writable }) => {
+            (3, [&guest.to_le_bytes()[..], &host.to_le_bytes(), &[writable as u8]].concat())
+        }
         Record::Call(Call::Unmap { guest }) => (4, guest.to_le_bytes().to_vec()),
         Record::Call(Call::SetMark { address, level }) => (5, mark_body(address, level)),
         Record::Call(Call::ClearMark { address, level }) => (6, mark_body(address, level)),

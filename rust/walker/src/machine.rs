@@ -27,16 +27,8 @@ pub enum Access {
 /// One step of a plain walk: a host walk of a guest frame, or one guest entry read.
 #[derive(Clone, Copy, Debug, PartialEq, Eq)]
 pub enum Step {
-    HostWalk {
-        frame: u64,
-        words: u64,
-        found: Option<Mapping>,
-    },
-    GuestEntry {
-        level: u32,
-        word: Word,
-        entry: Entry,
-    },
+    HostWalk { frame: u64, words: u64, found: Option<Mapping> },
+    GuestEntry { level: u32, word: Word, entry: Entry },
 }
 
 impl Step {
@@ -74,14 +66,7 @@ pub struct Machine {
 impl Machine {
     /// "It starts with the opening's H, S and guest area, nothing mapped, root 0."
     pub fn new(levels: u32, host_frames: u64, shadow_frames: u64, guest_area: Vec<u64>) -> Machine {
-        Machine {
-            levels,
-            host_frames,
-            shadow_frames,
-            guest_area,
-            mapping: BTreeMap::new(),
-            root: 0,
-        }
+        Machine { levels, host_frames, shadow_frames, guest_area, mapping: BTreeMap::new(), root: 0 }
     }
 
     /// "first H host frames, then S shadow frames, then the guest area"
@@ -112,31 +97,17 @@ impl Machine {
     /// some mapped frame has."
     pub fn host_walk(&self, frame: u64) -> Step {
         match self.mapping.get(&frame) {
-            Some(found) => Step::HostWalk {
-                frame,
-                words: self.levels as u64,
-                found: Some(*found),
-            },
-            None => Step::HostWalk {
-                frame,
-                words: 1 + self.tables_met(frame),
-                found: None,
-            },
+            Some(found) => Step::HostWalk { frame, words: self.levels as u64, found: Some(*found) },
+            None => Step::HostWalk { frame, words: 1 + self.tables_met(frame), found: None },
         }
     }
 
     /// How many "proper, not empty" prefixes of the frame some mapped frame has.
     fn tables_met(&self, frame: u64) -> u64 {
         let sought = indexes(frame, self.levels);
-        let mapped: Vec<Vec<u64>> = self
-            .mapping
-            .keys()
-            .map(|other| indexes(*other, self.levels))
-            .collect();
+        let mapped: Vec<Vec<u64>> = self.mapping.keys().map(|other| indexes(*other, self.levels)).collect();
         let has = |prefix: &[u64]| mapped.iter().any(|other| other.starts_with(prefix));
-        (1..sought.len())
-            .filter(|length| has(&sought[..*length]))
-            .count() as u64
+        (1..sought.len()).filter(|length| has(&sought[..*length])).count() as u64
     }
 
     /// "the host tables, counted as different proper prefixes of mapped frames,"
@@ -153,12 +124,7 @@ impl Machine {
         Walk { steps, end }
     }
 
-    fn walk_down(
-        &self,
-        address: u64,
-        access: Access,
-        steps: &mut Vec<Step>,
-    ) -> Result<Mapping, Fault> {
+    fn walk_down(&self, address: u64, access: Access, steps: &mut Vec<Step>) -> Result<Mapping, Fault> {
         let page = frame_of(address);
         // "Host-walk the root's frame."
         let mut frame = self.root;
@@ -167,10 +133,7 @@ impl Machine {
         for level in (1..=self.levels).rev() {
             // "At each level 4 to 1 read the guest entry: not present is fault A,
             // else malformed is fault M, with that level."
-            let word = Word {
-                frame: found.host,
-                index: index(page, level),
-            };
+            let word = Word { frame: found.host, index: index(page, level) };
             let entry = Entry(self.read(word));
             steps.push(Step::GuestEntry { level, word, entry });
             if !entry.present() {
@@ -201,10 +164,7 @@ impl Machine {
         let step = self.host_walk(frame);
         steps.push(step);
         match step {
-            Step::HostWalk {
-                found: Some(mapping),
-                ..
-            } => Ok(mapping),
+            Step::HostWalk { found: Some(mapping), .. } => Ok(mapping),
             _ => Err(Fault::HostAbsent { frame }),
         }
     }

@@ -41,10 +41,7 @@ pub fn word_in_frame(address: u64) -> u64 {
 
 /// The indexes of a page or frame number, the top level's first.
 pub fn indexes(number: u64, levels: u32) -> Vec<u64> {
-    (1..=levels)
-        .rev()
-        .map(|level| index(number, level))
-        .collect()
+    (1..=levels).rev().map(|level| index(number, level)).collect()
 }
 
 /// The index of a page or frame number for one level.
@@ -55,10 +52,7 @@ pub fn index(number: u64, level: u32) -> u64 {
 /// The page number that has these first indexes and then zeros.
 pub fn page_from(first: &[u64], levels: u32) -> u64 {
     let below = levels - first.len() as u32;
-    first
-        .iter()
-        .fold(0, |page, index| (page << INDEX_BITS) | index)
-        << (INDEX_BITS * below)
+    first.iter().fold(0, |page, index| (page << INDEX_BITS) | index) << (INDEX_BITS * below)
 }
 
 /// The first address of a page.

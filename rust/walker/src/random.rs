@@ -55,12 +55,7 @@ impl Sizes {
         let spare = frames - 2 * least - 6;
         let h = least + random.below(spare.min(4) + 1);
         let s = least + random.below((spare + least - h).min(4) + 1);
-        Sizes {
-            levels,
-            frames,
-            h,
-            s,
-        }
+        Sizes { levels, frames, h, s }
     }
 
     /// Hundreds of frames, room for many shadow tables.
@@ -99,11 +94,7 @@ pub fn run(seed: u64, sizes: Sizes, calls: usize) -> Run {
         list.push(guest.next_call());
     }
     list.truncate(calls);
-    Run {
-        sizes,
-        words: guest.memory(),
-        calls: list,
-    }
+    Run { sizes, words: guest.memory(), calls: list }
 }
 
 /// A word of the guest area at opening, by host frame and place.
@@ -179,8 +170,7 @@ impl Guest {
             let place = 100 + self.random.below(50);
             let name = self.new_name(2, place);
             // Among the first frames are the tables.
-            let host = self.sizes.first_guest_frame()
-                + self.random.below(self.sizes.guest_frames().min(6));
+            let host = self.sizes.first_guest_frame() + self.random.below(self.sizes.guest_frames().min(6));
             self.second_names.push(name);
             self.add_to_plan(name, host);
         }
@@ -206,14 +196,8 @@ impl Guest {
 
     /// Whether the frame can be mapped beside the planned ones and the first group.
     fn fits(&self, name: u64) -> bool {
-        let planned = self
-            .plan
-            .iter()
-            .map(|(guest, _, _)| *guest)
-            .chain([self.base, name]);
-        let lists: Vec<Vec<u64>> = planned
-            .map(|frame| indexes(frame, self.sizes.levels))
-            .collect();
+        let planned = self.plan.iter().map(|(guest, _, _)| *guest).chain([self.base, name]);
+        let lists: Vec<Vec<u64>> = planned.map(|frame| indexes(frame, self.sizes.levels)).collect();
         different_proper_prefixes(lists.iter()) <= self.sizes.h
     }
 
@@ -269,11 +253,7 @@ impl Guest {
         let tables = levels + self.random.below(self.sizes.guest_frames() - levels - 1);
         let mut layers: Vec<Vec<u64>> = vec![Vec::new(); levels as usize + 1];
         for number in 0..tables {
-            let level = if number < levels {
-                levels - number
-            } else {
-                1 + self.random.below(levels - 1)
-            };
+            let level = if number < levels { levels - number } else { 1 + self.random.below(levels - 1) };
             layers[level as usize].push(number);
         }
         for number in tables..self.sizes.guest_frames() {
@@ -281,10 +261,8 @@ impl Guest {
             self.choose_data(number);
         }
         for level in 1..=levels as usize {
-            let mut below: Vec<u64> = layers[level - 1]
-                .iter()
-                .map(|number| self.names[*number as usize])
-                .collect();
+            let mut below: Vec<u64> =
+                layers[level - 1].iter().map(|number| self.names[*number as usize]).collect();
             if level == 1 {
                 below.extend(self.second_names.clone());
                 below.push(self.names[self.random.below(tables) as usize]);
@@ -296,8 +274,7 @@ impl Guest {
         if self.random.one_in(3) {
             let index = *self.indexes.last().unwrap_or(&0);
             let entry = self.names[0] << 12 | 3;
-            self.entries
-                .insert((self.sizes.first_guest_frame(), index), entry);
+            self.entries.insert((self.sizes.first_guest_frame(), index), entry);
         }
     }
 
@@ -307,11 +284,7 @@ impl Guest {
         let frame = self.sizes.first_guest_frame() + number;
         for index in self.indexes.clone() {
             let name = self.random.pick(names);
-            let entry = if self.random.one_in(level) {
-                self.entry(name)
-            } else {
-                name << 12 | 3
-            };
+            let entry = if self.random.one_in(level) { self.entry(name) } else { name << 12 | 3 };
             self.entries.insert((frame, index), entry);
         }
     }
@@ -320,8 +293,7 @@ impl Guest {
     fn choose_data(&mut self, number: u64) {
         let frame = self.sizes.first_guest_frame() + number;
         for index in self.indexes.clone() {
-            self.entries
-                .insert((frame, index), frame << 32 | index << 16 | 0xDA7A);
+            self.entries.insert((frame, index), frame << 32 | index << 16 | 0xDA7A);
         }
     }
 
@@ -371,9 +343,7 @@ impl Guest {
     /// marks far from the pages in use.
     fn setup(&mut self, calls: usize) -> Vec<Call> {
         let mut list: Vec<Call> = self.plan.iter().map(planned_map).collect();
-        list.push(Call::Root {
-            frame: self.names[0],
-        });
+        list.push(Call::Root { frame: self.names[0] });
         for _ in 0..self.random.below(3) {
             list.push(self.set_mark());
         }
@@ -389,10 +359,7 @@ impl Guest {
         let mut list = vec![0; self.sizes.levels as usize];
         list[0] = 300 + number / 3;
         let level = 1 + number % 3;
-        Call::SetMark {
-            address: address_of(page_from(&list, self.sizes.levels)),
-            level,
-        }
+        Call::SetMark { address: address_of(page_from(&list, self.sizes.levels)), level }
     }
 
     fn next_call(&mut self) -> Call {
@@ -402,17 +369,9 @@ impl Guest {
             }
         }
         match self.random.below(100) {
-            0..=38 => Call::Load {
-                address: self.address(),
-            },
-            39..=62 => Call::Store {
-                address: self.address(),
-                value: self.value(),
-            },
-            63..=69 => Call::DeviceStore {
-                address: self.device_address(),
-                value: self.value(),
-            },
+            0..=38 => Call::Load { address: self.address() },
+            39..=62 => Call::Store { address: self.address(), value: self.value() },
+            63..=69 => Call::DeviceStore { address: self.device_address(), value: self.value() },
             70..=72 => self.repair(),
             73..=78 => self.map(),
             79..=81 => self.unmap(),
@@ -472,15 +431,8 @@ impl Guest {
         let (frame, index) = self.random.pick(&places);
         let names = self.plan.iter().filter(|(_, host, _)| *host == frame);
         let names: Vec<u64> = names.map(|(guest, _, _)| *guest).collect();
-        let name = if names.is_empty() {
-            self.names[0]
-        } else {
-            self.random.pick(&names)
-        };
-        Call::DeviceStore {
-            address: address_of(name) + 8 * index,
-            value: self.entries[&(frame, index)],
-        }
+        let name = if names.is_empty() { self.names[0] } else { self.random.pick(&names) };
+        Call::DeviceStore { address: address_of(name) + 8 * index, value: self.entries[&(frame, index)] }
     }
 
     fn map(&mut self) -> Call {
@@ -491,20 +443,12 @@ impl Guest {
             0 => planned_map(&planned),
             1 | 2 => {
                 self.undo.push(planned_map(&planned));
-                Call::Map {
-                    guest,
-                    host,
-                    writable: !writable,
-                }
+                Call::Map { guest, host, writable: !writable }
             }
             // To another host frame.
             3..=5 => {
                 self.undo.push(planned_map(&planned));
-                Call::Map {
-                    guest,
-                    host: self.host_frame(),
-                    writable: !self.random.one_in(4),
-                }
+                Call::Map { guest, host: self.host_frame(), writable: !self.random.one_in(4) }
             }
             // Another guest frame, far or near.
             6 => Call::Map {
@@ -512,20 +456,14 @@ impl Guest {
                 host: self.host_frame(),
                 writable: !self.random.one_in(4),
             },
-            _ => Call::Map {
-                guest: guest ^ 32,
-                host: self.host_frame(),
-                writable: !self.random.one_in(4),
-            },
+            _ => Call::Map { guest: guest ^ 32, host: self.host_frame(), writable: !self.random.one_in(4) },
         }
     }
 
     fn unmap(&mut self) -> Call {
         let planned = self.random.pick(&self.plan);
         match self.random.below(4) {
-            0 => Call::Unmap {
-                guest: self.guest_frame(),
-            },
+            0 => Call::Unmap { guest: self.guest_frame() },
             _ => {
                 self.undo.push(planned_map(&planned));
                 Call::Unmap { guest: planned.0 }
@@ -555,10 +493,7 @@ impl Guest {
     fn clear_mark(&mut self) -> Call {
         if self.marks.is_empty() || self.random.one_in(10) {
             let address = address_of(self.random.pick(&self.pages));
-            return Call::ClearMark {
-                address,
-                level: 1 + self.random.below(self.sizes.levels as u64 + 1),
-            };
+            return Call::ClearMark { address, level: 1 + self.random.below(self.sizes.levels as u64 + 1) };
         }
         let place = self.random.below(self.marks.len() as u64) as usize;
         let (address, level) = self.marks.swap_remove(place);
@@ -571,9 +506,7 @@ impl Guest {
             return Call::Root { frame };
         }
         self.undo.push(Call::Root { frame });
-        Call::Root {
-            frame: self.guest_frame(),
-        }
+        Call::Root { frame: self.guest_frame() }
     }
 
     /// Calls at the edges: refused, or only just not.
@@ -581,50 +514,19 @@ impl Guest {
         let levels = self.sizes.levels;
         let address = self.address();
         let guest = self.guest_frame();
-        let edge = self
-            .random
-            .pick(&[0, 1, 1 << 40, u64::MAX - address_limit(levels)]);
+        let edge = self.random.pick(&[0, 1, 1 << 40, u64::MAX - address_limit(levels)]);
         let bad_level = self.random.pick(&[0, levels as u64 + 2, 255]);
         match self.random.below(12) {
-            0 => Call::Load {
-                address: address + 1 + self.random.below(7),
-            },
-            1 => Call::Load {
-                address: address_limit(levels) + (edge & !7),
-            },
-            2 => Call::Load {
-                address: address_limit(levels) - 8,
-            },
-            3 => Call::Store {
-                address: address + 4,
-                value: 1,
-            },
-            4 => Call::DeviceStore {
-                address: device_limit(levels) + (edge & !7),
-                value: 1,
-            },
-            5 => Call::DeviceStore {
-                address: device_limit(levels) - 8,
-                value: 1,
-            },
-            6 => Call::SetMark {
-                address,
-                level: bad_level,
-            },
-            7 => Call::SetMark {
-                address: address_limit(levels) + edge,
-                level: bad_level.min(1),
-            },
-            8 => Call::Map {
-                guest: frame_limit(levels) + edge,
-                host: 0,
-                writable: true,
-            },
-            9 => Call::Map {
-                guest,
-                host: self.odd_host_frame(),
-                writable: true,
-            },
+            0 => Call::Load { address: address + 1 + self.random.below(7) },
+            1 => Call::Load { address: address_limit(levels) + (edge & !7) },
+            2 => Call::Load { address: address_limit(levels) - 8 },
+            3 => Call::Store { address: address + 4, value: 1 },
+            4 => Call::DeviceStore { address: device_limit(levels) + (edge & !7), value: 1 },
+            5 => Call::DeviceStore { address: device_limit(levels) - 8, value: 1 },
+            6 => Call::SetMark { address, level: bad_level },
+            7 => Call::SetMark { address: address_limit(levels) + edge, level: bad_level.min(1) },
+            8 => Call::Map { guest: frame_limit(levels) + edge, host: 0, writable: true },
+            9 => Call::Map { guest, host: self.odd_host_frame(), writable: true },
             10 => self.odd_frame_call(frame_limit(levels) + edge),
             _ => {
                 let number = self.random.below(70);
@@ -656,11 +558,7 @@ impl Guest {
 
 fn planned_map(planned: &(u64, u64, bool)) -> Call {
     let (guest, host, writable) = *planned;
-    Call::Map {
-        guest,
-        host,
-        writable,
-    }
+    Call::Map { guest, host, writable }
 }
 
 // Jobs.
@@ -685,19 +583,8 @@ pub fn job(seed: u64, calls: usize) -> Vec<u8> {
         bytes.extend(write_record(&Record::Call(Call::Load { address: 0 })));
     }
     if random.one_in(4) {
-        let more = if random.one_in(2) && first.h + first.s < 10 {
-            1
-        } else {
-            0
-        };
-        bytes.extend(job_part(
-            random.word(),
-            Sizes {
-                h: first.h + more,
-                ..first
-            },
-            calls,
-        ));
+        let more = if random.one_in(2) && first.h + first.s < 10 { 1 } else { 0 };
+        bytes.extend(job_part(random.word(), Sizes { h: first.h + more, ..first }, calls));
     }
     if random.one_in(4) {
         damage_end(&mut random, &mut bytes);
@@ -707,60 +594,30 @@ pub fn job(seed: u64, calls: usize) -> Vec<u8> {
 
 fn job_sizes(random: &mut Random) -> Sizes {
     let (h, s) = random.pick(&[(4, 4), (4, 4), (4, 5), (5, 4), (6, 4), (5, 5)]);
-    Sizes {
-        levels: JOB_LEVELS,
-        frames: JOB_FRAMES,
-        h,
-        s,
-    }
+    Sizes { levels: JOB_LEVELS, frames: JOB_FRAMES, h, s }
 }
 
 fn refused_open(random: &mut Random) -> Vec<u8> {
-    let (h, s) = random.pick(&[
-        (3, 4),
-        (4, 3),
-        (8, 8),
-        (4, 12),
-        (65_535, 65_535),
-        (65_535, 9),
-        (0, 0),
-    ]);
+    let (h, s) = random.pick(&[(3, 4), (4, 3), (8, 8), (4, 12), (65_535, 65_535), (65_535, 9), (0, 0)]);
     write_record(&Record::Open { h, s })
 }
 
 /// An open, the guest's words by device stores, and a run.
 fn job_part(seed: u64, sizes: Sizes, calls: usize) -> Vec<u8> {
     let run = run(seed, sizes, calls);
-    let mut bytes = write_record(&Record::Open {
-        h: sizes.h as u16,
-        s: sizes.s as u16,
-    });
+    let mut bytes = write_record(&Record::Open { h: sizes.h as u16, s: sizes.s as u16 });
     for host in sizes.first_guest_frame()..sizes.frames {
-        let mut list = vec![Call::Map {
-            guest: 0,
-            host,
-            writable: true,
-        }];
+        let mut list = vec![Call::Map { guest: 0, host, writable: true }];
         for index in 0..FRAME_WORDS {
             let value = run.words[(host * FRAME_WORDS + index) as usize];
             if value != 0 {
-                list.push(Call::DeviceStore {
-                    address: 8 * index,
-                    value,
-                });
+                list.push(Call::DeviceStore { address: 8 * index, value });
             }
         }
         list.push(Call::Unmap { guest: 0 });
-        bytes.extend(
-            list.iter()
-                .flat_map(|call| write_record(&Record::Call(*call))),
-        );
+        bytes.extend(list.iter().flat_map(|call| write_record(&Record::Call(*call))));
     }
-    bytes.extend(
-        run.calls
-            .iter()
-            .flat_map(|call| write_record(&Record::Call(*call))),
-    );
+    bytes.extend(run.calls.iter().flat_map(|call| write_record(&Record::Call(*call))));
     bytes
 }
 

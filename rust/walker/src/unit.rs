@@ -39,11 +39,7 @@ impl Unit {
         // "keeps guest words; root 0, no marks"
         let guest_area = words[((h + s) * FRAME_WORDS) as usize..].to_vec();
         let machine = Machine::new(levels, h, s, guest_area);
-        Ok(Unit {
-            machine,
-            book: Book::new(levels, s),
-            events: Events::default(),
-        })
+        Ok(Unit { machine, book: Book::new(levels, s), events: Events::default() })
     }
 
     /// The words of the guest area, in order.
@@ -71,11 +67,7 @@ impl Unit {
     pub fn call(&mut self, call: &Call) -> Answer {
         let answer = match *call {
             Call::Root { frame } => self.root(frame),
-            Call::Map {
-                guest,
-                host,
-                writable,
-            } => self.map(guest, host, writable),
+            Call::Map { guest, host, writable } => self.map(guest, host, writable),
             Call::Unmap { guest } => self.unmap(guest),
             Call::SetMark { address, level } => self.set_mark(address, level),
             Call::ClearMark { address, level } => self.clear_mark(address, level),
@@ -110,10 +102,7 @@ impl Unit {
             return Answer::No(HOST_TABLES_FULL);
         }
         // "A mapped frame is mapped anew."
-        let before = self
-            .machine
-            .mapping
-            .insert(guest, Mapping { host, writable });
+        let before = self.machine.mapping.insert(guest, Mapping { host, writable });
         let dropped = self.book.drop_by_mapping(guest);
         self.events.add_if(before.is_some(), "mapped anew");
         self.events.add_many("paths dropped by map", dropped);
@@ -159,10 +148,7 @@ impl Unit {
         }
         let dropped = self.book.drop_by_prefix(&mark.prefix);
         self.book.marks.insert(mark);
-        self.events.add_many(
-            format!("paths dropped by setting a mark of level {level}"),
-            dropped,
-        );
+        self.events.add_many(format!("paths dropped by setting a mark of level {level}"), dropped);
         Answer::Ok
     }
 
@@ -175,10 +161,7 @@ impl Unit {
             return Answer::No(MARK_AS_IS);
         }
         let dropped = self.book.drop_by_prefix(&mark.prefix);
-        self.events.add_many(
-            format!("paths dropped by clearing a mark of level {level}"),
-            dropped,
-        );
+        self.events.add_many(format!("paths dropped by clearing a mark of level {level}"), dropped);
         Answer::Ok
     }
 
@@ -189,25 +172,12 @@ impl Unit {
             return Answer::No(BAD_ADDRESS);
         }
         let served = self.serve(address, Access::Load);
-        let Served {
-            references, exits, ..
-        } = served;
+        let Served { references, exits, .. } = served;
         match served.end {
-            Err(fault) => Answer::Fault {
-                fault,
-                references,
-                exits,
-            },
+            Err(fault) => Answer::Fault { fault, references, exits },
             Ok(page) => {
-                let word = Word {
-                    frame: page.host,
-                    index: word_in_frame(address),
-                };
-                Answer::Value {
-                    value: self.machine.read(word),
-                    references,
-                    exits,
-                }
+                let word = Word { frame: page.host, index: word_in_frame(address) };
+                Answer::Value { value: self.machine.read(word), references, exits }
             }
         }
     }
@@ -218,26 +188,14 @@ impl Unit {
             return Answer::No(BAD_ADDRESS);
         }
         let served = self.serve(address, Access::Store);
-        let Served {
-            references, exits, ..
-        } = served;
+        let Served { references, exits, .. } = served;
         match served.end {
-            Err(fault) => Answer::Fault {
-                fault,
-                references,
-                exits,
-            },
+            Err(fault) => Answer::Fault { fault, references, exits },
             Ok(page) => {
-                let word = Word {
-                    frame: page.host,
-                    index: word_in_frame(address),
-                };
+                let word = Word { frame: page.host, index: word_in_frame(address) };
                 self.note_own_drop(address, word);
                 let watched = self.write_and_drop(served.last_frame, word, value);
-                Answer::Done {
-                    references,
-                    exits: exits + watched,
-                }
+                Answer::Done { references, exits: exits + watched }
             }
         }
     }
@@ -250,30 +208,16 @@ impl Unit {
             return Answer::No(BAD_ADDRESS);
         }
         let frame = frame_of(address);
-        let Step::HostWalk { words, found, .. } = self.machine.host_walk(frame) else {
-            unreachable!()
-        };
+        let Step::HostWalk { words, found, .. } = self.machine.host_walk(frame) else { unreachable!() };
         match found {
-            None => Answer::Fault {
-                fault: Fault::HostAbsent { frame },
-                references: words,
-                exits: 1,
-            },
-            Some(page) if !page.writable => Answer::Fault {
-                fault: Fault::HostReadOnly { frame },
-                references: words,
-                exits: 1,
-            },
+            None => Answer::Fault { fault: Fault::HostAbsent { frame }, references: words, exits: 1 },
+            Some(page) if !page.writable => {
+                Answer::Fault { fault: Fault::HostReadOnly { frame }, references: words, exits: 1 }
+            }
             Some(page) => {
-                let word = Word {
-                    frame: page.host,
-                    index: word_in_frame(address),
-                };
+                let word = Word { frame: page.host, index: word_in_frame(address) };
                 let watched = self.write_and_drop(frame, word, value);
-                Answer::Done {
-                    references: words,
-                    exits: watched,
-                }
+                Answer::Done { references: words, exits: watched }
             }
         }
     }
@@ -286,23 +230,11 @@ impl Unit {
         self.machine.write(word, value);
         let dropped = self.book.drop_by_word(word);
         self.events.add_if(watched, "exit for a watched frame");
-        self.events.add_if(
-            watched && dropped.is_empty(),
-            "watched frame, no path dropped",
-        );
-        self.events.add_if(
-            same && !dropped.is_empty(),
-            "drop though the value is the same",
-        );
+        self.events.add_if(watched && dropped.is_empty(), "watched frame, no path dropped");
+        self.events.add_if(same && !dropped.is_empty(), "drop though the value is the same");
         self.events.add_many("paths dropped by word", dropped.len());
-        let by_alias = dropped
-            .iter()
-            .filter(|(_, held)| !held.frames.contains(&through))
-            .count();
-        self.events.add_many(
-            "paths dropped through a guest frame they did not use",
-            by_alias,
-        );
+        let by_alias = dropped.iter().filter(|(_, held)| !held.frames.contains(&through)).count();
+        self.events.add_many("paths dropped through a guest frame they did not use", by_alias);
         watched as u64
     }
 
@@ -318,8 +250,7 @@ impl Unit {
         // "1 if d is at most 4 and the path was not held, or d = 0 and the held
         // path forbids the store"
         let not_held = path.is_some() && held.is_none();
-        let forbidden =
-            depth == 0 && access == Access::Store && held.is_some_and(|held| !held.writable);
+        let forbidden = depth == 0 && access == Access::Store && held.is_some_and(|held| !held.writable);
         let mut exits = (not_held || forbidden) as u64;
         // "1 for H or W in the direct part"
         if let Err(fault) = walk.end {
@@ -333,17 +264,11 @@ impl Unit {
         if let (Some(path), true, false) = (path, not_held, shadow_fault) {
             let watched_before = self.watches_target(&walk, access);
             let dropped = self.book.fill(path, note_shadow_part(&walk, levels, depth));
-            self.events
-                .add_if(dropped > 0, &format!("overflow at depth {depth}"));
+            self.events.add_if(dropped > 0, &format!("overflow at depth {depth}"));
             self.events.add_many("paths dropped by overflow", dropped);
             self.note_own_fill(watched_before, self.watches_target(&walk, access));
         }
-        Served {
-            last_frame: last_frame(&walk),
-            end: walk.end,
-            references,
-            exits,
-        }
+        Served { last_frame: last_frame(&walk), end: walk.end, references, exits }
     }
 
     // Notes of events. They read the state and change only the counters.
@@ -357,12 +282,9 @@ impl Unit {
         let device = matches!(call, Call::DeviceStore { .. });
         match answer {
             Answer::No(number) => self.events.add(format!("refusal {number}")),
-            Answer::Fault {
-                fault, references, ..
-            } if device => self.events.add(format!(
-                "device store, fault {} after {references}",
-                fault.letter()
-            )),
+            Answer::Fault { fault, references, .. } if device => {
+                self.events.add(format!("device store, fault {} after {references}", fault.letter()))
+            }
             Answer::Done { exits, .. } if device => {
                 self.events.add(format!("device store done, {exits} exits"))
             }
@@ -389,36 +311,20 @@ impl Unit {
             "path held"
         };
         match walk.end {
-            Ok(_) => self
-                .events
-                .add(format!("granted {access:?} at depth {depth}, {way}")),
+            Ok(_) => self.events.add(format!("granted {access:?} at depth {depth}, {way}")),
             Err(fault) => {
-                self.events.add(format!(
-                    "fault {} at depth {depth}, {part} part, {way}",
-                    fault.letter()
-                ));
-                self.events.add(format!(
-                    "fault {} of level {}",
-                    fault.letter(),
-                    fault.level()
-                ));
+                self.events.add(format!("fault {} at depth {depth}, {part} part, {way}", fault.letter()));
+                self.events.add(format!("fault {} of level {}", fault.letter(), fault.level()));
             }
         }
-        self.events
-            .add_if(not_held && !shadow_fault, &format!("fill at depth {depth}"));
+        self.events.add_if(not_held && !shadow_fault, &format!("fill at depth {depth}"));
         self.events.add_if(forbidden, "held path forbids the store");
     }
 
     /// Whether the fill of a store changed that its frame is watched.
     fn note_own_fill(&mut self, watched_before: bool, watched: bool) {
-        self.events.add_if(
-            !watched_before && watched,
-            "store's own fill makes its frame watched",
-        );
-        self.events.add_if(
-            watched_before && !watched,
-            "store's own overflow leaves its frame not watched",
-        );
+        self.events.add_if(!watched_before && watched, "store's own fill makes its frame watched");
+        self.events.add_if(watched_before && !watched, "store's own overflow leaves its frame not watched");
     }
 
     fn note_own_drop(&mut self, address: u64, word: Word) {

@@ -11,13 +11,7 @@ pub fn lines(run: &Run) -> Result<(Vec<String>, Events), u32> {
     let sizes = run.sizes;
     let mut unit = Unit::open(sizes.levels, run.words.clone(), sizes.h, sizes.s)?;
     let first = run.words.len() - unit.guest_words().len();
-    let mut lines = vec![format!(
-        "open {} {} {} {}",
-        sizes.levels,
-        run.words.len(),
-        sizes.h,
-        sizes.s
-    )];
+    let mut lines = vec![format!("open {} {} {} {}", sizes.levels, run.words.len(), sizes.h, sizes.s)];
     lines.extend(nonzero_words("word", first, unit.guest_words()));
     for call in &run.calls {
         let answer = unit.call(call);
@@ -30,19 +24,13 @@ pub fn lines(run: &Run) -> Result<(Vec<String>, Events), u32> {
 /// The nonzero words, each with its index from the start of memory.
 fn nonzero_words(name: &str, first: usize, words: &[u64]) -> Vec<String> {
     let nonzero = words.iter().enumerate().filter(|(_, value)| **value != 0);
-    nonzero
-        .map(|(index, value)| format!("{name} {} {value:#x}", first + index))
-        .collect()
+    nonzero.map(|(index, value)| format!("{name} {} {value:#x}", first + index)).collect()
 }
 
 fn call_text(call: &Call) -> String {
     match call {
         Call::Root { frame } => format!("root {frame}"),
-        Call::Map {
-            guest,
-            host,
-            writable,
-        } => format!("map {guest} {host} {}", *writable as u8),
+        Call::Map { guest, host, writable } => format!("map {guest} {host} {}", *writable as u8),
         Call::Unmap { guest } => format!("unmap {guest}"),
         Call::SetMark { address, level } => format!("mark {address:#x} {level}"),
         Call::ClearMark { address, level } => format!("unmark {address:#x} {level}"),
@@ -55,11 +43,7 @@ fn call_text(call: &Call) -> String {
 /// As a job's line, but for the value, which is a plain hexadecimal number.
 fn answer_text(answer: &Answer) -> String {
     match answer {
-        Answer::Value {
-            value,
-            references,
-            exits,
-        } => format!("value {value:#x} {references} {exits}"),
+        Answer::Value { value, references, exits } => format!("value {value:#x} {references} {exits}"),
         other => answer_line(other),
     }
 }

@@ -5,10 +5,7 @@ use walker::random::{run, Random, Sizes};
 use walker::vectors::lines;
 
 fn main() {
-    let numbers: Vec<u64> = std::env::args()
-        .skip(1)
-        .filter_map(|word| word.parse().ok())
-        .collect();
+    let numbers: Vec<u64> = std::env::args().skip(1).filter_map(|word| word.parse().ok()).collect();
     let (runs, calls, levels) = match numbers[..] {
         [runs, calls] => (runs, calls, 4),
         [runs, calls, levels] => (runs, calls, levels as u32),

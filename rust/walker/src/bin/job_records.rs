@@ -3,10 +3,7 @@
 use std::io::Write;
 
 fn main() -> std::io::Result<()> {
-    let numbers: Vec<u64> = std::env::args()
-        .skip(1)
-        .filter_map(|word| word.parse().ok())
-        .collect();
+    let numbers: Vec<u64> = std::env::args().skip(1).filter_map(|word| word.parse().ok()).collect();
     let [seed, calls] = numbers[..] else {
         eprintln!("job_records SEED CALLS");
         std::process::exit(2);

@@ -6,10 +6,7 @@ use walker::random::{run, Random, Sizes};
 use walker::vectors::lines;
 
 fn main() {
-    let numbers: Vec<u64> = std::env::args()
-        .skip(1)
-        .filter_map(|word| word.parse().ok())
-        .collect();
+    let numbers: Vec<u64> = std::env::args().skip(1).filter_map(|word| word.parse().ok()).collect();
     let (seed, calls, levels, sizes) = match numbers[..] {
         [seed, calls] => (seed, calls, 4, None),
         [seed, calls, levels] => (seed, calls, levels as u32, None),
@@ -20,12 +17,7 @@ fn main() {
         }
     };
     let sizes = match sizes {
-        Some((frames, h, s)) => Sizes {
-            levels,
-            frames,
-            h,
-            s,
-        },
+        Some((frames, h, s)) => Sizes { levels, frames, h, s },
         None => Sizes::small(&mut Random::new(seed.wrapping_add(1)), levels),
     };
     match lines(&run(seed, sizes, calls as usize)) {
