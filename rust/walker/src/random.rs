@@ -603,7 +603,7 @@ fn refused_open(random: &mut Random) -> Vec<u8> {
 }
 
 /// An open, the guest's words by device stores, and a run.
-fn job_part(seed: u64, sizes: Sizes, calls: usize) -> Vec<u8> {
+pub fn job_part(seed: u64, sizes: Sizes, calls: usize) -> Vec<u8> {
     let run = run(seed, sizes, calls);
     let mut bytes = write_record(&Record::Open { h: sizes.h as u16, s: sizes.s as u16 });
     for host in sizes.first_guest_frame()..sizes.frames {

@@ -348,9 +348,11 @@ fn references(walk: &Walk, levels: u32, depth: u32, shadow_fault: bool) -> u64 {
 
 /// The guest frame of a walk's last host walk.
 fn last_frame(walk: &Walk) -> u64 {
-    let frames = walk.steps.iter().filter_map(|step| match step {
-        Step::HostWalk { frame, .. } => Some(*frame),
-        Step::GuestEntry { .. } => None,
-    });
-    frames.last().unwrap_or(0)
+    let mut frame = 0;
+    for step in &walk.steps {
+        if let Step::HostWalk { frame: walked, .. } = step {
+            frame = *walked;
+        }
+    }
+    frame
 }

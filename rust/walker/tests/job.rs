@@ -1,9 +1,9 @@
 //! The job program: its example, 13 in all its ways, opens that are refused.
 
 use walker::answer::Call;
-use walker::job::{raw_record, write_record, Record};
-use walker::random;
-use walker::run_job;
+use walker::job::{answer_line, raw_record, write_record, Record};
+use walker::random::{self, Sizes};
+use walker::{run_job, Unit};
 
 fn open(h: u16, s: u16) -> Vec<u8> {
     write_record(&Record::Open { h, s })
@@ -198,4 +198,17 @@ fn random_jobs_end_with_13_only_if_damaged() {
         }
     }
     assert!(damaged > 10 && damaged < 100);
+}
+
+#[test]
+fn a_job_answers_as_the_unit_does() {
+    let sizes = Sizes { levels: 4, frames: 16, h: 5, s: 4 };
+    for seed in 0..50 {
+        let run = random::run(seed, sizes, 60);
+        let mut unit = Unit::open(4, run.words.clone(), sizes.h, sizes.s).unwrap();
+        let answers: Vec<String> = run.calls.iter().map(|call| answer_line(&unit.call(call))).collect();
+        let output = run_job(&random::job_part(seed, sizes, 60));
+        let lines: Vec<&str> = output.lines().map(|line| line.split_once(' ').unwrap().1).collect();
+        assert_eq!(lines[lines.len() - 60..], answers);
+    }
 }

@@ -6,9 +6,7 @@ mod naive;
 use naive::{Naive, Seen};
 use std::collections::BTreeMap;
 use walker::answer::{Answer, Call};
-use walker::book::note_shadow_part;
 use walker::events::Events;
-use walker::machine::Access;
 use walker::numbers::{address_of, page_from};
 use walker::random::{run, Random, Run, Sizes};
 use walker::vectors::lines;
@@ -196,10 +194,21 @@ impl Pair {
             let address = address_of(page_from(path, levels));
             let path_depth = levels - path.len() as u32;
             assert_eq!(depth(&self.marks, address, levels), path_depth as u64);
-            let walk = self.unit.machine().plain_walk(address, Access::Load);
-            assert_eq!(held, &note_shadow_part(&walk, levels, path_depth));
-            assert!(path_depth > 0 || walk.end.is_ok());
+            let seen = self.naive.walk(address, false);
+            let words: Vec<(u64, u64)> = held.words.iter().map(|word| (word.frame, word.index)).collect();
+            assert_eq!(words, seen.guest_words[..path.len()]);
+            assert_eq!(held.frames, seen.frames[..=path.len()]);
+            assert_eq!(held.writable, self.writable(address, path_depth, &words));
+            assert!(path_depth > 0 || seen.end.is_ok());
         }
+    }
+
+    /// At depth 0 whether a store is granted, else whether the guest words allow it.
+    fn writable(&self, address: u64, path_depth: u32, words: &[(u64, u64)]) -> bool {
+        if path_depth == 0 {
+            return self.naive.walk(address, true).end.is_ok();
+        }
+        words.iter().all(|word| self.naive.memory[(word.0 * 512 + word.1) as usize] & 2 != 0)
     }
 }
 

@@ -12,12 +12,14 @@ pub struct Naive {
 
 /// What a walk yields: the page's host frame or the fault's letter, level and
 /// frame; the number of all words read, and of those read when each table, and last
-/// the page, was found; the guest words among them, by host frame and index.
+/// the page, was found; the guest words among them, by host frame and index; and the
+/// guest frames host-walked.
 pub struct Seen {
     pub end: Result<u64, (char, u32, u64)>,
     pub reads: u64,
     pub found_at: Vec<u64>,
     pub guest_words: Vec<(u64, u64)>,
+    pub frames: Vec<u64>,
 }
 
 impl Naive {
@@ -106,7 +108,7 @@ impl Naive {
     }
 
     pub fn walk(&self, address: u64, is_store: bool) -> Seen {
-        let mut seen = Seen { end: Ok(0), reads: 0, found_at: Vec::new(), guest_words: Vec::new() };
+        let mut seen = Seen { end: Ok(0), reads: 0, found_at: vec![], guest_words: vec![], frames: vec![] };
         seen.end = self.walk_into(address, is_store, &mut seen);
         seen
     }
@@ -118,6 +120,7 @@ impl Naive {
         loop {
             let (host_entry, words) = self.host_walk(frame);
             seen.reads += words;
+            seen.frames.push(frame);
             let Some(host_entry) = host_entry else { return Err(('H', 0, frame)) };
             seen.found_at.push(seen.reads);
             if level == 0 {
