@@ -87,6 +87,7 @@ pub struct Run {
 }
 
 /// A run of so many calls. The first ones map the guest's frames and load the root.
+/// The sizes must be those of a granted opening, with four or five levels.
 pub fn run(seed: u64, sizes: Sizes, calls: usize) -> Run {
     let mut guest = Guest::new(Random::new(seed), sizes);
     let mut list = guest.setup(calls);

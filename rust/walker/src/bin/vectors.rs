@@ -4,6 +4,7 @@
 
 use walker::random::{run, Random, Sizes};
 use walker::vectors::lines;
+use walker::Unit;
 
 fn main() {
     let numbers: Vec<u64> = std::env::args().skip(1).filter_map(|word| word.parse().ok()).collect();
@@ -20,11 +21,12 @@ fn main() {
         Some((frames, h, s)) => Sizes { levels, frames, h, s },
         None => Sizes::small(&mut Random::new(seed.wrapping_add(1)), levels),
     };
-    match lines(&run(seed, sizes, calls as usize)) {
-        Ok((lines, _)) => println!("{}", lines.join("\n")),
-        Err(number) => {
-            eprintln!("the opening is refused with {number}");
-            std::process::exit(1);
-        }
+    let memory = vec![0; (sizes.frames * 512) as usize];
+    if let Err(number) = Unit::open(levels, memory, sizes.h, sizes.s) {
+        eprintln!("the opening is refused with {number}");
+        std::process::exit(1);
+    }
+    if let Ok((lines, _)) = lines(&run(seed, sizes, calls as usize)) {
+        println!("{}", lines.join("\n"));
     }
 }
