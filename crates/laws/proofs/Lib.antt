@@ -1,0 +1,4 @@
+pub mod Lists
+pub mod Bind
+pub mod Local
+pub mod Distinct
