@@ -1,12 +1,13 @@
 -- Laws of entries: what makes one malformed, that only the levels of a configuration are read, ranges.
 -- Assumes nothing.
 use mathlib.Core.Path.{_≡_, refl, sym, ap, _∙_}
-use mathlib.Core.Bool.{Bool, true, not, _&&_, _||_}
-use Prim.Native.Nat.{ℕ, _+_, _-_, _/_, _%_, _^_, _<_, _≤_}
+use mathlib.Core.Bool.{Bool, true, false, not, _&&_, _||_}
+use Prim.Native.Nat.{ℕ, _+_, _-_, _*_, _/_, _%_, _^_, _<_, _≤_}
+use native.Mathlib.Nat.{zero-add, zero-mul, mod-lt}
 use native.Mathlib.Omega.{arith}
-use borrow.Author.Tests.{ne-eqb}
+use borrow.Author.Tests.{eqb-true, eqb-false, ne-eqb, lt-ltb, le-ltb}
 use lib.Dec.{eqb, ltb}
-use lib.Pow.{field}
+use lib.Pow.{pow-pos, shr-lt, field, split}
 use Rattle.spec.specs.Config.{Config, frameBits}
 use Rattle.spec.specs.Entry.{bitSet, frameOf, malformed, index, wordOf}
 use Rattle.entry.specs.Levels.{ofLevels}
@@ -45,3 +46,15 @@ index-fits k p = omega arith
 pub word-fits : (a : ℕ) → wordOf a < 512
 unfolding wordOf
 word-fits a = omega arith
+
+-- ---- a number fits k bits where a shift by k leaves nothing
+pub shift-out : (a k : ℕ) → eqb (a / 2 ^ k) 0 ≡ ltb a (2 ^ k)
+shift-out a k = go (eqb (a / 2 ^ k) 0) refl
+  where
+    go : (t : Bool) → eqb (a / 2 ^ k) 0 ≡ t → t ≡ ltb a (2 ^ k)
+    go true e =
+        let none : a / 2 ^ k * 2 ^ k ≡ 0 = ap (λ (x : ℕ). x * 2 ^ k) (eqb-true _ _ e) ∙ zero-mul (2 ^ k) in
+        sym (lt-ltb a (2 ^ k) (omega (arith, split a k, mod-lt a (pow-pos k))))
+    go false e =
+        let big : a < 2 ^ k → ⊥ = λ l. eqb-false (a / 2 ^ k) 0 e (omega (arith, shr-lt {n = a} 0 k (rw (zero-add k) l))) in
+        sym (le-ltb a (2 ^ k) (omega arith))

@@ -2,6 +2,7 @@
 ghost use mathlib.Core.Path.{_≡_};
 ghost use Prim.Native.Nat.{_+_, _*_, _^_, _<_, _≤_};
 ghost use Rattle.spec.specs.Config.{frameBits};
+ghost use Rattle.spec.specs.Refusal.{addressFits};
 ghost use Rattle.entry.specs.Levels.{ofLevels};
 ghost use Rattle.spec.specs.Entry.{present, writable, switch, frameOf, malformed, index, pageOf, wordOf};
 
@@ -15,6 +16,14 @@ pub struct GuestPhysical(pub u64);
 pub struct HostPhysical(pub u64);
 
 impl GuestVirtual {
+    // Is the address one that tables of that many levels translate?
+    pub fn fits(self, levels: u64) -> bool
+        requires { ⌜ levels < 6 ⌝ }
+        ensures { λ r. ⌜ r ≡ addressFits (ofLevels levels) (self .0) ⌝ }
+    {
+        self.0 >> (12 + 9 * levels) == 0
+    }
+
     // The page number: the address without its offset.
     pub fn page(self) -> u64
         ensures { λ r. ⌜ r ≡ pageOf (self .0) ⌝ }
