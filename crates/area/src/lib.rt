@@ -182,15 +182,15 @@ pub fn take_fresh(a: Area, p: Pool, mem: &mut [u64]) -> Went
     ensures { λ r. ⌜ ends r (now (mem .exit)) ≡ freshOf a p (now (mem .entry)) ⌝ }
 {
     if p.fresh < a.size {
-        let f = a.base + p.fresh;
-        words::zero_frame(mem, f);
+        let frame = a.base + p.fresh;
+        words::zero_frame(mem, frame);
         Went {
             pool: Pool {
                 fresh: p.fresh + 1,
                 free: p.free,
                 used: p.used + 1,
             },
-            way: Way::To(f),
+            way: Way::To(frame),
         }
     } else {
         Went {
@@ -569,8 +569,8 @@ pub fn release(a: Area, stays: bool, p: Pool, mem: &mut [u64], k: u64, f: u64) -
 {
     let mut cur = p;
     let mut t = f;
-    let mut left = k;
-    while left > 0 {
+    let mut links = k;
+    while links > 0 {
         let went = unhang(a, cur, mem, t);
         cur = went.pool;
         let way = went.way;
@@ -591,7 +591,7 @@ pub fn release(a: Area, stays: bool, p: Pool, mem: &mut [u64], k: u64, f: u64) -
                 };
             }
         }
-        left -= 1;
+        links -= 1;
     }
     shut(a, stays, cur, mem)
 }

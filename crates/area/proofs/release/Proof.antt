@@ -9,10 +9,10 @@ use Rattle.area.proofs.release.Statement.{statement}
 use Rattle.area.proofs.release.Tie as tie
 
 abbrev Inv-loop : tie.InvT-loop
-Inv-loop a stays mem₀ k f cur₀ t₀ left₀ mem cur t left = (t < 1099511627776) × (length mem ≡ length mem₀) × (releaseOf a stays cur mem left t ≡ releaseOf a stays cur₀ mem₀ left₀ t₀)
+Inv-loop a stays mem₀ k f cur₀ t₀ links₀ mem cur t links = (t < 1099511627776) × (length mem ≡ length mem₀) × (releaseOf a stays cur mem links t ≡ releaseOf a stays cur₀ mem₀ links₀ t₀)
 
 abbrev μ-loop : tie.MeasureT-loop
-μ-loop a stays mem₀ k f cur₀ t₀ left₀ mem cur t left = left
+μ-loop a stays mem₀ k f cur₀ t₀ links₀ mem cur t links = links
 
 loop-holds : tie.Need-loop-holds Inv-loop μ-loop
 loop-holds c = (omega arith, refl, refl)
@@ -30,7 +30,7 @@ same-length : tie.Need-same-length Inv-loop μ-loop
 same-length c = search needs
 
 returns : tie.Need-returns Inv-loop μ-loop
-returns c = rw (release-step (c .before .before .before .before .before .before .before .before .before .before .args .a) (c .before .before .before .before .before .before .before .before .before .before .args .stays) (c .before .before .before .before .before .before .before .before .loop .cur) (c .before .before .before .before .before .before .before .before .loop .mem) (c .before .before .before .before .before .before .before .before .loop .left) (c .before .before .before .before .before .before .before .before .loop .t) (c .before .before .before .before .before .before .before .loop-test .taken), ← c .before .before .before .before .before .unhang .ensures, c .enum-told .given .1) at (c .before .before .before .before .before .before .before .before .loop .inv .2)
+returns c = rw (release-step (c .before .before .before .before .before .before .before .before .before .before .args .a) (c .before .before .before .before .before .before .before .before .before .before .args .stays) (c .before .before .before .before .before .before .before .before .loop .cur) (c .before .before .before .before .before .before .before .before .loop .mem) (c .before .before .before .before .before .before .before .before .loop .links) (c .before .before .before .before .before .before .before .before .loop .t) (c .before .before .before .before .before .before .before .loop-test .taken), ← c .before .before .before .before .before .unhang .ensures, c .enum-told .given .1) at (c .before .before .before .before .before .before .before .before .loop .inv .2)
 
 enum-told-2 : tie.Need-enum-told-2 Inv-loop μ-loop
 enum-told-2 c = search needs
@@ -39,10 +39,10 @@ same-length-2 : tie.Need-same-length-2 Inv-loop μ-loop
 same-length-2 c = search needs
 
 returns-2 : tie.Need-returns-2 Inv-loop μ-loop
-returns-2 c = rw (release-step (c .before .before .before .before .before .before .before .before .before .before .args .a) (c .before .before .before .before .before .before .before .before .before .before .args .stays) (c .before .before .before .before .before .before .before .before .loop .cur) (c .before .before .before .before .before .before .before .before .loop .mem) (c .before .before .before .before .before .before .before .before .loop .left) (c .before .before .before .before .before .before .before .before .loop .t) (c .before .before .before .before .before .before .before .loop-test .taken), ← c .before .before .before .before .before .unhang .ensures, c .enum-told2 .given .1) at (c .before .before .before .before .before .before .before .before .loop .inv .2)
+returns-2 c = rw (release-step (c .before .before .before .before .before .before .before .before .before .before .args .a) (c .before .before .before .before .before .before .before .before .before .before .args .stays) (c .before .before .before .before .before .before .before .before .loop .cur) (c .before .before .before .before .before .before .before .before .loop .mem) (c .before .before .before .before .before .before .before .before .loop .links) (c .before .before .before .before .before .before .before .before .loop .t) (c .before .before .before .before .before .before .before .loop-test .taken), ← c .before .before .before .before .before .unhang .ensures, c .enum-told2 .given .1) at (c .before .before .before .before .before .before .before .before .loop .inv .2)
 
-sub-left : tie.Need-sub-left Inv-loop μ-loop
-sub-left c = search needs
+sub-links : tie.Need-sub-links Inv-loop μ-loop
+sub-links c = search needs
 
 loop-less : tie.Need-loop-less Inv-loop μ-loop
 loop-less c = search needs
@@ -50,7 +50,7 @@ loop-less c = search needs
 loop-again : tie.Need-loop-again Inv-loop μ-loop
 loop-again c =
     let good = rw (← c .before .before .before .before .before .before .unhang .ensures, c .before .way .given .1) at (unhang-good (c .before .before .before .before .before .before .before .before .before .before .before .args .a) (c .before .before .before .before .before .before .before .before .before .loop .cur) (c .before .before .before .before .before .before .before .before .before .loop .mem) (c .before .before .before .before .before .before .before .before .before .loop .t)) in
-    (omega (arith, good .1), c .before .before .before .before .before .before .unhang .kept .1 .1 .0 ∙ c .before .before .before .before .before .before .before .before .before .loop .inv .1, rw (release-step (c .before .before .before .before .before .before .before .before .before .before .before .args .a) (c .before .before .before .before .before .before .before .before .before .before .before .args .stays) (c .before .before .before .before .before .before .before .before .before .loop .cur) (c .before .before .before .before .before .before .before .before .before .loop .mem) (c .before .before .before .before .before .before .before .before .before .loop .left) (c .before .before .before .before .before .before .before .before .before .loop .t) (c .before .before .before .before .before .before .before .before .loop-test .taken), ← c .before .before .before .before .before .before .unhang .ensures, c .before .way .given .1) at (c .before .before .before .before .before .before .before .before .before .loop .inv .2))
+    (omega (arith, good .1), c .before .before .before .before .before .before .unhang .kept .1 .1 .0 ∙ c .before .before .before .before .before .before .before .before .before .loop .inv .1, rw (release-step (c .before .before .before .before .before .before .before .before .before .before .before .args .a) (c .before .before .before .before .before .before .before .before .before .before .before .args .stays) (c .before .before .before .before .before .before .before .before .before .loop .cur) (c .before .before .before .before .before .before .before .before .before .loop .mem) (c .before .before .before .before .before .before .before .before .before .loop .links) (c .before .before .before .before .before .before .before .before .before .loop .t) (c .before .before .before .before .before .before .before .before .loop-test .taken), ← c .before .before .before .before .before .before .unhang .ensures, c .before .way .given .1) at (c .before .before .before .before .before .before .before .before .before .loop .inv .2))
 
 shut-requires : tie.Need-shut-requires Inv-loop μ-loop
 shut-requires c κs = search needs
@@ -59,7 +59,7 @@ same-length-3 : tie.Need-same-length-3 Inv-loop μ-loop
 same-length-3 c = search needs
 
 returns-3 : tie.Need-returns-3 Inv-loop μ-loop
-returns-3 c = let z : c .before .before .before .before .before .loop .left ≡ 0 = omega arith in rw (← c .before .before .before .before .before .loop .inv .2, z, release-none) (c .before .before .shut .ensures)
+returns-3 c = let z : c .before .before .before .before .before .loop .links ≡ 0 = omega arith in rw (← c .before .before .before .before .before .loop .inv .2, z, release-none) (c .before .before .shut .ensures)
 
 pub release-spec : {M : Type 1} → statement M
 release-spec =
@@ -76,7 +76,7 @@ release-spec =
     enum-told-2
     same-length-2
     returns-2
-    sub-left
+    sub-links
     loop-less
     loop-again
     shut-requires

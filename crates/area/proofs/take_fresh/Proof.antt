@@ -4,8 +4,8 @@ use borrow.Author.Needs.{needs}
 use Rattle.area.proofs.take_fresh.Statement.{statement}
 use Rattle.area.proofs.take_fresh.Tie as tie
 
-add-f : tie.Need-add-f
-add-f c = search needs
+add-frame : tie.Need-add-frame
+add-frame c = search needs
 
 zero-frame-requires : tie.Need-zero-frame-requires
 zero-frame-requires c κs = search needs
@@ -29,4 +29,4 @@ returns-2 c = rw (le-ltb _ _ (c .if1 .left))
 
 pub take-fresh-spec : {M : Type 1} → statement M
 take-fresh-spec =
-    tie.close (tie.spec add-f zero-frame-requires add-t10 add-t11 same-length returns returns-2)
+    tie.close (tie.spec add-frame zero-frame-requires add-t10 add-t11 same-length returns returns-2)
