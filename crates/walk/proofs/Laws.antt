@@ -1,7 +1,7 @@
 -- What a walk over memory comes to, step by step: the laws that the code is proved by.
 -- Assumes nothing.
 use mathlib.Core.Path.{_≡_, refl, sym, ap, _∙_}
-use Prim.Native.Nat.{ℕ, suc, pred, _+_, _<_}
+use Prim.Native.Nat.{ℕ, zero, suc, pred, _+_, _-_, _≤_, _<_}
 use native.Mathlib.Nat.{add-assoc}
 use native.Mathlib.Omega.{arith}
 use mathlib.Core.Bool.{Bool, true, false, not, _&&_, _||_, cond}
@@ -20,6 +20,7 @@ use Rattle.words.specs.Words.{wordIn}
 use Rattle.host.specs.declared.HostWalk.{HostWalk}
 use Rattle.host.specs.declared.HostWalk.the-variants as host
 use Rattle.host.specs.Walk.{hostWalkOf, page}
+use Rattle.host.proofs.Laws.{InGuestArea, HostFits, host-fits}
 use Rattle.walk.specs.declared.Walked.{Walked}
 use Rattle.walk.specs.declared.Walked.the-variants as walked
 use Rattle.walk.specs.Memory.{placeOf, readsOf, memoryWorld, absentBy, walkedBy, walkedOf, turn, foundOf}
@@ -108,8 +109,11 @@ page-step c m n st g right = first (not st || right)
     on : HostWalk → Trace Fault Place
     on h = trace w (mapped g (placeOf h) >>= last)
 
-    found : (b : Bool) (p : HostPhysical) (v : Bool) → (k : ℕ)
-        → walkedBy c m ((trace w (must b (HostReadOnly g) >> done (p .0, (right && v)))) .result) (n + (k + (trace w (must b (HostReadOnly g) >> done (p .0, (right && v)))) .count))
+    at : HostPhysical → Bool → Walk Fault Place
+    at p v = done (p .0, (right && v))
+
+    found : (b : Bool) (p : HostPhysical) (v : Bool) (k : ℕ)
+        → walkedBy c m ((trace w (must b (HostReadOnly g) >> at p v)) .result) (n + (k + (trace w (must b (HostReadOnly g) >> at p v)) .count))
         ≡ cond b (walked.Arrived p (right && v) (n + k)) (walked.Faulted (HostReadOnly g) (n + k))
     found true p v k = let z : n + (k + 0) ≡ n + k = omega arith in ap (walked.Arrived p (right && v)) z
     found false p v k = let z : n + (k + 0) ≡ n + k = omega arith in ap (walked.Faulted (HostReadOnly g)) z
@@ -149,8 +153,11 @@ turn-step c m n st level t i right = go (present e) (malformed c level e)
     on : Walk Fault Place
     on = next st (eqb level 1) (frameOf e) (right && writable e)
 
+    named : Walk Fault (ℕ × Bool)
+    named = done (frameOf e, writable e)
+
     rest : Bool → Bool → Trace Fault Place
-    rest p b = trace w (must p (Absent level) >> (must (not b) (Malformed level) >> done (frameOf e, writable e)) >>= λ x. next st (eqb level 1) (x .0) (right && x .1))
+    rest p b = trace w (must p (Absent level) >> (must (not b) (Malformed level) >> named) >>= λ x. next st (eqb level 1) (x .0) (right && x .1))
 
     go : (p b : Bool)
         → walkedBy c m ((rest p b) .result) (n + (1 + (rest p b) .count))
@@ -180,3 +187,76 @@ unfolding walk next
 walk-step c m n st root is =
     ap (walkedOf c m n) (sym (bind-assoc (hosted root) (λ r. done (r .0, true)) (λ r. levels c st (c .levels) (r .0) true is)))
     ∙ walked-then c m n (hosted root >>= λ r. done (r .0, true)) (λ r. levels c st (c .levels) (r .0) true is)
+
+-- ---- where a turn arrives: a frame of the guest area, after one guest word and a host walk
+
+abbrev pub TurnFits : Config → ℕ → Walked → Type 0
+TurnFits c n (walked.Arrived p w k) = InGuestArea c (p .0) × (k ≡ n + c .levels)
+TurnFits c n (walked.Faulted x k) = Unit {0}
+TurnFits c n walked.Damaged = Unit {0}
+
+pub table-fits : (c : Config) (m : List ℕ) (n : ℕ) (st : Bool) (g : ℕ) (right : Bool) → TurnFits c n (walkedOf c m n (next st false g right))
+table-fits c m n st g right = rw (table-step c m n st g right) (go (hostWalkOf c m g) (host-fits c m g))
+  where
+    go : (h : HostWalk) → HostFits c h → TurnFits c n (tableBy (c .levels) g right n h)
+    go (host.Found p w) f = (f, refl)
+    go (host.Absent k) f = tt
+    go host.Damaged f = tt
+
+page-fits : (c : Config) (m : List ℕ) (n : ℕ) (st : Bool) (g : ℕ) (right : Bool) → TurnFits c n (walkedOf c m n (next st true g right))
+unfolding foundOf
+page-fits c m n st g right = rw (page-step c m n st g right) (first (not st || right))
+  where
+    found : (b : Bool) (p : HostPhysical) (w : Bool) → InGuestArea c (p .0)
+        → TurnFits c n (cond b (walked.Arrived p (right && w) (n + c .levels)) (walked.Faulted (HostReadOnly g) (n + c .levels)))
+    found true p w f = (f, refl)
+    found false p w f = tt
+
+    go : (h : HostWalk) → HostFits c h → TurnFits c n (pageBy (c .levels) st g right n h)
+    go (host.Found p w) f = found (not st || w) p w f
+    go (host.Absent k) f = tt
+    go host.Damaged f = tt
+
+    first : (b : Bool) → TurnFits c n (cond b (pageBy (c .levels) st g right n (hostWalkOf c m g)) (walked.Faulted (Protected 1) n))
+    first true = go (hostWalkOf c m g) (host-fits c m g)
+    first false = tt
+
+pub turn-fits : (c : Config) (m : List ℕ) (n : ℕ) (st : Bool) (level t i : ℕ) (right : Bool) → TurnFits c (n + 1) (walkedOf c m n (turn c st level t i right))
+turn-fits c m n st level t i right = rw (turn-step c m n st level t i right) (go (present e) (malformed c level e))
+  where
+    e : ℕ
+    e = wordIn m t i
+
+    on : (last : Bool) → TurnFits c (n + 1) (walkedOf c m (n + 1) (next st last (frameOf e) (right && writable e)))
+    on true = page-fits c m (n + 1) st (frameOf e) (right && writable e)
+    on false = table-fits c m (n + 1) st (frameOf e) (right && writable e)
+
+    go : (p b : Bool)
+        → TurnFits c (n + 1) (cond p (cond b (walked.Faulted (Malformed level) (n + 1)) (walkedOf c m (n + 1) (next st (eqb level 1) (frameOf e) (right && writable e)))) (walked.Faulted (Absent level) (n + 1)))
+    go true true = tt
+    go true false = on (eqb level 1)
+    go false b = tt
+
+pub indexes-step : (k p : ℕ) → 0 < k → indexes k p ≡ index (k - 1) p ∷ indexes (k - 1) p
+unfolding indexes
+indexes-step zero p h = absurd (omega arith)
+indexes-step (suc k) p h = let z : suc k - 1 ≡ k = omega arith in rw z
+
+-- the loop's turn, with k indexes left and the levels below them
+pub loop-step : (c : Config) (m : List ℕ) (n : ℕ) (st : Bool) (below k t path : ℕ) (right : Bool) → 0 < k
+    → walkedOf c m n (levels c st (below + k) t right (indexes k path))
+    ≡ thenWalked (walkedOf c m n (turn c st (below + (k - 1) + 1) t (index (k - 1) path) right))
+    (λ u v j. walkedOf c m j (levels c st (below + (k - 1)) u v (indexes (k - 1) path)))
+loop-step c m n st below k t path right h =
+    let up : below + k ≡ below + (k - 1) + 1 = omega arith in
+    let down : pred (below + (k - 1) + 1) ≡ below + (k - 1) = omega arith in
+    ap (λ is. walkedOf c m n (levels c st (below + k) t right is)) (indexes-step k path h)
+    ∙ ap (λ l. walkedOf c m n (levels c st l t right (index (k - 1) path ∷ indexes (k - 1) path))) up
+    ∙ levels-step c m n st (below + (k - 1) + 1) t (index (k - 1) path) (indexes (k - 1) path) right
+    ∙ ap (λ l. thenWalked (walkedOf c m n (turn c st (below + (k - 1) + 1) t (index (k - 1) path) right)) (λ u v j. walkedOf c m j (levels c st l u v (indexes (k - 1) path)))) down
+
+pub loop-end : (c : Config) (m : List ℕ) (n : ℕ) (st : Bool) (below k t path : ℕ) (right : Bool) → k ≡ 0
+    → walkedOf c m n (levels c st (below + k) t right (indexes k path)) ≡ walked.Arrived (page t) right n
+unfolding indexes
+loop-end c m n st below k t path right z =
+    ap (λ j. walkedOf c m n (levels c st (below + j) t right (indexes j path))) z ∙ levels-end c m n st (below + 0) t right

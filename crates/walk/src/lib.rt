@@ -1,7 +1,7 @@
 // The plain walk: from a guest-virtual address to the host frame of its page, by the guest's tables and then the host's.
 // One loop serves the whole walk, its upper part and its lower part.
 ghost use mathlib.Core.Path.{_≡_};
-ghost use mathlib.Core.Bool.{_&&_, _||_, not};
+ghost use mathlib.Core.Bool.{true, false, _&&_, _||_, not};
 ghost use Prim.Native.Nat.{_+_, _<_, _≤_};
 ghost use lib.Dec.{eqb};
 ghost use Rattle.spec.specs.Entry.{indexes, pageOf};
