@@ -7,3 +7,4 @@ pub mod Granted
 pub mod Counts
 pub mod Depth
 pub mod Runs
+pub mod Asks

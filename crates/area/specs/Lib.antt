@@ -1,0 +1,4 @@
+pub mod Header
+pub mod Pool
+pub mod Tree
+pub mod Remove
