@@ -73,7 +73,7 @@ even-get n (x ∷ es) is h k = go (same (x .0) is) refl (even-get n es is (h .1)
     go true q ih = absurd (k (sym (ap length (same-is (x .0) is (subst T (sym q) tt))) ∙ h .0))
     go false q ih = ih
 
-even-fits : (a : Area) (es : Map) (is : List ℕ) → Even (a .levels) es → 0 < a .levels → length is ≡ a .levels → Small is → Fits a (leaves es) is
+pub even-fits : (a : Area) (es : Map) (is : List ℕ) → Even (a .levels) es → 0 < a .levels → length is ≡ a .levels → Small is → Fits a (leaves es) is
 even-fits a es is h deep l s =
     level-fits a (leaves es) is (λ y n. even-get (a .levels) es (onto [] y) h (λ q. n (let u = onto-long [] y in omega arith))) deep l s
 

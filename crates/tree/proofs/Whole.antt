@@ -192,6 +192,10 @@ pub record Next (a : Area) (stays : Bool) (p : Pool) (m : List ℕ) (lv guest : 
   pub holds : Holds a stays pool memory lv guest
   pub beside : Beside a m memory
 
+pub next-leaves : {a : Area} {stays : Bool} {p : Pool} {m : List ℕ} {lv guest : List ℕ → ℕ} {t : End} (lw : List ℕ → ℕ) → ((y : List ℕ) → lv y ≡ lw y)
+    → Next a stays p m lv guest t → Next a stays p m lw guest t
+next-leaves {a = a} {stays = stays} {p = p} {m = m} {guest = guest} {t = t} lw e d = subst (λ l. Next a stays p m l guest t) (λ i y. e y i) d
+
 module _ {a : Area} {stays : Bool} {p : Pool} {m : List ℕ} {lv guest : List ℕ → ℕ} (h : Holds a stays p m lv guest) where
   route : (gs is : List ℕ) → Fits a lv is → Guests guest gs 0 [] is → Route a (h .tabs) lv guest gs [] is
   route gs is f gg = record {
