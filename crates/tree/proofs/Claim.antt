@@ -2,32 +2,27 @@
 -- Assumes nothing.
 use mathlib.Core.Path.{_≡_, refl, sym, ap, ap₂, _∙_, subst}
 use mathlib.Core.Logic.{_≢_, _⊎_, inl, inr}
-use Prim.Native.Nat.{ℕ, zero, suc, _+_, _*_, _-_, _<_, _≤_}
-use native.Mathlib.Omega.{arith}
+use Prim.Native.Nat.{ℕ, _<_}
 use mathlib.Core.Bool.{Bool, true, false, _||_, cond}
 use mathlib.Core.List.{List, [], _∷_}
 use lib.Dec.{T, leb}
-use lib.ListN.{length}
 use borrow.Author.Tests.{leb-true, leb-false}
 use Rattle.spec.specs.Entry.{present}
 use Rattle.spec.specs.Prefix.{same, any, tablesOf}
 use Rattle.area.specs.declared.Area.{Area}
-use Rattle.area.specs.declared.Pool.{Pool}
-use Rattle.area.specs.declared.Way.the-variants.{To, Not, Bad}
-use Rattle.area.specs.declared.Look.the-variants.{Seen, Broken}
-use Rattle.area.specs.Pool.{End, end, noneOf}
-use Rattle.area.specs.Tree.{topOf, lookOf, enterOf, insertOf}
+use Rattle.area.specs.declared.Way.the-variants.{Not}
+use Rattle.area.specs.Pool.{End, end}
+use Rattle.area.specs.Tree.{topOf, lookOf, insertOf}
 use Rattle.area.specs.Remove.{removeOf}
-use Rattle.tree.specs.Run.{Op, put, cut, see, Reply, did, saw, broke, State, told, seen, left, answers, after, Map, get, without, paths, wordsRead, specified}
+use Rattle.tree.specs.Run.{Op, put, cut, see, did, saw, State, told, seen, left, answers, after, Map, get, without, paths, wordsRead, specified}
 use Rattle.laws.proofs.Lists.{same-is, same-refl, or-cases, or-left, or-right, is-true}
 use Rattle.laws.proofs.Distinct.{In}
 use Rattle.tree.proofs.Change.{differ, eq?, upd, upd-on, upd-other}
 use Rattle.tree.proofs.Stores.{Beside, beside-refl, beside-trans}
-use Rattle.tree.proofs.Paths.{onto, onto-long, turn-turn, Small, Ext, ext-long, Guests}
-use Rattle.tree.proofs.Invariant.{present-zero, present-set}
-use Rattle.tree.proofs.Find.{lacks}
-use Rattle.tree.proofs.Whole.{Holds, Fits, holds-none, Opened, holds-top, holds-leaves, holds-look, Next, next-leaves, holds-insert, holds-full, holds-remove, holds-absent}
-use Rattle.tree.proofs.Count.{Lists, room-is, reads-is}
+use Rattle.tree.proofs.Paths.{onto, turn-turn, Guests}
+use Rattle.tree.proofs.Invariant.{present-set}
+use Rattle.tree.proofs.Whole.{Holds, Fits, holds-look, Next, next-leaves, holds-remove, holds-absent}
+use Rattle.tree.proofs.Count.{Lists, insert-next, insert-not, reads-is}
 
 -- ---- the map as leaves
 abbrev pub leaves : Map → List ℕ → ℕ
@@ -147,18 +142,17 @@ module _ {a : Area} {stays : Bool} {guest : List ℕ → ℕ} {t : State} {es : 
   }
 
   module _ (gs : List ℕ) (e : ℕ) (gg : Guests guest gs 0 [] is) (thin : e < 4503599627370496) (set : present e ≡ true) where
-    room : tablesOf (is ∷ paths es) ≡ t .pool .used + lacks (v .holds .tabs) [] is
+    listed : Lists (upd (leaves es) (onto [] is) e) (is ∷ paths es)
     unfolding paths Solid
-    room = room-is (v .holds) is e (is ∷ paths es) (f .nonempty) (present-set e set)
-        (subst (λ lw. Lists lw (is ∷ paths es)) (λ i y. sym (leaves-put es is e y) i) (map-lists ((is, e) ∷ es) (set, v .solid)))
+    listed = subst (λ lw. Lists lw (is ∷ paths es)) (λ i y. sym (leaves-put es is e y) i) (map-lists ((is, e) ∷ es) (set, v .solid))
 
     pub put-next : leb (tablesOf (is ∷ paths es)) (a .size) ≡ true → Done a stays guest t (insertOf a gs (t .pool) (t .memory) is e) ((is, e) ∷ es)
     unfolding Solid
     put-next q = made ((is, e) ∷ es) _ (set, v .solid) (next-leaves (leaves ((is, e) ∷ es)) (leaves-put es is e)
-        (holds-insert (v .holds) gs is e f gg thin set (let k = leb-true (tablesOf (is ∷ paths es)) (a .size) q in let n = room in omega arith)))
+        (insert-next (v .holds) gs is e f gg set (is ∷ paths es) listed thin (leb-true (tablesOf (is ∷ paths es)) (a .size) q)))
 
     pub put-full : leb (tablesOf (is ∷ paths es)) (a .size) ≡ false → insertOf a gs (t .pool) (t .memory) is e ≡ end (t .pool) Not (t .memory)
-    put-full q = holds-full (v .holds) gs is e f gg (let k = leb-false (tablesOf (is ∷ paths es)) (a .size) q in let n = room in omega arith)
+    put-full q = insert-not (v .holds) gs is e f gg set (is ∷ paths es) listed (leb-false (tablesOf (is ∷ paths es)) (a .size) q)
 
   pub cut-next : present (get es is) ≡ true → Done a stays guest t (removeOf a stays (t .pool) (t .memory) is) (without is es)
   cut-next q = made (without is es) _ (solid-without es is (v .solid))

@@ -1,37 +1,35 @@
 -- The host tables stand for the machine's mapping: what a host walk finds and reads, what mapping and unmapping a frame leave.
 -- Assumes nothing.
 use mathlib.Core.Path.{_≡_, refl, sym, ap, ap₂, _∙_, subst}
-use mathlib.Core.Logic.{_≢_, _⊎_, inl, inr}
 use Prim.Native.Nat.{ℕ, zero, suc, _+_, _*_, _/_, _%_, _^_, _<_, _≤_}
 use native.Mathlib.Omega.{arith}
 use mathlib.Core.Bool.{Bool, true, false, cond}
-use mathlib.Core.List.{List, [], _∷_, tail}
+use mathlib.Core.List.{List, [], _∷_}
 use mathlib.Core.Option.{Option, none, some, IsSome}
-use lib.Dec.{T, eqb}
-use lib.ListN.{length}
+use lib.Dec.{eqb}
 use borrow.Author.Tests.{eqb-true, eqb-false, eq-eqb, ne-eqb}
 use Rattle.spec.specs.Config.{Config}
 use Rattle.spec.specs.Entry.{bitSet, present, writable, frameOf, index, indexes}
-use Rattle.spec.specs.Prefix.{same, tablesOf, propers}
-use Rattle.spec.specs.Machine.{Mapping, lookup, with, hostPaths, hostTables, standing, costOf, hostCost}
+use Rattle.spec.specs.Prefix.{same}
+use Rattle.spec.specs.Machine.{Mapping, lookup, with, hostPaths, hostTables, costOf, hostCost}
 use Rattle.spec.specs.Machine as machine
 use Rattle.entry.proofs.Indexes.{indexes-length, indexes-same}
 use Rattle.area.specs.declared.Area.{Area}
 use Rattle.area.specs.declared.Pool.{Pool}
-use Rattle.area.specs.declared.Way.the-variants.{To, Not, Bad}
-use Rattle.area.specs.declared.Look.the-variants.{Seen, Broken}
-use Rattle.area.specs.Pool.{link, End, end}
+use Rattle.area.specs.declared.Way.the-variants.{Not}
+use Rattle.area.specs.declared.Look.the-variants.{Seen}
+use Rattle.area.specs.Pool.{link, end}
 use Rattle.area.specs.Tree.{topOf, lookOf, insertOf}
 use Rattle.area.specs.Remove.{removeOf}
-use Rattle.tree.specs.Run.{Map, get, without, paths, wordsRead}
+use Rattle.tree.specs.Run.{get, without, paths, wordsRead}
 use Rattle.tree.specs.Host.{hostEntry, entryBy, hostMap}
-use Rattle.laws.proofs.Lists.{All, same-is, is-true}
-use Rattle.tree.proofs.Change.{differ, upd, not-some}
-use Rattle.tree.proofs.Paths.{onto, turn-turn, Small, Guests}
+use Rattle.laws.proofs.Lists.{All}
+use Rattle.tree.proofs.Change.{differ, upd}
+use Rattle.tree.proofs.Paths.{onto, turn-turn, Small}
 use Rattle.tree.proofs.Invariant.{present-set, top-some, fresh-some}
-use Rattle.tree.proofs.Find.{steps, lacks}
-use Rattle.tree.proofs.Whole.{Holds, Fits, holds-look, Next, next-leaves, holds-insert, holds-full, holds-remove, holds-absent}
-use Rattle.tree.proofs.Count.{Lists, room-is, reads-leaf, reads-is}
+use Rattle.tree.proofs.Find.{steps}
+use Rattle.tree.proofs.Whole.{Holds, Fits, holds-look, Next, next-leaves, holds-remove, holds-absent}
+use Rattle.tree.proofs.Count.{Lists, insert-next, insert-not, reads-leaf, reads-is}
 use Rattle.tree.proofs.Claim.{leaves, Solid, map-lists, leaves-put, leaves-cut, without-other, same-true}
 use Rattle.tree.proofs.Starts.{Even, even-fits, no-guests}
 
@@ -162,21 +160,20 @@ module _ (c : Config) (g : ℕ) (small : g < 2 ^ (9 * c .levels)) where
 
     -- ---- a frame is mapped: "10 exactly if the host tables, counted as different proper prefixes of mapped frames, would exceed H"
     module _ (f : ℕ) (w : Bool) where
-      room : hostTables c (with g f w xs) ≡ p .used + lacks (h .tabs) [] is
-      room =
-          ap tablesOf (sym (host-paths c (with g f w xs)))
-          ∙ room-is h is (hostEntry f w) (paths (hostMap c (with g f w xs))) (fits .nonempty) (present-set (hostEntry f w) (entry-present f w))
-          (subst (λ lw. Lists lw (paths (hostMap c (with g f w xs)))) (λ i y. sym (leaves-with xs k f w y) i) (map-lists (hostMap c (with g f w xs)) (host-solid c (with g f w xs))))
+      listed : Lists (upd (leaves (hostMap c xs)) (onto [] is) (hostEntry f w)) (hostPaths c (with g f w xs))
+      listed = subst (Lists (upd (leaves (hostMap c xs)) (onto [] is) (hostEntry f w))) (host-paths c (with g f w xs))
+          (subst (λ lw. Lists lw (paths (hostMap c (with g f w xs)))) (λ i y. sym (leaves-with xs k f w y) i)
+          (map-lists (hostMap c (with g f w xs)) (host-solid c (with g f w xs))))
 
       pub host-map : f < 1099511627776 → hostTables c (with g f w xs) ≤ a .size
           → Next a true p m (leaves (hostMap c (with g f w xs))) (λ y. 0) (insertOf a [] p m (indexes (c .levels) g) (hostEntry f w))
       unfolding is
       host-map thin l = next-leaves (leaves (hostMap c (with g f w xs))) (leaves-with xs k f w)
-          (holds-insert h [] is (hostEntry f w) fits (no-guests 0 [] is) (entry-small f w thin) (entry-present f w) (rw room at l))
+          (insert-next h [] is (hostEntry f w) fits (no-guests 0 [] is) (entry-present f w) (hostPaths c (with g f w xs)) listed (entry-small f w thin) l)
 
       pub host-full : a .size < hostTables c (with g f w xs) → insertOf a [] p m (indexes (c .levels) g) (hostEntry f w) ≡ end p Not m
       unfolding is
-      host-full l = holds-full h [] is (hostEntry f w) fits (no-guests 0 [] is) (rw room at l)
+      host-full l = insert-not h [] is (hostEntry f w) fits (no-guests 0 [] is) (entry-present f w) (hostPaths c (with g f w xs)) listed l
 
     -- ---- a frame is unmapped: "12 if not mapped. Emptied host tables can be used again"
     pub host-unmap : (r : ℕ × Bool) → lookup g xs ≡ some r → Next a true p m (leaves (hostMap c (machine.without g xs))) (λ y. 0) (removeOf a true p m (indexes (c .levels) g))
