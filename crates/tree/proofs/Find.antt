@@ -100,7 +100,7 @@ module _ {a : Area} {p : Pool} {ts : List ℕ → Option ℕ} {lv guest : List �
           rw z (ih f h ∙ ap (Seen (lv (onto (i ∷ x) is))) (omega arith))
 
   -- from the top: never broken
-  pub look-top : (is : List ℕ) → Clear lv [] is → Small is → ts (onto [] is) ≡ none
+  pub lookup-is : (is : List ℕ) → Clear lv [] is → Small is → ts (onto [] is) ≡ none
       → lookOf (a .base) (a .size) m (topOf (a .base) (p .fresh)) is 0 ≡ Seen (lv (onto [] is)) (steps ts [] is)
-  look-top is c l t =
+  lookup-is is c l t =
       look-is [] is (topOf (a .base) (p .fresh)) 0 (g .top ∙ ap (slot (ts [])) (sym (g .root))) c l t ∙ ap (Seen (lv (onto [] is))) (omega arith)

@@ -21,7 +21,7 @@ use Rattle.tree.proofs.Stores.{Beside, beside-trans}
 use Rattle.tree.proofs.Invariant.{slot, hop-zero, Tables, hop-table, fresh-some}
 use Rattle.tree.proofs.Grow.{Hung, hang-is, enter-is, set-leaf, put-beside}
 use Rattle.tree.proofs.Paths.{onto, onto-other, Small, Pre, Clear, Guests}
-use Rattle.tree.proofs.Find.{steps, lacks, lacks-upd, lacks-some, lacks-none, steps-lacks, lacks-leaf, look-top}
+use Rattle.tree.proofs.Find.{steps, lacks, lacks-upd, lacks-some, lacks-none, steps-lacks, lacks-leaf, lookup-is}
 
 -- a path that may be inserted: from the prefix x on by the indexes; its tables are named by the list of guest frames
 pub record Route (a : Area) (ts : List ℕ → Option ℕ) (lv guest : List ℕ → ℕ) (gs : List ℕ) (x is : List ℕ) : Type 0 where
@@ -217,11 +217,11 @@ module _ {a : Area} {p : Pool} {ts : List ℕ → Option ℕ} {lv guest : List �
   pub insert-is : e < 4503599627370496 → present e ≡ true → p .used + lacks ts [] (i ∷ is) ≤ a .size
       → Placed a p m ts lv guest (insertOf a gs p m (i ∷ is) e) [] (i ∷ is) e
   unfolding insertOf roomOf
-  insert-is thin set room = rw (look-top g (i ∷ is) (r .clear) (r .small) (r .bare), missing, le-leb _ _ room) (place-is thin set room)
+  insert-is thin set room = rw (lookup-is g (i ∷ is) (r .clear) (r .small) (r .bare), missing, le-leb _ _ room) (place-is thin set room)
 
   pub insert-full : a .size < p .used + lacks ts [] (i ∷ is) → insertOf a gs p m (i ∷ is) e ≡ end p Not m
   unfolding insertOf roomOf
-  insert-full room = rw (look-top g (i ∷ is) (r .clear) (r .small) (r .bare), missing, lt-leb _ _ room)
+  insert-full room = rw (lookup-is g (i ∷ is) (r .clear) (r .small) (r .bare), missing, lt-leb _ _ room)
 
   -- where the leaf stands already no table is missing
   pub insert-again : e < 4503599627370496 → present e ≡ true → lv (onto [] (i ∷ is)) ≢ 0 → Placed a p m ts lv guest (insertOf a gs p m (i ∷ is) e) [] (i ∷ is) e

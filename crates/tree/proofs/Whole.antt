@@ -25,7 +25,7 @@ use Rattle.tree.proofs.Paths.{onto, onto-long, Small, Ext, pre-ext, Cle
 use Rattle.tree.proofs.Invariant.{present-set, chain-keep, Tables, Leaf, Exact, none-below, guests-same}
 use Rattle.tree.proofs.Grow.{enter-is}
 use Rattle.tree.proofs.Shrink.{dropped}
-use Rattle.tree.proofs.Find.{steps, lacks, steps-lacks, steps-none, look-top}
+use Rattle.tree.proofs.Find.{steps, lacks, steps-lacks, steps-none, lookup-is}
 use Rattle.tree.proofs.Insert.{Route, Placed, insert-is, insert-full}
 use Rattle.tree.proofs.Release.{Released}
 use Rattle.tree.proofs.Remove.{remove-is, remove-absent}
@@ -191,7 +191,7 @@ module _ {a : Area} {stays : Bool} {p : Pool} {m : List ℕ} {lv guest : List �
 
     -- ---- lookup
     pub holds-look : lookOf (a .base) (a .size) m (topOf (a .base) (p .fresh)) is 0 ≡ Seen (lv (onto [] is)) (steps (h .tabs) [] is)
-    holds-look = look-top (h .tables) is on-way (f .small) at-end
+    holds-look = lookup-is (h .tables) is on-way (f .small) at-end
 
 -- after a release
 pub released-holds : {a : Area} {stays : Bool} {p : Pool} {m : List ℕ} {ts : List ℕ → Option ℕ} {lv guest : List ℕ → ℕ} {t : End}
