@@ -2,3 +2,12 @@ pub mod Answer
 pub mod Config
 pub mod Entry
 pub mod Prefix
+pub mod Walk
+pub mod Plain
+pub mod Machine
+pub mod Book
+pub mod Call
+pub mod Count
+pub mod Refusal
+pub mod Run
+pub mod Guest

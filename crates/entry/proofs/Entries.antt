@@ -1,0 +1,60 @@
+-- Laws of entries: what makes one malformed, that only the levels of a configuration are read, ranges.
+-- Assumes nothing.
+use mathlib.Core.Path.{_≡_, refl, sym, ap, _∙_}
+use mathlib.Core.Bool.{Bool, true, false, not, _&&_, _||_}
+use Prim.Native.Nat.{ℕ, _+_, _-_, _*_, _/_, _%_, _^_, _<_, _≤_}
+use native.Mathlib.Nat.{zero-add, zero-mul, mod-lt}
+use native.Mathlib.Omega.{arith}
+use borrow.Author.Tests.{eqb-true, eqb-false, ne-eqb, lt-ltb, le-ltb}
+use lib.Dec.{eqb, ltb}
+use lib.Pow.{pow-pos, shr-lt, field, split}
+use Rattle.spec.specs.Config.{Config, frameBits}
+use Rattle.spec.specs.Entry.{bitSet, frameOf, malformed, index, wordOf}
+use Rattle.entry.specs.Levels.{ofLevels}
+
+pub malformed-levels : (c : Config) (level e : ℕ) → malformed c level e ≡ malformed (ofLevels (c .levels)) level e
+unfolding malformed
+malformed-levels c level e = refl
+
+-- the frame bits from b on, cut off at the top and then shifted down
+high-bits : (b e : ℕ) → b ≤ 40 → e % 2 ^ 52 / 2 ^ (12 + b) ≡ e / 2 ^ (12 + b) % 2 ^ (40 - b)
+high-bits b e l = let all : 40 - b + (12 + b) ≡ 52 = omega arith in rw all at (field e (40 - b) (12 + b))
+
+-- an entry is malformed by its frame number, or else by bit 7
+module _ (c : Config) (level e : ℕ) where
+  pub malformed-clear : e % 2 ^ 52 / 2 ^ (12 + frameBits c) ≡ 0 → malformed c level e ≡ (ltb 1 level && bitSet 7 e)
+  unfolding malformed
+  malformed-clear z =
+      let none = sym (high-bits (frameBits c) e (omega arith)) ∙ z in
+      ap (λ (x : ℕ). not (eqb x 0) || (ltb 1 level && bitSet 7 e)) none
+
+  pub malformed-high : (e % 2 ^ 52 / 2 ^ (12 + frameBits c) ≡ 0 → ⊥) → malformed c level e ≡ true
+  unfolding malformed
+  malformed-high n =
+      let some = ne-eqb (e / 2 ^ (12 + frameBits c) % 2 ^ (40 - frameBits c)) 0 (λ z. n (high-bits (frameBits c) e (omega arith) ∙ z)) in
+      ap (λ (x : Bool). not x || (ltb 1 level && bitSet 7 e)) some
+
+-- ---- ranges
+pub frame-fits : (e : ℕ) → frameOf e < 2 ^ 40
+unfolding frameOf
+frame-fits e = omega arith
+
+pub index-fits : (k p : ℕ) → index k p < 512
+unfolding index
+index-fits k p = omega arith
+
+pub word-fits : (a : ℕ) → wordOf a < 512
+unfolding wordOf
+word-fits a = omega arith
+
+-- ---- a number fits k bits where a shift by k leaves nothing
+pub shift-out : (a k : ℕ) → eqb (a / 2 ^ k) 0 ≡ ltb a (2 ^ k)
+shift-out a k = go (eqb (a / 2 ^ k) 0) refl
+  where
+    go : (t : Bool) → eqb (a / 2 ^ k) 0 ≡ t → t ≡ ltb a (2 ^ k)
+    go true e =
+        let none : a / 2 ^ k * 2 ^ k ≡ 0 = ap (λ (x : ℕ). x * 2 ^ k) (eqb-true _ _ e) ∙ zero-mul (2 ^ k) in
+        sym (lt-ltb a (2 ^ k) (omega (arith, split a k, mod-lt a (pow-pos k))))
+    go false e =
+        let big : a < 2 ^ k → ⊥ = λ l. eqb-false (a / 2 ^ k) 0 e (omega (arith, shr-lt {n = a} 0 k (rw (zero-add k) l))) in
+        sym (le-ltb a (2 ^ k) (omega arith))

@@ -1,0 +1,121 @@
+// The three address sorts and the bits of an entry. What each function yields is what the specification's definition gives.
+ghost use mathlib.Core.Path.{_≡_};
+ghost use Prim.Native.Nat.{_+_, _*_, _^_, _<_, _≤_};
+ghost use Rattle.spec.specs.Config.{frameBits};
+ghost use Rattle.spec.specs.Refusal.{addressFits};
+ghost use Rattle.entry.specs.Levels.{ofLevels};
+ghost use Rattle.spec.specs.Entry.{present, writable, switch, frameOf, malformed, index, pageOf, wordOf};
+
+// A guest-virtual address.
+pub struct GuestVirtual(pub u64);
+
+// A guest-physical page, by its frame number: offsets are never translated.
+pub struct GuestPhysical(pub u64);
+
+// A host-physical page, by its frame number.
+pub struct HostPhysical(pub u64);
+
+impl GuestVirtual {
+    // Is the address one that tables of that many levels translate?
+    pub fn fits(self, levels: u64) -> bool
+        requires { ⌜ levels < 6 ⌝ }
+        ensures { λ r. ⌜ r ≡ addressFits (ofLevels levels) (self .0) ⌝ }
+    {
+        self.0 >> (12 + 9 * levels) == 0
+    }
+
+    // The page number: the address without its offset.
+    pub fn page(self) -> u64
+        ensures { λ r. ⌜ r ≡ pageOf (self .0) ⌝ }
+    {
+        self.0 / 4096
+    }
+
+    // The index into the guest table that has `below` levels below it.
+    pub fn index(self, below: u64) -> usize
+        requires { ⌜ below < 8 ⌝ }
+        ensures { λ r. ⌜ r ≡ index below (pageOf (self .0)) ⌝ }
+    {
+        index_of(self.0 / 4096, below)
+    }
+
+    // The word of its page that the address names.
+    pub fn word(self) -> usize
+        ensures { λ r. ⌜ r ≡ wordOf (self .0) ⌝ }
+    {
+        (self.0 % 4096 / 8) as usize
+    }
+}
+
+impl GuestPhysical {
+    // The index into the host table that has `below` levels below it.
+    pub fn index(self, below: u64) -> usize
+        requires { ⌜ below < 8 ⌝ }
+        ensures { λ r. ⌜ r ≡ index below (self .0) ⌝ }
+    {
+        index_of(self.0, below)
+    }
+}
+
+impl HostPhysical {
+    // Where the word i of the frame stands in the memory.
+    pub fn word(self, i: usize) -> usize
+        requires { ⌜ (self .0 < 1099511627776) × (i < 512) ⌝ }
+        ensures { λ r. ⌜ r ≡ self .0 * 512 + i ⌝ }
+    {
+        self.0 as usize * 512 + i
+    }
+}
+
+// The index of a page or frame number that has `below` levels below it.
+pub fn index_of(number: u64, below: u64) -> usize
+    requires { ⌜ below < 8 ⌝ }
+    ensures { λ r. ⌜ r ≡ index below number ⌝ }
+{
+    ((number >> (9 * below)) % 512) as usize
+}
+
+pub fn present(e: u64) -> bool
+    ensures { λ r. ⌜ r ≡ present e ⌝ }
+{
+    e % 2 == 1
+}
+
+pub fn writable(e: u64) -> bool
+    ensures { λ r. ⌜ r ≡ writable e ⌝ }
+{
+    e / 2 % 2 == 1
+}
+
+pub fn switch(e: u64) -> bool
+    ensures { λ r. ⌜ r ≡ switch e ⌝ }
+{
+    e / 512 % 2 == 1
+}
+
+pub fn frame_of(e: u64) -> u64
+    ensures { λ r. ⌜ r ≡ frameOf e ⌝ }
+{
+    e / 4096 % 1099511627776
+}
+
+// How many bits a guest frame number has: 9 for each level, and never more than the 40 that an entry holds.
+pub fn frame_bits(levels: u64) -> u64
+    ensures { λ r. ⌜ r ≡ frameBits (ofLevels levels) ⌝ }
+{
+    if levels < 5 { 9 * levels } else { 40 }
+}
+
+// Is a present guest entry of that level malformed?
+pub fn malformed(levels: u64, level: u64, e: u64) -> bool
+    ensures { λ r. ⌜ r ≡ malformed (ofLevels levels) level e ⌝ }
+{
+    // The bits of the frame number above those that a guest frame number has.
+    if (e % 4503599627370496) >> (12 + frame_bits(levels)) == 0 {
+        if level <= 1 {
+            return false;
+        }
+        return e / 128 % 2 == 1;
+    }
+    true
+}

@@ -1,0 +1,112 @@
+-- The refusals, each the number of the first test that fails. Document 01, "Each operation and its no".
+-- Assumes nothing.
+use Prim.Native.Nat.{ℕ, suc, _+_, _-_, _*_, _/_, _%_, _^_}
+use mathlib.Core.Bool.{Bool, true, not, _&&_, _||_, cond}
+use mathlib.Core.List.{List, [], _∷_}
+use mathlib.Core.Option.{Option, none, some}
+use lib.Dec.{eqb, leb, ltb}
+use lib.ListN.{length}
+use Rattle.spec.specs.Config.{Config, guestBase, addressBits, frameBits}
+use Rattle.spec.specs.Machine.{Machine, Mapping, with, isMapped, hostTables}
+use Rattle.spec.specs.Book.{Mark, Book, markAt, sameMark, isSet}
+use Rattle.spec.specs.Call.{Call, root, map, unmap, setMark, clearMark, load, store, device, addressIndexes}
+
+abbrev pub firstFailed : List (Bool × ℕ) → Option ℕ
+firstFailed [] = none
+firstFailed (x ∷ xs) = cond (x .0) (firstFailed xs) (some (x .1))
+
+-- ---- opening
+
+-- "1 if the words are no multiple of 512 or the frames are 0 or more than 65,536"
+abbrev pub wordsFit : ℕ → Bool
+wordsFit words = eqb (words % 512) 0 && ltb 0 (words / 512) && leb (words / 512) 65536
+
+-- "then 2 if H or S is below 4 or H + S leaves no guest frame"
+abbrev pub areasFit : Config → Bool
+areasFit c = leb (c .levels) (c .hosts) && leb (c .levels) (c .shadows) && ltb (guestBase c) (c .frames)
+
+abbrev pub configOf : ℕ → ℕ → ℕ → ℕ → ℕ → Config
+configOf levels room words h s = record { levels = levels; markRoom = room; hosts = h; shadows = s; frames = words / 512 }
+
+unfoldable pub openRefusal : Config → ℕ → Option ℕ
+openRefusal c words = firstFailed ((wordsFit words, 1) ∷ (areasFit c, 2) ∷ [])
+
+-- ---- the rules of a record, whose breach is 3
+
+abbrev pub inGuestArea : Config → ℕ → Bool
+inGuestArea c f = leb (guestBase c) f && ltb f (c .frames)
+
+abbrev pub levelFits : Config → ℕ → Bool
+levelFits c n = leb 1 n && leb n (suc (c .levels))
+
+abbrev pub allOf : {A : Type 0} → (A → Bool) → List A → Bool
+allOf f [] = true
+allOf f (x ∷ xs) = f x && allOf f xs
+
+-- "each of level 1 to 5 with only the indexes it keeps"
+abbrev pub markFits : Config → Mark → Bool
+markFits c m = levelFits c (m .level) && eqb (length (m .prefix)) (c .levels - m .level) && allOf (λ i. ltb i 512) (m .prefix)
+
+-- "no two alike"
+abbrev pub noTwoAlike : List Mark → Bool
+noTwoAlike [] = true
+noTwoAlike (m ∷ ms) = not (isSet m ms) && noTwoAlike ms
+
+-- "at most 64 marks, each of level 1 to 5 with only the indexes it keeps, no two alike"
+abbrev pub marksFit : Config → List Mark → Bool
+marksFit c ms = leb (length ms) (c .markRoom) && allOf (markFits c) ms && noTwoAlike ms
+
+-- "root below 2^36": so is every guest frame number
+abbrev pub frameFits : Config → ℕ → Bool
+frameFits c g = ltb g (2 ^ frameBits c)
+
+abbrev pub topFits : Config → Option ℕ → Bool
+topFits c none = true
+topFits c (some f) = inGuestArea c f
+
+-- what a record says, as the rule reads it; top is "a held d = 4 frame"
+pub record Record : Type 0 where
+  pub words : ℕ
+  pub config : Config
+  pub root : ℕ
+  pub marks : List Mark
+  pub top : Option ℕ
+
+-- "3 first, if the memory's length is another or the record breaks a rule: words, H and S as for opening, root below 2^36, at
+-- most 64 marks, .., a held d = 4 frame in the guest area"
+unfoldable pub recordFits : Record → ℕ → Bool
+recordFits r len =
+    eqb len (r .words) && wordsFit (r .words) && areasFit (r .config) && eqb (r .config .frames) (r .words / 512)
+    && frameFits (r .config) (r .root) && marksFit (r .config) (r .marks) && topFits (r .config) (r .top)
+
+-- ---- later calls; those that no covered run meets, 3 and 11, are not here
+
+-- "4 if the address is 2^48 or more or no multiple of 8"
+abbrev pub addressFits : Config → ℕ → Bool
+addressFits c a = ltb a (2 ^ addressBits c)
+
+abbrev pub deviceFits : Config → ℕ → Bool
+deviceFits c a = ltb a (2 ^ (12 + frameBits c))
+
+abbrev pub wordAligned : ℕ → Bool
+wordAligned a = eqb (a % 8) 0
+
+-- the tests of a call in their order, each with the number that it refuses with
+unfoldable pub tests : Config → Call → Machine → Book → List (Bool × ℕ)
+tests c (load a) m b = (addressFits c a && wordAligned a, 4) ∷ []
+tests c (store a v) m b = (addressFits c a && wordAligned a, 4) ∷ []
+tests c (device a v) m b = (deviceFits c a && wordAligned a, 4) ∷ []
+tests c (root r) m b = (frameFits c r, 8) ∷ []
+tests c (map g f w) m b =
+    (frameFits c g, 8) ∷ (inGuestArea c f, 9) ∷ (leb (hostTables c (with g f w (m .mappings))) (c .hosts), 10) ∷ []
+tests c (unmap g) m b = (frameFits c g, 8) ∷ (isMapped g (m .mappings), 12) ∷ []
+tests c (setMark a n) m b =
+    let set : Bool = isSet (markAt c n (addressIndexes c a)) (b .marks) in
+    (addressFits c a, 4) ∷ (levelFits c n, 5) ∷ (not set, 6) ∷ (ltb (length (b .marks)) (c .markRoom), 7) ∷ []
+tests c (clearMark a n) m b =
+    let set : Bool = isSet (markAt c n (addressIndexes c a)) (b .marks) in
+    (addressFits c a, 4) ∷ (levelFits c n, 5) ∷ (set, 6) ∷ []
+
+-- "a refusal is the first number below that applies on book and machine"
+unfoldable pub refusal : Config → Call → Machine → Book → Option ℕ
+refusal c x m b = firstFailed (tests c x m b)
