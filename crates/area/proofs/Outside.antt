@@ -2,32 +2,33 @@
 -- Assumes nothing.
 use mathlib.Core.Path.{_≡_, refl, _∙_}
 use mathlib.Core.Logic.{_≢_, _⊎_, inl, inr}
-use Prim.Native.Nat.{ℕ, zero, suc, _+_, _*_, _-_, _/_, _%_, _<_, _≤_}
+use Prim.Native.Nat.{ℕ, zero, suc, _+_, _*_, _-_, _<_, _≤_}
 use native.Mathlib.Omega.{arith}
 use mathlib.Core.Bool.{Bool, true, false, cond}
 use mathlib.Core.List.{List, [], _∷_}
-use lib.Dec.{eqb, ltb, leb}
-use lib.ListN.{getD, set, length, length-set}
+use lib.Dec.{eqb, ltb}
+use lib.ListN.{getD, length, length-set}
 use lib.Seq.{getD-set-other}
 use borrow.Author.Tests.{ltb-true}
-use Rattle.spec.specs.Entry.{present, index, indexes}
-use Rattle.words.specs.Words.{at, wordIn, setIn, zeroed}
+use Rattle.spec.specs.Entry.{present, indexes}
+use Rattle.entry.proofs.Entries.{index-fits}
+use Rattle.words.specs.Words.{at, setIn, zeroed}
 use Rattle.words.proofs.Laws.{zeroed-length, zeroed-below, zeroed-above}
 use Rattle.area.specs.declared.Area.{Area}
 use Rattle.area.specs.declared.Pool.{Pool}
 use Rattle.area.specs.declared.Way.{Way}
 use Rattle.area.specs.declared.Way.the-variants.{To, Not, Bad}
 use Rattle.area.specs.Header.{entryIn, putOf, parentOf, slotOf, headOf, insideOf, bareOf}
-use Rattle.area.specs.Pool.{link, hopOf, onWay, End, ends, end, poolOf, noneOf, freshOf, freedOf, takeOf, giveOf, backOf}
-use Rattle.area.specs.Tree.{topOf, roomOf, headed, tableOf, enterOf, hung, hangOf, descendOf, onward, downOf, placeOf, insertOf}
+use Rattle.area.specs.Pool.{link, hopOf, onWay, End, end, poolOf, noneOf, freshOf, freedOf, takeOf, giveOf, backOf}
+use Rattle.area.specs.Tree.{topOf, roomOf, headed, tableOf, enterOf, hung, hangOf, descendOf, downOf, placeOf, insertOf}
 use Rattle.area.specs.Remove.{unhangOf, shutOf, releaseOf, lastOf, lastIndex, clearOf, removeOf}
 use Rattle.area.specs.Outside.{SameOutside, Narrow}
-use Rattle.area.proofs.Laws.{index-small, slot-small, inside-true, WayGood, AreaGood, hop-good, take-good, table-good, descend-good, unhang-good}
+use Rattle.area.proofs.Laws.{slot-small, inside-true, AreaGood, hop-good, take-good, table-good, descend-good, unhang-good}
 
 pub indexes-narrow : (k g : ℕ) → Narrow (indexes k g)
 unfolding indexes
 indexes-narrow zero g = tt
-indexes-narrow (suc k) g = (index-small k g, indexes-narrow k g)
+indexes-narrow (suc k) g = (index-fits k g, indexes-narrow k g)
 
 pub narrow-last : (i : ℕ) (is : List ℕ) → i < 512 → Narrow is → lastIndex i is < 512
 unfolding lastIndex
