@@ -140,7 +140,7 @@ pub fn bare(mem: &[u64], f: u64) -> bool
     let mut k: u64 = 512;
     while k > 0 {
         k -= 1;
-        if entry_at(mem, f, k) % 2 == 1 {
+        if entry::present(entry_at(mem, f, k)) {
             return false;
         }
     }
@@ -153,8 +153,8 @@ pub fn bare(mem: &[u64], f: u64) -> bool
 pub fn hop(base: u64, size: u64, e: u64) -> Way
     ensures { λ r. ⌜ r ≡ hopOf base size e ⌝ }
 {
-    if e % 2 == 1 {
-        let f = (e / 4096) % 1099511627776;
+    if entry::present(e) {
+        let f = entry::frame_of(e);
         if inside(base, size, f) {
             Way::To(f)
         } else {
@@ -275,7 +275,7 @@ pub fn index_at(g: u64, k: u64) -> u64
     requires { ⌜ k ≤ 6 ⌝ }
     ensures { λ r. ⌜ r ≡ index k g ⌝ }
 {
-    (g >> (9 * k)) % 512
+    entry::index_of(g, k) as u64
 }
 
 // The entry of the top table, by the number of frames handed out.
@@ -625,7 +625,7 @@ pub fn clear(a: Area, stays: bool, p: Pool, mem: &mut [u64], k: u64, f: u64, i: 
     requires { ⌜ (f < 1099511627776) × (a .base + a .size < 1099511627776) × (i < 512) ⌝ }
     ensures { λ r. ⌜ ends r (now (mem .exit)) ≡ clearOf a stays p (now (mem .entry)) k f i ⌝ }
 {
-    if entry_at(mem, f, i) % 2 == 1 {
+    if entry::present(entry_at(mem, f, i)) {
         put_entry(mem, f, i, 0);
         release(a, stays, p, mem, k, f)
     } else {

@@ -5,7 +5,8 @@ use lib.ListN.{length}
 use Rattle.spec.specs.Entry.{index, indexes}
 use Rattle.area.specs.Pool.{ends}
 use Rattle.area.specs.Tree.{onward, downOf}
-use Rattle.area.proofs.Laws.{index-small, AreaGood, descend-good, down-step, down-last}
+use Rattle.area.proofs.Laws.{AreaGood, descend-good, down-step, down-last}
+use Rattle.entry.proofs.Entries.{index-fits}
 use borrow.Author.Needs.{needs}
 use Rattle.area.proofs.down.Statement.{statement}
 use Rattle.area.proofs.down.Tie as tie
@@ -52,7 +53,7 @@ index-at-requires : tie.Need-index-at-requires Inv-loop μ-loop
 index-at-requires c κs = search needs
 
 descend-requires : tie.Need-descend-requires Inv-loop μ-loop
-descend-requires c κs = let i = rw (← c .index-at .ensures) at (index-small (c .before .before .before .before .before .loop .left) (c .before .before .before .before .before .before .before .before .args .g)) in (omega arith, omega arith, i)
+descend-requires c κs = let i = rw (← c .index-at .ensures) at (index-fits (c .before .before .before .before .before .loop .left) (c .before .before .before .before .before .before .before .before .args .g)) in (omega arith, omega arith, i)
 
 enum-known-way : tie.Need-enum-known-way Inv-loop μ-loop
 enum-known-way c = search needs
@@ -90,7 +91,7 @@ index-at-requires-2 : tie.Need-index-at-requires-2 Inv-loop μ-loop
 index-at-requires-2 c κs = search needs
 
 put-entry-requires : tie.Need-put-entry-requires Inv-loop μ-loop
-put-entry-requires c κs = let i = rw (← c .index-at2 .ensures) at (index-small 0 (c .before .before .before .before .before .before .args .g)) in (omega arith, i)
+put-entry-requires c κs = let i = rw (← c .index-at2 .ensures) at (index-fits 0 (c .before .before .before .before .before .before .args .g)) in (omega arith, i)
 
 same-length-3 : tie.Need-same-length-3 Inv-loop μ-loop
 same-length-3 c = search needs

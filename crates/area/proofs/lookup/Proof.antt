@@ -3,7 +3,8 @@ use native.Mathlib.Omega.{arith}
 use mathlib.Core.Path.{_≡_, sym, _∙_}
 use Rattle.spec.specs.Entry.{indexes}
 use Rattle.area.specs.Tree.{lookOf}
-use Rattle.area.proofs.Laws.{index-small, hop-small, look-step, look-last}
+use Rattle.area.proofs.Laws.{hop-small, look-step, look-last}
+use Rattle.entry.proofs.Entries.{index-fits}
 use borrow.Author.Needs.{needs}
 use Rattle.area.proofs.lookup.Statement.{statement}
 use Rattle.area.proofs.lookup.Tie as tie
@@ -30,7 +31,7 @@ index-at-requires : tie.Need-index-at-requires Inv-loop μ-loop
 index-at-requires c κs = search needs
 
 entry-at-requires : tie.Need-entry-at-requires Inv-loop μ-loop
-entry-at-requires c κs = let good = rw (← c .before .before .before .before .hop .ensures, c .before .before .f .given .1) at (hop-small (c .before .before .before .before .before .before .before .before .args .base) (c .before .before .before .before .before .before .before .before .args .size) (c .before .before .before .before .before .before .loop .at)) in let i = rw (← c .index-at .ensures) at (index-small (c .before .before .before .before .before .before .loop .left - 1) (c .before .before .before .before .before .before .before .before .args .g)) in (good, i)
+entry-at-requires c κs = let good = rw (← c .before .before .before .before .hop .ensures, c .before .before .f .given .1) at (hop-small (c .before .before .before .before .before .before .before .before .args .base) (c .before .before .before .before .before .before .before .before .args .size) (c .before .before .before .before .before .before .loop .at)) in let i = rw (← c .index-at .ensures) at (index-fits (c .before .before .before .before .before .before .loop .left - 1) (c .before .before .before .before .before .before .before .before .args .g)) in (good, i)
 
 add-n : tie.Need-add-n Inv-loop μ-loop
 add-n c = search needs

@@ -30,7 +30,7 @@ same-length : tie.Need-same-length Inv-loop μ-loop
 same-length c = search needs
 
 returns : tie.Need-returns Inv-loop μ-loop
-returns c = rw (release-step (c .before .before .before .before .before .before .before .before .before .before .args .a) (c .before .before .before .before .before .before .before .before .before .before .args .stays) (c .before .before .before .before .before .before .before .before .loop .cur) (c .before .before .before .before .before .before .before .before .loop .mem) (c .before .before .before .before .before .before .before .before .loop .links) (c .before .before .before .before .before .before .before .before .loop .t) (c .before .before .before .before .before .before .before .loop-test .taken), ← c .before .before .before .before .before .unhang .ensures, c .enum-told .given .1) at (c .before .before .before .before .before .before .before .before .loop .inv .2)
+returns c = rw (release-step (c .before .before .before .before .before .before .before .before .before .before .args .a) (c .before .before .before .before .before .before .before .before .before .before .args .stays) (c .before .before .before .before .before .before .before .before .loop .cur) (c .before .before .before .before .before .before .before .before .loop .mem) (c .before .before .before .before .before .before .before .before .loop .links) (c .before .before .before .before .before .before .before .before .loop .t) (omega arith), ← c .before .before .before .before .before .unhang .ensures, c .enum-told .given .1) at (c .before .before .before .before .before .before .before .before .loop .inv .2)
 
 enum-told-2 : tie.Need-enum-told-2 Inv-loop μ-loop
 enum-told-2 c = search needs
@@ -39,7 +39,7 @@ same-length-2 : tie.Need-same-length-2 Inv-loop μ-loop
 same-length-2 c = search needs
 
 returns-2 : tie.Need-returns-2 Inv-loop μ-loop
-returns-2 c = rw (release-step (c .before .before .before .before .before .before .before .before .before .before .args .a) (c .before .before .before .before .before .before .before .before .before .before .args .stays) (c .before .before .before .before .before .before .before .before .loop .cur) (c .before .before .before .before .before .before .before .before .loop .mem) (c .before .before .before .before .before .before .before .before .loop .links) (c .before .before .before .before .before .before .before .before .loop .t) (c .before .before .before .before .before .before .before .loop-test .taken), ← c .before .before .before .before .before .unhang .ensures, c .enum-told2 .given .1) at (c .before .before .before .before .before .before .before .before .loop .inv .2)
+returns-2 c = rw (release-step (c .before .before .before .before .before .before .before .before .before .before .args .a) (c .before .before .before .before .before .before .before .before .before .before .args .stays) (c .before .before .before .before .before .before .before .before .loop .cur) (c .before .before .before .before .before .before .before .before .loop .mem) (c .before .before .before .before .before .before .before .before .loop .links) (c .before .before .before .before .before .before .before .before .loop .t) (omega arith), ← c .before .before .before .before .before .unhang .ensures, c .enum-told2 .given .1) at (c .before .before .before .before .before .before .before .before .loop .inv .2)
 
 sub-links : tie.Need-sub-links Inv-loop μ-loop
 sub-links c = search needs
@@ -50,7 +50,7 @@ loop-less c = search needs
 loop-again : tie.Need-loop-again Inv-loop μ-loop
 loop-again c =
     let good = rw (← c .before .before .before .before .before .before .unhang .ensures, c .before .way .given .1) at (unhang-good (c .before .before .before .before .before .before .before .before .before .before .before .args .a) (c .before .before .before .before .before .before .before .before .before .loop .cur) (c .before .before .before .before .before .before .before .before .before .loop .mem) (c .before .before .before .before .before .before .before .before .before .loop .t)) in
-    (omega (arith, good .1), c .before .before .before .before .before .before .unhang .kept .1 .1 .0 ∙ c .before .before .before .before .before .before .before .before .before .loop .inv .1, rw (release-step (c .before .before .before .before .before .before .before .before .before .before .before .args .a) (c .before .before .before .before .before .before .before .before .before .before .before .args .stays) (c .before .before .before .before .before .before .before .before .before .loop .cur) (c .before .before .before .before .before .before .before .before .before .loop .mem) (c .before .before .before .before .before .before .before .before .before .loop .links) (c .before .before .before .before .before .before .before .before .before .loop .t) (c .before .before .before .before .before .before .before .before .loop-test .taken), ← c .before .before .before .before .before .before .unhang .ensures, c .before .way .given .1) at (c .before .before .before .before .before .before .before .before .before .loop .inv .2))
+    (omega (arith, good .1), c .before .before .before .before .before .before .unhang .kept .1 .1 .0 ∙ c .before .before .before .before .before .before .before .before .before .loop .inv .1, rw (release-step (c .before .before .before .before .before .before .before .before .before .before .before .args .a) (c .before .before .before .before .before .before .before .before .before .before .before .args .stays) (c .before .before .before .before .before .before .before .before .before .loop .cur) (c .before .before .before .before .before .before .before .before .before .loop .mem) (c .before .before .before .before .before .before .before .before .before .loop .links) (c .before .before .before .before .before .before .before .before .before .loop .t) (omega arith), ← c .before .before .before .before .before .before .unhang .ensures, c .before .way .given .1) at (c .before .before .before .before .before .before .before .before .before .loop .inv .2))
 
 shut-requires : tie.Need-shut-requires Inv-loop μ-loop
 shut-requires c κs = search needs

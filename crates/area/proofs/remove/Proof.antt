@@ -2,7 +2,9 @@ use Prim.Native.Nat.{_-_}
 use native.Mathlib.Omega.{arith}
 use Rattle.spec.specs.Entry.{index, indexes}
 use Rattle.area.specs.Remove.{removeOf}
-use Rattle.area.proofs.Laws.{index-small, indexes-step, indexes-length, indexes-last, last-small}
+use Rattle.area.proofs.Laws.{indexes-step, indexes-last, last-small}
+use Rattle.entry.proofs.Entries.{index-fits}
+use Rattle.entry.proofs.Indexes.{indexes-length}
 use borrow.Author.Needs.{needs}
 use Rattle.area.proofs.remove.Statement.{statement}
 use Rattle.area.proofs.remove.Tie as tie
@@ -25,7 +27,7 @@ index-at-requires c κs = search needs
 clear-requires : tie.Need-clear-requires
 clear-requires c κs =
     let good = rw (← c .before .before .before .before .before .last-table .ensures, c .before .before .before .f .given .1) at (last-small (c .before .before .before .before .before .before .before .before .before .args .a .base) (c .before .before .before .before .before .before .before .before .before .args .a .size) (c .before .before .before .before .before .before .before .before .before .args .mem .now) (c .before .before .before .before .before .before .before .top .result) (index (c .before .before .before .before .before .before .before .before .before .args .k - 1) (c .before .before .before .before .before .before .before .before .before .args .g)) (indexes (c .before .before .before .before .before .before .before .before .before .args .k - 1) (c .before .before .before .before .before .before .before .before .before .args .g))) in
-    let i = rw (← c .index-at .ensures) at (index-small 0 (c .before .before .before .before .before .before .before .before .before .args .g)) in
+    let i = rw (← c .index-at .ensures) at (index-fits 0 (c .before .before .before .before .before .before .before .before .before .args .g)) in
     (good, omega arith, i)
 
 enum-told : tie.Need-enum-told
