@@ -1,0 +1,4 @@
+pub mod Turn
+pub mod Search
+pub mod Insert
+pub mod Ascending
