@@ -2,3 +2,8 @@ pub mod Lists
 pub mod Bind
 pub mod Local
 pub mod Distinct
+pub mod Parts
+pub mod Granted
+pub mod Counts
+pub mod Depth
+pub mod Runs

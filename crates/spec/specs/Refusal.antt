@@ -91,28 +91,22 @@ deviceFits c a = ltb a (2 ^ (12 + frameBits c))
 abbrev pub wordAligned : ℕ → Bool
 wordAligned a = eqb (a % 8) 0
 
+-- the tests of a call in their order, each with the number that it refuses with
+unfoldable pub tests : Config → Call → Machine → Book → List (Bool × ℕ)
+tests c (load a) m b = (addressFits c a && wordAligned a, 4) ∷ []
+tests c (store a v) m b = (addressFits c a && wordAligned a, 4) ∷ []
+tests c (device a v) m b = (deviceFits c a && wordAligned a, 4) ∷ []
+tests c (root r) m b = (frameFits c r, 8) ∷ []
+tests c (map g f w) m b =
+    (frameFits c g, 8) ∷ (inGuestArea c f, 9) ∷ (leb (hostTables c (with g f w (m .mappings))) (c .hosts), 10) ∷ []
+tests c (unmap g) m b = (frameFits c g, 8) ∷ (isMapped g (m .mappings), 12) ∷ []
+tests c (setMark a n) m b =
+    let set : Bool = isSet (markAt c n (addressIndexes c a)) (b .marks) in
+    (addressFits c a, 4) ∷ (levelFits c n, 5) ∷ (not set, 6) ∷ (ltb (length (b .marks)) (c .markRoom), 7) ∷ []
+tests c (clearMark a n) m b =
+    let set : Bool = isSet (markAt c n (addressIndexes c a)) (b .marks) in
+    (addressFits c a, 4) ∷ (levelFits c n, 5) ∷ (set, 6) ∷ []
+
+-- "a refusal is the first number below that applies on book and machine"
 unfoldable pub refusal : Config → Call → Machine → Book → Option ℕ
-refusal c (load a) m b = firstFailed ((addressFits c a && wordAligned a, 4) ∷ [])
-refusal c (store a v) m b = firstFailed ((addressFits c a && wordAligned a, 4) ∷ [])
-refusal c (device a v) m b = firstFailed ((deviceFits c a && wordAligned a, 4) ∷ [])
-refusal c (root r) m b = firstFailed ((frameFits c r, 8) ∷ [])
-refusal c (map g f w) m b = firstFailed (
-    (frameFits c g, 8)
-    ∷ (inGuestArea c f, 9)
-    ∷ (leb (hostTables c (with g f w (m .mappings))) (c .hosts), 10)
-    ∷ []
-    )
-refusal c (unmap g) m b = firstFailed ((frameFits c g, 8) ∷ (isMapped g (m .mappings), 12) ∷ [])
-refusal c (setMark a n) m b = firstFailed (
-    (addressFits c a, 4)
-    ∷ (levelFits c n, 5)
-    ∷ (not (isSet (markAt c n (addressIndexes c a)) (b .marks)), 6)
-    ∷ (ltb (length (b .marks)) (c .markRoom), 7)
-    ∷ []
-    )
-refusal c (clearMark a n) m b = firstFailed (
-    (addressFits c a, 4)
-    ∷ (levelFits c n, 5)
-    ∷ (isSet (markAt c n (addressIndexes c a)) (b .marks), 6)
-    ∷ []
-    )
+refusal c x m b = firstFailed (tests c x m b)
