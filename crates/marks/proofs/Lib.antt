@@ -2,3 +2,4 @@ pub mod Turn
 pub mod Search
 pub mod Insert
 pub mod Ascending
+pub mod Reading
