@@ -26,7 +26,7 @@ level-below n level e = (leb-true 1 level (and-left (leb 1 level) _ e), leb-true
 
 module _ (n : ℕ) where
   -- a key not above the last one is none of them
-  ascending-above : (last k : ℕ) (ks : List ℕ) → k ≤ last → ascending n last ks ≡ true → any (eqb k) ks ≡ false
+  pub ascending-above : (last k : ℕ) (ks : List ℕ) → k ≤ last → ascending n last ks ≡ true → any (eqb k) ks ≡ false
   unfolding ascending
   ascending-above last k [] l e = refl
   ascending-above last k (x ∷ xs) l e =

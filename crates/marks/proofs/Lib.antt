@@ -3,3 +3,6 @@ pub mod Search
 pub mod Insert
 pub mod Ascending
 pub mod Reading
+pub mod Order
+pub mod Tables
+pub mod Book

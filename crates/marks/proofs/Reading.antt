@@ -97,6 +97,12 @@ key-small : (n k : ℕ) → keyFits n k ≡ true → k / 8 < 2 ^ (9 * (n - k % 8
 unfolding keyFits
 key-small n k e = ltb-true (k / 8) _ (and-right (leb 1 (k % 8) && leb (k % 8) (suc n)) _ e)
 
+pub key-positive : (n k : ℕ) → keyFits n k ≡ true → 0 < k
+unfolding keyFits
+key-positive n k e =
+    let level = and-left (leb 1 (k % 8) && leb (k % 8) (suc n)) _ e in
+    omega (arith, leb-true 1 (k % 8) (and-left (leb 1 (k % 8)) (leb (k % 8) (suc n)) level))
+
 pub alike-keys : (n k x : ℕ) → keyFits n k ≡ true → sameMark (markOf n k) (markOf n x) ≡ eqb k x
 unfolding markOf
 alike-keys n k x e = go (eqb (k % 8) (x % 8)) refl ∙ parts k x

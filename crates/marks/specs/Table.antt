@@ -53,24 +53,23 @@ unfoldable pub withoutKey : Marks → ℕ → Marks
 withoutKey t k = cleared t (placeOf (t .place) (t .set) k)
 
 -- "Set mark: 4 (2^48 or more only), 5 if the level is not 1 to 5, 6 if set already, 7 if 64 are set";
--- levels n, the keys of a table, the address and the level
+-- of n levels, the keys of a table, an address and a level
+abbrev pub setTests : ℕ → List ℕ → ℕ → ℕ → List (Bool × ℕ)
+setTests n ks a level =
+    let held : Bool = any (eqb (keyOf level (pageOf a))) ks in
+    (addressFits (ofLevels n) a, 4) ∷ (levelFits (ofLevels n) level, 5) ∷ (not held, 6) ∷ (ltb (length ks) room, 7) ∷ []
+
 unfoldable pub setRefusal : ℕ → List ℕ → ℕ → ℕ → Option ℕ
-setRefusal n ks a level = firstFailed (
-    (addressFits (ofLevels n) a, 4)
-    ∷ (levelFits (ofLevels n) level, 5)
-    ∷ (not (any (eqb (keyOf level (pageOf a))) ks), 6)
-    ∷ (ltb (length ks) room, 7)
-    ∷ []
-    )
+setRefusal n ks a level = firstFailed (setTests n ks a level)
 
 -- "Clear mark: 4, 5, 6 if not set"
+abbrev pub clearTests : ℕ → List ℕ → ℕ → ℕ → List (Bool × ℕ)
+clearTests n ks a level =
+    let held : Bool = any (eqb (keyOf level (pageOf a))) ks in
+    (addressFits (ofLevels n) a, 4) ∷ (levelFits (ofLevels n) level, 5) ∷ (held, 6) ∷ []
+
 unfoldable pub clearRefusal : ℕ → List ℕ → ℕ → ℕ → Option ℕ
-clearRefusal n ks a level = firstFailed (
-    (addressFits (ofLevels n) a, 4)
-    ∷ (levelFits (ofLevels n) level, 5)
-    ∷ (any (eqb (keyOf level (pageOf a))) ks, 6)
-    ∷ []
-    )
+clearRefusal n ks a level = firstFailed (clearTests n ks a level)
 
 -- a refusal as the code has it: its number, or 0
 abbrev pub number : Option ℕ → ℕ
