@@ -56,7 +56,7 @@ pub marks-fit : (c : Config) (t : Marks) → t .set < 2 ^ 64 → room ≤ c .mar
 unfolding marksOf
 marks-fit c t l r =
     let few : length (map (markOf (c .levels)) (keysOf t)) ≤ c .markRoom =
-        rw (length-map (keysOf t) (markOf (c .levels)), keys-count (t .place) (t .set) l) (omega (arith, ones-le 64 (t .set) l)) in
+    rw (length-map (keysOf t) (markOf (c .levels)), keys-count (t .place) (t .set) l) (omega (arith, ones-le 64 (t .set) l)) in
     rw (le-leb _ (c .markRoom) few) (fits-keys c (keysOf t))
 
 -- ---- a table that holds the book's marks

@@ -130,6 +130,7 @@ fits-keys c (k ∷ ks) =
     sorted : (s a t : Bool) → (a && (not s && t)) ≡ (not s && (a && t))
     sorted true a t = and-false a
     sorted false a t = refl
+
     go : (f : Bool) → keyFits (c .levels) k ≡ f → (a t : Bool)
         → (f && a && (not (isSet (markOf (c .levels) k) (map (markOf (c .levels)) ks)) && t)) ≡ (f && not (any (eqb k) ks) && (a && t))
     go true e a t = rw (set-keys (c .levels) k ks e) (sorted (any (eqb k) ks) a t)

@@ -1,8 +1,10 @@
 // The table of marks. A mark stands in one word, its key (specs/Key); the keys of the set places ascend in the order of the places.
 // So one pass shows that no two are alike, and a mark of the highest level stands among the first places.
 // What is called often takes the places by reference; a table is passed by value only where it changes.
+use entry::GuestVirtual;
 ghost use mathlib.Core.Path.{_≡_};
 ghost use mathlib.Core.Bool.{not, _&&_};
+ghost use mathlib.Core.List.{[]};
 ghost use lib.Count.{ones};
 ghost use lib.Dec.{eqb, ltb};
 ghost use Prim.Native.Nat.{_-_, _<_, min, max};
@@ -31,11 +33,11 @@ fn smaller(a: u64, b: u64) -> u64
 }
 
 // The key of the mark of that level at an address.
-pub fn key_of(level: u64, address: u64) -> u64
+pub fn key_of(level: u64, address: GuestVirtual) -> u64
     requires { ⌜ level < 8 ⌝ }
-    ensures { λ r. ⌜ r ≡ keyOf level (pageOf address) ⌝ }
+    ensures { λ r. ⌜ r ≡ keyOf level (pageOf (address .0)) ⌝ }
 {
-    ((address / 4096) >> (9 * level)) * 8 + level
+    ((address.0 / 4096) >> (9 * level)) * 8 + level
 }
 
 // The level of the key where the page begins with its indexes, else 0.
@@ -50,10 +52,11 @@ fn level_at(page: u64, key: u64) -> u64
     }
 }
 
-// The depth of the addresses of a page: the set places are visited in their order.
-pub fn depth(place: &[u64; 64], set: u64, page: u64) -> u64
-    ensures { λ r. ⌜ r ≡ depthOf page (keys (now (place .entry)) set) ⌝ }
+// The depth of an address: the set places are visited in their order.
+pub fn depth(place: &[u64; 64], set: u64, address: GuestVirtual) -> u64
+    ensures { λ r. ⌜ r ≡ depthOf (pageOf (address .0)) (keys (now (place .entry)) set) ⌝ }
 {
+    let page = address.page();
     let mut found = 0;
     let mut rest = set;
     while rest != 0 {
@@ -186,11 +189,17 @@ fn level_fits(levels: u64, level: u64) -> bool
 }
 
 // The number with which setting a mark is refused, or 0.
-pub fn set_refusal(place: &[u64; 64], set: u64, levels: u64, address: u64, level: u64) -> u64
+pub fn set_refusal(
+    place: &[u64; 64],
+    set: u64,
+    levels: u64,
+    address: GuestVirtual,
+    level: u64,
+) -> u64
     requires { ⌜ levels < 6 ⌝ }
-    ensures { λ r. ⌜ r ≡ number (setRefusal levels (keys (now (place .entry)) set) address level) ⌝ }
+    ensures { λ r. ⌜ r ≡ number (setRefusal levels (keys (now (place .entry)) set) (address .0) level) ⌝ }
 {
-    if !entry::GuestVirtual(address).fits(levels) {
+    if !address.fits(levels) {
         return 4;
     }
     if !level_fits(levels, level) {
@@ -206,11 +215,17 @@ pub fn set_refusal(place: &[u64; 64], set: u64, levels: u64, address: u64, level
 }
 
 // The number with which clearing a mark is refused, or 0.
-pub fn clear_refusal(place: &[u64; 64], set: u64, levels: u64, address: u64, level: u64) -> u64
+pub fn clear_refusal(
+    place: &[u64; 64],
+    set: u64,
+    levels: u64,
+    address: GuestVirtual,
+    level: u64,
+) -> u64
     requires { ⌜ levels < 6 ⌝ }
-    ensures { λ r. ⌜ r ≡ number (clearRefusal levels (keys (now (place .entry)) set) address level) ⌝ }
+    ensures { λ r. ⌜ r ≡ number (clearRefusal levels (keys (now (place .entry)) set) (address .0) level) ⌝ }
 {
-    if !entry::GuestVirtual(address).fits(levels) {
+    if !address.fits(levels) {
         return 4;
     }
     if !level_fits(levels, level) {
@@ -223,11 +238,20 @@ pub fn clear_refusal(place: &[u64; 64], set: u64, levels: u64, address: u64, lev
 }
 
 impl Marks {
-    // The depth of the addresses of a page.
-    pub fn depth(self, page: u64) -> u64
-        ensures { λ r. ⌜ r ≡ depthOf page (keys (self .place) (self .set)) ⌝ }
+    // No mark.
+    pub fn empty() -> Marks
+        ensures { λ r. ⌜ r ≡ tableOf [] ⌝ }
     {
-        depth(&self.place, self.set, page)
+        Marks {
+            set: 0,
+            place: [0u64; 64],
+        }
+    }
+
+    pub fn depth(self, address: GuestVirtual) -> u64
+        ensures { λ r. ⌜ r ≡ depthOf (pageOf (address .0)) (keys (self .place) (self .set)) ⌝ }
+    {
+        depth(&self.place, self.set, address)
     }
 
     // The table with the key, in ascending order at the first places; unchanged where no place is free.

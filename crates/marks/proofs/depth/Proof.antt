@@ -15,6 +15,9 @@ Inv-loop place set page found₀ rest₀ found rest = (rest < 2 ^ 64) × (max fo
 abbrev μ-loop : tie.MeasureT-loop
 μ-loop place set page found₀ rest₀ found rest = rest
 
+page-requires : tie.Need-page-requires Inv-loop μ-loop
+page-requires c κs = search needs
+
 loop-holds : tie.Need-loop-holds Inv-loop μ-loop
 loop-holds c = search needs
 
@@ -42,12 +45,14 @@ loop-less c = search needs
 loop-again : tie.Need-loop-again Inv-loop μ-loop
 unfolding depthOf
 loop-again c =
-    let turn = keys-turn (c .before .before .before .before .before .before .before .args .place .now) (c .before .before .before .before .before .before .loop .rest) _ _ (omega arith) (omega arith) (c .before .before .before .before .lowest .ensures .0) (c .after-lowest .ensures .0) in
-    omega (arith, c .after-lowest .ensures .1, ap (depthOf (c .before .before .before .before .before .before .before .args .page)) turn, c .before .greater .ensures, c .before .before .level-at .ensures)
+    let turn = keys-turn (c .before .before .before .before .before .before .before .before .args .place .now) (c .before .before .before .before .before .before .loop .rest) _ _ (omega arith) (omega arith) (c .before .before .before .before .lowest .ensures .0) (c .after-lowest .ensures .0) in
+    omega (arith, c .after-lowest .ensures .1, ap (depthOf (c .before .before .before .before .before .before .before .page .result)) turn, c .before .greater .ensures, c .before .before .level-at .ensures)
 
 returns : tie.Need-returns Inv-loop μ-loop
 unfolding depthOf
-returns c = omega (arith, ap (depthOf (c .before .before .args .page)) (keys-end (c .before .before .args .place .now) (c .before .loop .rest) (c .loop-test .left)))
+returns c =
+    let end = keys-end (c .before .before .before .args .place .now) (c .before .loop .rest) (c .loop-test .left) in
+    rw (← c .before .before .page .ensures) (omega (arith, ap (depthOf (c .before .before .page .result)) end))
 
 pub depth-spec : {M : Type 1} → statement M
 depth-spec =
@@ -55,6 +60,7 @@ depth-spec =
     (tie.spec
     Inv-loop
     μ-loop
+    page-requires
     loop-holds
     lowest-requires
     mul-level-at

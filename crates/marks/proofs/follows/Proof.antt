@@ -1,3 +1,5 @@
+use Prim.Native.Nat.{_<_}
+use native.Mathlib.Omega.{arith}
 -- Each way goes by its test. Assumes nothing.
 use borrow.Author.Tests.{lt-ltb, le-ltb}
 use borrow.Author.Needs.{needs}
@@ -8,7 +10,9 @@ key-fits-requires : tie.Need-key-fits-requires
 key-fits-requires c κs = search needs
 
 returns : tie.Need-returns
-returns c = rw (lt-ltb _ _ (c .before .if1 .taken)) (c .key-fits .ensures)
+returns c =
+    let next : c .before .before .args .last < c .before .before .args .key = omega arith in
+    rw (lt-ltb _ _ next) (c .key-fits .ensures)
 
 returns-2 : tie.Need-returns-2
 returns-2 c = rw (le-ltb _ _ (c .if1 .left))

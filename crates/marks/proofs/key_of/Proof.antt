@@ -16,10 +16,10 @@ shr-result : tie.Need-shr-result
 shr-result c = search needs
 
 mul-result-2 : tie.Need-mul-result-2
-mul-result-2 c = omega (arith, shr-le (c .args .address / 4096) (9 * c .args .level))
+mul-result-2 c = omega (arith, shr-le (c .before .args .address .0 / 4096) (9 * c .before .args .level))
 
 add-result : tie.Need-add-result
-add-result c = omega (arith, shr-le (c .args .address / 4096) (9 * c .args .level))
+add-result c = omega (arith, shr-le (c .before .args .address .0 / 4096) (9 * c .before .args .level))
 
 returns : tie.Need-returns
 unfolding keyOf pageOf

@@ -1,10 +1,11 @@
 -- Each refusal by its test, in their order. Assumes nothing.
+use lib.ListN.{length}
 use mathlib.Core.Path.{sym, _∙_}
-use Prim.Native.Nat.{_<_}
+use Prim.Native.Nat.{_<_, _≤_}
 use native.Mathlib.Omega.{arith}
 use borrow.Author.Tests.{not-true, not-false, lt-ltb, le-ltb}
 use Rattle.marks.proofs.Ascending.{level-below}
-use Rattle.marks.specs.Table.{setRefusal}
+use Rattle.marks.specs.Table.{keys, setRefusal}
 use Rattle.marks.proofs.Turn.{keys-count}
 use borrow.Author.Needs.{needs}
 use Rattle.marks.proofs.set_refusal.Statement.{statement}
@@ -40,13 +41,13 @@ count-requires c κs = search needs
 returns-4 : tie.Need-returns-4
 unfolding setRefusal
 returns-4 c =
-    let free = rw (c .before .count .ensures, ← keys-count (c .before .before .before .before .before .before .before .before .before .args .place .now) (c .before .before .before .before .before .before .before .before .before .args .set) (omega arith)) at (c .if4 .taken) in
+    let free : length (keys (c .before .before .before .before .before .before .before .before .before .args .place .now) (c .before .before .before .before .before .before .before .before .before .args .set)) < 64 = omega (arith, c .before .count .ensures, keys-count (c .before .before .before .before .before .before .before .before .before .args .place .now) (c .before .before .before .before .before .before .before .before .before .args .set) (omega arith)) in
     rw (← c .before .before .before .before .before .before .before .before .fits2 .ensures, not-false (c .before .before .before .before .before .before .before .before .fits2 .result) (c .before .before .before .before .before .before .before .if1 .left), ← c .before .before .before .before .before .before .level-fits .ensures, not-false (c .before .before .before .before .before .before .level-fits .result) (c .before .before .before .before .before .if2 .left), ← c .before .before .before .before .key-of .ensures, ← c .before .before .before .holds .ensures, c .before .before .if3 .left, lt-ltb _ 64 free)
 
 returns-5 : tie.Need-returns-5
 unfolding setRefusal
 returns-5 c =
-    let full = rw (c .before .count .ensures, ← keys-count (c .before .before .before .before .before .before .before .before .before .args .place .now) (c .before .before .before .before .before .before .before .before .before .args .set) (omega arith)) at (c .if4 .left) in
+    let full : 64 ≤ length (keys (c .before .before .before .before .before .before .before .before .before .args .place .now) (c .before .before .before .before .before .before .before .before .before .args .set)) = omega (arith, c .before .count .ensures, keys-count (c .before .before .before .before .before .before .before .before .before .args .place .now) (c .before .before .before .before .before .before .before .before .before .args .set) (omega arith)) in
     rw (← c .before .before .before .before .before .before .before .before .fits2 .ensures, not-false (c .before .before .before .before .before .before .before .before .fits2 .result) (c .before .before .before .before .before .before .before .if1 .left), ← c .before .before .before .before .before .before .level-fits .ensures, not-false (c .before .before .before .before .before .before .level-fits .result) (c .before .before .before .before .before .if2 .left), ← c .before .before .before .before .key-of .ensures, ← c .before .before .before .holds .ensures, c .before .before .if3 .left, le-ltb _ 64 full)
 
 pub set-refusal-spec : {M : Type 1} → statement M
