@@ -142,7 +142,7 @@ module _ (a : Area) where
       one = descend-out p m (getD guests (d + 1) 0) (a .levels - (d + 1)) f i h k
 
       go : (w : Way) → AreaGood a w → ((t : ℕ) → In t → Kept (step .memory) (downOf a guests (step .went .pool) (step .memory) (d + 1) t j is e))
-          → Kept m (onWay w (end (step .went .pool) Not (step .memory)) (end (step .went .pool) Bad (step .memory)) (λ t. downOf a guests (step .went .pool) (step .memory) (d + 1) t j is e))
+          → Kept m (onWay w (end (step .went .pool) Bad (step .memory)) (end (step .went .pool) Bad (step .memory)) (λ t. downOf a guests (step .went .pool) (step .memory) (d + 1) t j is e))
       go (To t) g next = after m (step .memory) _ (next t g) one
       go Not g next = one
       go Bad g next = one
@@ -185,7 +185,7 @@ module _ (a : Area) where
         one = enter-out p m (getD guests 0 0) .0
 
         go : (w : Way) → AreaGood a w
-            → Kept m (onWay w (end (step .went .pool) Not (step .memory)) (end (step .went .pool) Bad (step .memory)) (λ t. downOf a guests (step .went .pool) (step .memory) 0 t i is e))
+            → Kept m (onWay w (end (step .went .pool) Bad (step .memory)) (end (step .went .pool) Bad (step .memory)) (λ t. downOf a guests (step .went .pool) (step .memory) 0 t i is e))
         go (To t) g = after m (step .memory) _ (down-out is guests (step .went .pool) (step .memory) 0 t i e g k n) one
         go Not g = one
         go Bad g = one

@@ -63,10 +63,10 @@ unfoldable pub descendOf : Area → Pool → List ℕ → ℕ → ℕ → ℕ �
 descendOf a p m guest level f i =
     onWay (hopOf (a .base) (a .size) (entryIn m f i)) (hangOf a p m guest level f i) (end p Bad m) (λ h. end p (To h) m)
 
--- on with the table that a step leads to
+-- on with the table that a step leads to; where there is none, though there was room for all, the memory is damaged
 abbrev pub onward : End → (Pool → List ℕ → ℕ → End) → End
 onward t next =
-    onWay (t .went .way) (end (t .went .pool) Not (t .memory)) (end (t .went .pool) Bad (t .memory)) (next (t .went .pool) (t .memory))
+    onWay (t .went .way) (end (t .went .pool) Bad (t .memory)) (end (t .went .pool) Bad (t .memory)) (next (t .went .pool) (t .memory))
 
 -- in table f of depth d at index i, and then by the indexes that are left; guests are the host frames by depth
 unfoldable pub downOf : Area → List ℕ → Pool → List ℕ → ℕ → ℕ → ℕ → List ℕ → ℕ → End

@@ -447,7 +447,7 @@ pub fn down(
             Way::Not => {
                 return Went {
                     pool: cur,
-                    way: Way::Not,
+                    way: Way::Bad,
                 };
             }
             Way::Bad => {
@@ -478,7 +478,7 @@ pub fn place(a: Area, guests: &[u64], p: Pool, mem: &mut [u64], g: u64, k: u64, 
         Way::To(f) => down(a, guests, q, mem, f, g, k, e),
         Way::Not => Went {
             pool: q,
-            way: Way::Not,
+            way: Way::Bad,
         },
         Way::Bad => Went {
             pool: q,
