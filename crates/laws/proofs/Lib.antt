@@ -7,3 +7,6 @@ pub mod Granted
 pub mod Counts
 pub mod Depth
 pub mod Runs
+pub mod Asks
+pub mod Trail
+pub mod Keeps

@@ -1,0 +1,14 @@
+use Prim.Native.Nat.{_+_, _-_}
+use native.Mathlib.Omega.{arith}
+use Rattle.area.proofs.Laws.{leb-same}
+use Rattle.area.proofs.fits.Statement.{statement}
+use Rattle.area.proofs.fits.Tie as tie
+
+returns : tie.Need-returns
+returns c = leb-same (c .before .args .n) (c .before .args .size - c .before .args .used) (c .before .args .used + c .before .args .n) (c .before .args .size) (omega arith) (omega arith)
+
+returns-2 : tie.Need-returns-2
+returns-2 c = leb-same (c .before .args .used) (c .before .args .size) (c .before .args .used + c .before .args .n) (c .before .args .size) (omega arith) (omega arith)
+
+pub fits-spec : {M : Type 1} → statement M
+fits-spec = tie.close (tie.spec returns returns-2)

@@ -1,0 +1,69 @@
+use Prim.Native.Nat.{_-_}
+use native.Mathlib.Omega.{arith}
+use mathlib.Core.Path.{_≡_, ap, _∙_}
+use mathlib.Core.List.{_∷_}
+use Rattle.spec.specs.Entry.{index, indexes}
+use Rattle.area.specs.Tree.{roomOf, insertOf}
+use Rattle.area.proofs.Laws.{indexes-step}
+use borrow.Author.Needs.{needs}
+use Rattle.area.proofs.insert.Statement.{statement}
+use Rattle.area.proofs.insert.Tie as tie
+
+seen : (c : tie.After-room) →
+    let a = c .before .before .before .before .args in
+    c .room .result ≡ roomOf (a .a) (a .p) (a .mem .now) (index (a .k - 1) (a .g) ∷ indexes (a .k - 1) (a .g))
+seen c =
+    let a = c .before .before .before .before .args in
+    c .room .ensures ∙ ap (roomOf (a .a) (a .p) (a .mem .now)) (indexes-step (a .k) (a .g) (omega arith))
+
+room-requires : tie.Need-room-requires
+room-requires c κs = search needs
+
+enum-known-n : tie.Need-enum-known-n
+enum-known-n c = search needs
+
+place-requires : tie.Need-place-requires
+place-requires c κs = search needs
+
+enum-told : tie.Need-enum-told
+enum-told c = search needs
+
+enum-told-2 : tie.Need-enum-told-2
+enum-told-2 c = search needs
+
+same-length : tie.Need-same-length
+same-length c = search needs
+
+returns : tie.Need-returns
+unfolding insertOf
+returns c = rw (indexes-step (c .before .before .before .before .before .before .before .before .before .before .before .args .k) (c .before .before .before .before .before .before .before .before .before .before .before .args .g) (omega arith), ← seen (c .before .before .before .before .before .before .before), c .before .before .before .before .before .n .given .1) (c .before .before .place .ensures)
+
+same-length-2 : tie.Need-same-length-2
+same-length-2 c = search needs
+
+returns-2 : tie.Need-returns-2
+unfolding insertOf
+returns-2 c = rw (indexes-step (c .before .before .before .before .before .before .args .k) (c .before .before .before .before .before .before .args .g) (omega arith), ← seen (c .before .before), c .enum-told .given .1)
+
+same-length-3 : tie.Need-same-length-3
+same-length-3 c = search needs
+
+returns-3 : tie.Need-returns-3
+unfolding insertOf
+returns-3 c = rw (indexes-step (c .before .before .before .before .before .before .args .k) (c .before .before .before .before .before .before .args .g) (omega arith), ← seen (c .before .before), c .enum-told2 .given .1)
+
+pub insert-spec : {M : Type 1} → statement M
+insert-spec =
+    tie.close
+    (tie.spec
+    room-requires
+    enum-known-n
+    place-requires
+    enum-told
+    enum-told-2
+    same-length
+    returns
+    same-length-2
+    returns-2
+    same-length-3
+    returns-3)

@@ -1,0 +1,14 @@
+use Rattle.area.specs.Header.{levelOf}
+use borrow.Author.Needs.{needs}
+use Rattle.area.proofs.level.Statement.{statement}
+use Rattle.area.proofs.level.Tie as tie
+
+high-requires : tie.Need-high-requires
+high-requires c κs = search needs
+
+returns : tie.Need-returns
+unfolding levelOf
+returns c = rw (← c .high .ensures)
+
+pub level-spec : {M : Type 1} → statement M
+level-spec = tie.close (tie.spec high-requires returns)

@@ -1,0 +1,58 @@
+use native.Mathlib.Omega.{arith}
+use Rattle.area.specs.Tree.{tableOf}
+use Rattle.area.proofs.Laws.{take-good}
+use borrow.Author.Needs.{needs}
+use Rattle.area.proofs.new_table.Statement.{statement}
+use Rattle.area.proofs.new_table.Tie as tie
+
+take-frame-requires : tie.Need-take-frame-requires
+take-frame-requires c κs = search needs
+
+enum-known-way : tie.Need-enum-known-way
+enum-known-way c = search needs
+
+write-header-requires : tie.Need-write-header-requires
+write-header-requires c κs = let good = rw (c .before .before .way .given .1) at (rw (← c .before .before .before .before .before .before .take-frame .ensures) at (take-good (c .before .before .before .before .before .before .before .before .before .args .a) (c .before .before .before .before .before .before .before .before .before .args .p) (c .before .before .before .before .before .before .before .before .before .args .mem .now))) in omega arith
+
+enum-told : tie.Need-enum-told
+enum-told c = search needs
+
+enum-told-2 : tie.Need-enum-told-2
+enum-told-2 c = search needs
+
+same-length : tie.Need-same-length
+same-length c = search needs
+
+returns : tie.Need-returns
+unfolding tableOf
+returns c = rw (← c .before .before .before .before .before .before .before .before .before .take-frame .ensures, c .before .before .before .before .before .way .given .1, c .before .before .write-header .ensures)
+
+same-length-2 : tie.Need-same-length-2
+same-length-2 c = search needs
+
+returns-2 : tie.Need-returns-2
+unfolding tableOf
+returns-2 c = rw (← c .before .before .before .before .take-frame .ensures, c .enum-told .given .1)
+
+same-length-3 : tie.Need-same-length-3
+same-length-3 c = search needs
+
+returns-3 : tie.Need-returns-3
+unfolding tableOf
+returns-3 c = rw (← c .before .before .before .before .take-frame .ensures, c .enum-told2 .given .1)
+
+pub new-table-spec : {M : Type 1} → statement M
+new-table-spec =
+    tie.close
+    (tie.spec
+    take-frame-requires
+    enum-known-way
+    write-header-requires
+    enum-told
+    enum-told-2
+    same-length
+    returns
+    same-length-2
+    returns-2
+    same-length-3
+    returns-3)

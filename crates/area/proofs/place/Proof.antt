@@ -1,0 +1,62 @@
+use native.Mathlib.Omega.{arith}
+use Rattle.area.specs.Tree.{placeOf}
+use Rattle.area.proofs.Laws.{enter-fits}
+use borrow.Author.Needs.{needs}
+use Rattle.area.proofs.place.Statement.{statement}
+use Rattle.area.proofs.place.Tie as tie
+
+word-at-requires : tie.Need-word-at-requires
+word-at-requires c κs = search needs
+
+enter-requires : tie.Need-enter-requires
+enter-requires c κs = search needs
+
+enum-known-way : tie.Need-enum-known-way
+enum-known-way c = search needs
+
+down-requires : tie.Need-down-requires
+down-requires c κs = let good = rw (c .before .before .way .given .1) at (rw (← c .before .before .before .before .before .before .before .enter .ensures) at (enter-fits (c .before .before .before .before .before .before .before .before .before .before .before .before .args .a) (c .before .before .before .before .before .before .before .before .before .before .before .before .args .p) (c .before .before .before .before .before .before .before .before .before .before .before .before .args .mem .now) (c .before .before .before .before .before .before .before .before .before .word-at .result))) in (omega arith, omega arith, omega arith, omega arith, omega arith)
+
+enum-told : tie.Need-enum-told
+enum-told c = search needs
+
+enum-told-2 : tie.Need-enum-told-2
+enum-told-2 c = search needs
+
+same-length : tie.Need-same-length
+same-length c = search needs
+
+returns : tie.Need-returns
+unfolding placeOf
+returns c = rw (← c .before .before .before .before .before .before .before .before .before .before .before .before .word-at .ensures, ← c .before .before .before .before .before .before .before .before .before .before .enter .ensures, c .before .before .before .before .before .way .given .1) (c .before .before .down .ensures)
+
+same-length-2 : tie.Need-same-length-2
+same-length-2 c = search needs
+
+returns-2 : tie.Need-returns-2
+unfolding placeOf
+returns-2 c = rw (← c .before .before .before .before .before .before .before .word-at .ensures, ← c .before .before .before .before .before .enter .ensures, c .enum-told .given .1)
+
+same-length-3 : tie.Need-same-length-3
+same-length-3 c = search needs
+
+returns-3 : tie.Need-returns-3
+unfolding placeOf
+returns-3 c = rw (← c .before .before .before .before .before .before .before .word-at .ensures, ← c .before .before .before .before .before .enter .ensures, c .enum-told2 .given .1)
+
+pub place-spec : {M : Type 1} → statement M
+place-spec =
+    tie.close
+    (tie.spec
+    word-at-requires
+    enter-requires
+    enum-known-way
+    down-requires
+    enum-told
+    enum-told-2
+    same-length
+    returns
+    same-length-2
+    returns-2
+    same-length-3
+    returns-3)

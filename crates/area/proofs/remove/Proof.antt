@@ -1,0 +1,77 @@
+use Prim.Native.Nat.{_-_}
+use native.Mathlib.Omega.{arith}
+use Rattle.spec.specs.Entry.{index, indexes}
+use Rattle.area.specs.Remove.{removeOf}
+use Rattle.area.proofs.Laws.{indexes-step, indexes-last, last-small}
+use Rattle.entry.proofs.Entries.{index-fits}
+use Rattle.entry.proofs.Indexes.{indexes-length}
+use borrow.Author.Needs.{needs}
+use Rattle.area.proofs.remove.Statement.{statement}
+use Rattle.area.proofs.remove.Tie as tie
+
+top-requires : tie.Need-top-requires
+top-requires c κs = search needs
+
+last-table-requires : tie.Need-last-table-requires
+last-table-requires c κs = search needs
+
+enum-known-f : tie.Need-enum-known-f
+enum-known-f c = search needs
+
+sub-clear : tie.Need-sub-clear
+sub-clear c = search needs
+
+index-at-requires : tie.Need-index-at-requires
+index-at-requires c κs = search needs
+
+clear-requires : tie.Need-clear-requires
+clear-requires c κs =
+    let good = rw (← c .before .before .before .before .before .last-table .ensures, c .before .before .before .f .given .1) at (last-small (c .before .before .before .before .before .before .before .before .before .args .a .base) (c .before .before .before .before .before .before .before .before .before .args .a .size) (c .before .before .before .before .before .before .before .before .before .args .mem .now) (c .before .before .before .before .before .before .before .top .result) (index (c .before .before .before .before .before .before .before .before .before .args .k - 1) (c .before .before .before .before .before .before .before .before .before .args .g)) (indexes (c .before .before .before .before .before .before .before .before .before .args .k - 1) (c .before .before .before .before .before .before .before .before .before .args .g))) in
+    let i = rw (← c .index-at .ensures) at (index-fits 0 (c .before .before .before .before .before .before .before .before .before .args .g)) in
+    (good, omega arith, i)
+
+enum-told : tie.Need-enum-told
+enum-told c = search needs
+
+enum-told-2 : tie.Need-enum-told-2
+enum-told-2 c = search needs
+
+same-length : tie.Need-same-length
+same-length c = search needs
+
+returns : tie.Need-returns
+unfolding removeOf
+returns c = rw (indexes-step (c .before .before .before .before .before .before .before .before .before .before .before .before .args .k) (c .before .before .before .before .before .before .before .before .before .before .before .before .args .g) (omega arith), ← c .before .before .before .before .before .before .before .before .before .before .top .ensures, ← c .before .before .before .before .before .before .before .before .last-table .ensures, c .before .before .before .before .before .before .f .given .1, indexes-length, indexes-last, ← c .before .before .before .index-at .ensures) (c .before .before .clear .ensures)
+
+same-length-2 : tie.Need-same-length-2
+same-length-2 c = search needs
+
+returns-2 : tie.Need-returns-2
+unfolding removeOf
+returns-2 c = rw (indexes-step (c .before .before .before .before .before .before .args .k) (c .before .before .before .before .before .before .args .g) (omega arith), ← c .before .before .before .before .top .ensures, ← c .before .before .last-table .ensures, c .enum-told .given .1)
+
+same-length-3 : tie.Need-same-length-3
+same-length-3 c = search needs
+
+returns-3 : tie.Need-returns-3
+unfolding removeOf
+returns-3 c = rw (indexes-step (c .before .before .before .before .before .before .args .k) (c .before .before .before .before .before .before .args .g) (omega arith), ← c .before .before .before .before .top .ensures, ← c .before .before .last-table .ensures, c .enum-told2 .given .1)
+
+pub remove-spec : {M : Type 1} → statement M
+remove-spec =
+    tie.close
+    (tie.spec
+    top-requires
+    last-table-requires
+    enum-known-f
+    sub-clear
+    index-at-requires
+    clear-requires
+    enum-told
+    enum-told-2
+    same-length
+    returns
+    same-length-2
+    returns-2
+    same-length-3
+    returns-3)

@@ -1,0 +1,44 @@
+use Rattle.area.specs.Remove.{shutOf}
+use borrow.Author.Needs.{needs}
+use Rattle.area.proofs.shut.Statement.{statement}
+use Rattle.area.proofs.shut.Tie as tie
+
+returns : tie.Need-returns
+unfolding shutOf
+returns c = rw (c .if1 .taken)
+
+bare-requires : tie.Need-bare-requires
+bare-requires c κs = search needs
+
+set-in-requires : tie.Need-set-in-requires
+set-in-requires c κs = search needs
+
+no-tables-requires : tie.Need-no-tables-requires
+no-tables-requires c κs = search needs
+
+same-length : tie.Need-same-length
+same-length c = search needs
+
+returns-2 : tie.Need-returns-2
+unfolding shutOf
+returns-2 c = rw (c .before .before .before .before .before .before .before .before .if1 .left, ← c .before .before .before .before .before .before .bare .ensures, c .before .before .before .before .before .if2 .taken, c .no-tables .ensures, c .before .before .before .set-in .ensures)
+
+same-length-2 : tie.Need-same-length-2
+same-length-2 c = search needs
+
+returns-3 : tie.Need-returns-3
+unfolding shutOf
+returns-3 c = rw (c .before .before .before .if1 .left, ← c .before .bare .ensures, c .if2 .left)
+
+pub shut-spec : {M : Type 1} → statement M
+shut-spec =
+    tie.close
+    (tie.spec
+    returns
+    bare-requires
+    set-in-requires
+    no-tables-requires
+    same-length
+    returns-2
+    same-length-2
+    returns-3)

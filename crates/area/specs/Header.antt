@@ -1,0 +1,56 @@
+-- The words of a table. An entry is the low 52 bits of a word; the high 12 bits of words 0 to 4 hold the table's header:
+-- its level, the frame of the table above it, its slot there, and the host frame of the guest table that it stands for.
+-- Assumes nothing.
+use Prim.Native.Nat.{ℕ, zero, suc, _+_, _-_, _*_, _/_, _%_}
+use mathlib.Core.List.{List}
+use mathlib.Core.Bool.{Bool, true, false, cond}
+use lib.Dec.{ltb}
+use Rattle.spec.specs.Entry.{present}
+use Rattle.words.specs.Words.{wordIn, setIn}
+
+-- the entry at index i of the table in frame f
+unfoldable pub entryIn : List ℕ → ℕ → ℕ → ℕ
+entryIn m f i = wordIn m f i % 4503599627370496
+
+-- the header bits of word k
+unfoldable pub highOf : List ℕ → ℕ → ℕ → ℕ
+highOf m f k = wordIn m f k / 4503599627370496
+
+-- the memory with entry i of the table in frame f set to e; the header bits stay
+unfoldable pub putOf : List ℕ → ℕ → ℕ → ℕ → List ℕ
+putOf m f i e = setIn m f i (wordIn m f i / 4503599627370496 * 4503599627370496 + e % 4503599627370496)
+
+-- the host frame of the guest table
+unfoldable pub guestOf : List ℕ → ℕ → ℕ
+guestOf m f = highOf m f 0 % 4096 + highOf m f 1 % 16 * 4096
+
+-- the level of the table; 0 says that the frame is no table
+unfoldable pub levelOf : List ℕ → ℕ → ℕ
+levelOf m f = highOf m f 1 / 16 % 8
+
+-- the frame of the table above
+unfoldable pub parentOf : List ℕ → ℕ → ℕ
+parentOf m f = highOf m f 2 % 4096 + highOf m f 3 % 16 * 4096
+
+-- the index of its entry there
+unfoldable pub slotOf : List ℕ → ℕ → ℕ
+slotOf m f = highOf m f 4 % 512
+
+-- a header is written into a frame of zeros
+unfoldable pub headOf : List ℕ → ℕ → ℕ → ℕ → ℕ → ℕ → List ℕ
+headOf m f guest level parent slot =
+    setIn (setIn (setIn (setIn (setIn m
+    f 0 (guest % 4096 * 4503599627370496))
+    f 1 ((guest / 4096 % 16 + level % 8 * 16) * 4503599627370496))
+    f 2 (parent % 4096 * 4503599627370496))
+    f 3 (parent / 4096 % 16 * 4503599627370496))
+    f 4 (slot % 512 * 4503599627370496)
+
+-- is f one of the s frames from b on?
+unfoldable pub insideOf : ℕ → ℕ → ℕ → Bool
+insideOf b s f = cond (ltb f b) false (ltb (f - b) s)
+
+-- none of the first k entries is present
+unfoldable pub bareOf : List ℕ → ℕ → ℕ → Bool
+bareOf m f zero = true
+bareOf m f (suc k) = cond (present (entryIn m f k)) false (bareOf m f k)

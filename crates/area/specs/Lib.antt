@@ -1,0 +1,5 @@
+pub mod Header
+pub mod Pool
+pub mod Tree
+pub mod Remove
+pub mod Outside

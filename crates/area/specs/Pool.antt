@@ -1,0 +1,72 @@
+-- Frames of an area handed out and given back, for any memory.
+-- Assumes nothing.
+use Prim.Native.Nat.{ℕ, _+_, _*_, _-_}
+use mathlib.Core.Bool.{cond}
+use mathlib.Core.List.{List}
+use lib.Dec.{ltb}
+use Rattle.spec.specs.Entry.{present, frameOf}
+use Rattle.words.specs.Words.{wordIn, setIn, zeroed}
+use Rattle.area.specs.declared.Area.{Area}
+use Rattle.area.specs.declared.Pool.{Pool}
+use Rattle.area.specs.declared.Went.{Went}
+use Rattle.area.specs.declared.Way.{Way}
+use Rattle.area.specs.declared.Way.the-variants.{To, Not, Bad}
+use Rattle.area.specs.Header.{insideOf}
+
+-- the entry, or the link, that names a frame
+unfoldable pub link : ℕ → ℕ
+link f = f * 4096 + 1
+
+-- what an entry says in the area of s frames from b on
+unfoldable pub hopOf : ℕ → ℕ → ℕ → Way
+hopOf b s e = cond (present e) (cond (insideOf b s (frameOf e)) (To (frameOf e)) Bad) Not
+
+-- by cases: x for Not, y for Bad
+abbrev pub onWay : {X : Type 0} → Way → X → X → (ℕ → X) → X
+onWay (To f) x y next = next f
+onWay Not x y next = x
+onWay Bad x y next = y
+
+-- everything that a step leaves
+pub record End : Type 0 where
+  pub went : Went
+  pub memory : List ℕ
+
+abbrev pub ends : Went → List ℕ → End
+ends w m = record { went = w; memory = m }
+
+abbrev pub end : Pool → Way → List ℕ → End
+end p d m = ends (record { pool = p; way = d }) m
+
+abbrev pub poolOf : ℕ → ℕ → ℕ → Pool
+poolOf n l u = record { fresh = n; free = l; used = u }
+
+-- nothing is in use; "all held paths are dropped"
+unfoldable pub noneOf : Pool
+noneOf = poolOf 0 0 0
+
+-- the next frame that was never handed out
+unfoldable pub freshOf : Area → Pool → List ℕ → End
+freshOf a p m =
+    cond (ltb (p .fresh) (a .size))
+    (end (poolOf (p .fresh + 1) (p .free) (p .used + 1)) (To (a .base + p .fresh)) (zeroed m ((a .base + p .fresh) * 512) 512))
+    (end p Bad m)
+
+-- the first of the freed frames, whose word 0 links to the next
+unfoldable pub freedOf : Pool → List ℕ → ℕ → End
+freedOf p m f = end (poolOf (p .fresh) (wordIn m f 0) (p .used + 1)) (To f) (zeroed m (f * 512) 512)
+
+-- a frame of zeros; Not if all are in use, Bad if the list of freed frames leads out of the area
+unfoldable pub takeOf : Area → Pool → List ℕ → End
+takeOf a p m =
+    cond (ltb (p .used) (a .size))
+    (onWay (hopOf (a .base) (a .size) (p .free)) (freshOf a p m) (end p Bad m) (freedOf p m))
+    (end p Not m)
+
+-- a frame becomes the first of the freed ones
+unfoldable pub giveOf : Pool → ℕ → Pool
+giveOf p f = poolOf (p .fresh) (link f) (p .used - 1)
+
+-- its word 0 links to the next, and it is no table any more
+unfoldable pub backOf : List ℕ → ℕ → ℕ → List ℕ
+backOf m f next = setIn (setIn m f 0 next) f 1 0

@@ -1,0 +1,59 @@
+-- A path is removed: its entry cleared, tables that are empty then given back, each through its link to the table above; for any memory.
+-- Assumes nothing.
+use Prim.Native.Nat.{ℕ, zero, suc}
+use mathlib.Core.Bool.{Bool, cond}
+use mathlib.Core.List.{List, [], _∷_}
+use lib.ListN.{length}
+use Rattle.spec.specs.Entry.{present}
+use Rattle.words.specs.Words.{setIn}
+use Rattle.area.specs.declared.Area.{Area}
+use Rattle.area.specs.declared.Pool.{Pool}
+use Rattle.area.specs.declared.Way.{Way}
+use Rattle.area.specs.declared.Way.the-variants.{To, Not, Bad}
+use Rattle.area.specs.Header.{entryIn, putOf, parentOf, slotOf, insideOf, bareOf}
+use Rattle.area.specs.Pool.{hopOf, onWay, End, end, noneOf, giveOf, backOf}
+use Rattle.area.specs.Tree.{topOf}
+
+-- an empty table is taken off the table above and given back: To names the table above; Not, the table is not empty
+unfoldable pub unhangOf : Area → Pool → List ℕ → ℕ → End
+unhangOf a p m f =
+    cond (bareOf m f 512)
+    (cond (insideOf (a .base) (a .size) (parentOf m f))
+    (end (giveOf p f) (To (parentOf m f)) (backOf (putOf m (parentOf m f) (slotOf m f) 0) f (p .free)))
+    (end p Bad m))
+    (end p Not m)
+
+-- the top table goes too if it is empty, unless it stays; and with it everything
+unfoldable pub shutOf : Area → Bool → Pool → List ℕ → End
+shutOf a stays p m =
+    cond stays (end p (To (a .base)) m)
+    (cond (bareOf m (a .base) 512) (end noneOf (To (a .base)) (setIn m (a .base) 1 0)) (end p (To (a .base)) m))
+
+-- table f and those above it, k of them below the top one, as far as they are empty
+unfoldable pub releaseOf : Area → Bool → Pool → List ℕ → ℕ → ℕ → End
+releaseOf a stays p m zero f = shutOf a stays p m
+releaseOf a stays p m (suc k) f =
+    let t = unhangOf a p m f in
+    onWay (t .went .way) (end (t .went .pool) (To f) (t .memory)) (end (t .went .pool) Bad (t .memory))
+    (λ h. releaseOf a stays (t .went .pool) (t .memory) k h)
+
+-- the table that holds the last entry of the path i ∷ is, on from the entry e
+unfoldable pub lastOf : ℕ → ℕ → List ℕ → ℕ → ℕ → List ℕ → Way
+lastOf b s m e i [] = hopOf b s e
+lastOf b s m e i (j ∷ is) = onWay (hopOf b s e) Not Bad (λ f. lastOf b s m (entryIn m f i) j is)
+
+-- the last index of the path i ∷ is
+unfoldable pub lastIndex : ℕ → List ℕ → ℕ
+lastIndex i [] = i
+lastIndex i (j ∷ is) = lastIndex j is
+
+-- the entry at index i of table f, which has k tables above it, is cleared
+unfoldable pub clearOf : Area → Bool → Pool → List ℕ → ℕ → ℕ → ℕ → End
+clearOf a stays p m k f i = cond (present (entryIn m f i)) (releaseOf a stays p (putOf m f i 0) k f) (end p Not m)
+
+-- a path is removed; Not, and nothing changed, if there is none
+unfoldable pub removeOf : Area → Bool → Pool → List ℕ → List ℕ → End
+removeOf a stays p m [] = end p Not m
+removeOf a stays p m (i ∷ is) =
+    onWay (lastOf (a .base) (a .size) m (topOf (a .base) (p .fresh)) i is) (end p Not m) (end p Bad m)
+    (λ f. clearOf a stays p m (length is) f (lastIndex i is))

@@ -1,0 +1,29 @@
+use Rattle.host.specs.Walk.{hostWalkOf}
+use Rattle.area.specs.Pool.{link}
+use borrow.Author.Needs.{needs}
+use Rattle.host.proofs.host_walk.Statement.{statement}
+use Rattle.host.proofs.host_walk.Tie as tie
+
+lookup-requires : tie.Need-lookup-requires
+lookup-requires c κs = search needs
+
+enum-known-entry : tie.Need-enum-known-entry
+enum-known-entry c = search needs
+
+leaf-requires : tie.Need-leaf-requires
+leaf-requires c κs = search needs
+
+enum-told : tie.Need-enum-told
+enum-told c = search needs
+
+returns : tie.Need-returns
+unfolding hostWalkOf link
+returns c = rw (← c .before .before .before .before .lookup .ensures, c .before .before .entry .given .1) (c .leaf .ensures)
+
+returns-2 : tie.Need-returns-2
+unfolding hostWalkOf link
+returns-2 c = rw (← c .before .before .lookup .ensures, c .enum-told .given .1)
+
+pub host-walk-spec : {M : Type 1} → statement M
+host-walk-spec =
+    tie.close (tie.spec lookup-requires enum-known-entry leaf-requires enum-told returns returns-2)

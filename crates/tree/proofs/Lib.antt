@@ -1,0 +1,15 @@
+pub mod Change
+pub mod Stores
+pub mod Paths
+pub mod Invariant
+pub mod Grow
+pub mod Shrink
+pub mod Find
+pub mod Insert
+pub mod Release
+pub mod Remove
+pub mod Whole
+pub mod Count
+pub mod Claim
+pub mod Starts
+pub mod Local

@@ -1,0 +1,191 @@
+-- Tables that are empty are given back, from one table up: every table left has a leaf below it.
+-- Assumes nothing.
+use mathlib.Core.Path.{_≡_, refl, sym, ap, ap₂, _∙_, subst}
+use mathlib.Core.Logic.{_≢_, _⊎_, inl, inr}
+use Prim.Native.Nat.{ℕ, zero, suc, _+_, _-_, _<_, _≤_}
+use native.Mathlib.Omega.{arith}
+use mathlib.Core.Bool.{Bool, true, false, cond}
+use mathlib.Core.List.{List, [], _∷_}
+use mathlib.Core.Option.{Option, none, some, IsSome}
+use lib.Dec.{T}
+use lib.ListN.{length}
+use Rattle.spec.specs.Entry.{present}
+use Rattle.words.specs.Words.{setIn}
+use Rattle.area.specs.declared.Area.{Area}
+use Rattle.area.specs.declared.Pool.{Pool}
+use Rattle.area.specs.declared.Way.{Way}
+use Rattle.area.specs.declared.Way.the-variants.{To, Not, Bad}
+use Rattle.area.specs.Header.{entryIn, levelOf, parentOf, bareOf}
+use Rattle.area.specs.Pool.{onWay, End, ends, end, noneOf, giveOf}
+use Rattle.area.specs.Remove.{unhangOf, shutOf, releaseOf}
+use Rattle.tree.proofs.Change.{differ, eq?, upd, upd-on, upd-other, longer, not-some, is-some}
+use Rattle.tree.proofs.Stores.{Beside, beside-refl, beside-trans}
+use Rattle.tree.proofs.Invariant.{slot, present-zero, Tables, Leaf, Exact, rooted, fresh-some}
+use Rattle.tree.proofs.Shrink.{Busy, bare-false, Unhung, unhung, unhang-is, unhang-not, Shut, shut-is, shut-not}
+use Rattle.tree.proofs.Paths.{Ext, ext-trans, ext-long}
+
+-- every table but x and its prefixes has a leaf below it
+abbrev pub ButAbove : (List ℕ → Option ℕ) → (List ℕ → ℕ) → List ℕ → Type 0
+ButAbove ts lv x = (y : List ℕ) → IsSome (ts y) → (y ≡ x) ⊎ Ext y x ⊎ Leaf lv y
+
+-- what a release leaves of the tables ts in the memory m; t is the step
+pub record Released (a : Area) (stays : Bool) (p : Pool) (m : List ℕ) (ts : List ℕ → Option ℕ) (lv guest : List ℕ → ℕ) (t : End) : Type 0 where
+  pub pool : Pool
+  pub tabs : List ℕ → Option ℕ
+  pub list : List ℕ
+  pub pres : List (List ℕ)
+  pub memory : List ℕ
+  pub frame : ℕ
+  pub done : t ≡ end pool (To frame) memory
+  pub tables : Tables a pool tabs lv guest list pres memory
+  pub exact : Exact stays tabs lv
+  pub top : T stays → IsSome (tabs [])
+  pub less : (y : List ℕ) (f : ℕ) → tabs y ≡ some f → ts y ≡ some f
+  -- of the frames handed out before, each is no table or one that is left
+  pub each : (f : ℕ) → a .base ≤ f → f < a .base + p .fresh → (levelOf memory f ≡ 0) ⊎ ((y : List ℕ) × (tabs y ≡ some f))
+  pub beside : Beside a m memory
+
+-- ---- the steps of the definition
+release-on : (a : Area) (stays : Bool) (p : Pool) (m : List ℕ) (k f : ℕ) (q : Pool) (n : List ℕ) (h : ℕ)
+    → unhangOf a p m f ≡ end q (To h) n → releaseOf a stays p m (suc k) f ≡ releaseOf a stays q n k h
+unfolding releaseOf
+release-on a stays p m k f q n h e = rw e
+
+release-end : (a : Area) (stays : Bool) (p : Pool) (m : List ℕ) (k f : ℕ) (q : Pool) (n : List ℕ)
+    → unhangOf a p m f ≡ end q Not n → releaseOf a stays p m (suc k) f ≡ end q (To f) n
+unfolding releaseOf
+release-end a stays p m k f q n e = rw e
+
+fresh-give : (p : Pool) (f : ℕ) → giveOf p f .fresh ≡ p .fresh
+unfolding giveOf
+fresh-give p f = refl
+
+module _ {a : Area} {p : Pool} {ts : List ℕ → Option ℕ} {lv guest : List ℕ → ℕ} {fl : List ℕ} {ps : List (List ℕ)} {m : List ℕ}
+    (g : Tables a p ts lv guest fl ps m) where
+  -- a table that is not empty has a leaf, if those below it have
+  pub busy : (x : List ℕ) (h : ℕ) → ts x ≡ some h → bareOf m h 512 ≡ false → ButAbove ts lv x → Leaf lv x
+  busy x h e q all = go (ts (j ∷ x)) refl
+    where
+      k : Busy m h 512
+      k = bare-false m h 512 q
+
+      j : ℕ
+      j = k .index
+
+      w : present (slot (ts (j ∷ x)) (lv (j ∷ x))) ≡ true
+      w = ap present (sym (g .word x h j e (k .less))) ∙ k .set
+
+      go : (o : Option ℕ) → ts (j ∷ x) ≡ o → Leaf lv x
+      go none c = record {
+        path = j ∷ x;
+        under = inl refl;
+        set = λ z. differ (sym w ∙ ap (λ o. present (slot o (lv (j ∷ x)))) c ∙ ap present z ∙ present-zero);
+      }
+      go (some d) c = elim (all (j ∷ x) (is-some c)) [
+        | inl u ↦ absurd (longer j x (sym u))
+        | inr u ↦ elim u [
+          | inl r ↦ absurd (let l = ext-long (j ∷ x) x r in omega arith)
+          | inr r ↦ record { path = r .path; under = ext-trans x (j ∷ x) (r .path) (inl refl) (r .under); set = r .set }
+        ]
+      ]
+
+  -- nothing more is given back
+  stop : (stays : Bool) (f : ℕ) {t : End} → t ≡ end p (To f) m → Exact stays ts lv → IsSome (ts []) → Released a stays p m ts lv guest t
+  stop stays f q ex top = record {
+    pool = p;
+    tabs = ts;
+    list = fl;
+    pres = ps;
+    memory = m;
+    frame = f;
+    done = q;
+    tables = g;
+    exact = ex;
+    top = λ k. top;
+    less = λ y h e. e;
+    each = g .each;
+    beside = beside-refl a m;
+  }
+
+  -- the top table
+  last : (stays : Bool) (h : ℕ) → ts [] ≡ some h → ButAbove ts lv [] → Released a stays p m ts lv guest (shutOf a stays p m)
+  unfolding shutOf
+  last true h e all = stop true (a .base) refl
+      (λ y k. elim (all y k) [ inl c ↦ inr (c, tt) | inr c ↦ elim c [ inl r ↦ absurd r | inr r ↦ inl r ] ]) (is-some e)
+  last false h e all = go (bareOf m (a .base) 512) refl
+    where
+      at-base : ts [] ≡ some (a .base)
+      at-base = e ∙ ap some (fresh-some g h e .1)
+
+      go : (t : Bool) → bareOf m (a .base) 512 ≡ t → Released a false p m ts lv guest (shutOf a false p m)
+      go true b =
+          let s = shut-is g h e b in
+          record {
+            pool = noneOf;
+            tabs = λ y. none;
+            list = [];
+            pres = [];
+            memory = setIn m (a .base) 1 0;
+            frame = a .base;
+            done = s .done;
+            tables = s .tables;
+            exact = λ y k. absurd k;
+            top = λ k. absurd k;
+            less = λ y f c. absurd (not-some refl c);
+            each = λ f lo hi. inl (s .levels f lo hi);
+            beside = s .beside;
+          }
+      go false b = stop false (a .base) (shut-not g b)
+          (λ y k. elim (all y k) [
+            | inl c ↦ inl (subst (Leaf lv) (sym c) (busy [] (a .base) at-base b all))
+            | inr c ↦ elim c [ inl r ↦ absurd r | inr r ↦ inl r ]
+          ]) (is-some e)
+
+-- from the table f of the prefix x up
+pub release-is : {a : Area} {p : Pool} {ts : List ℕ → Option ℕ} {lv guest : List ℕ → ℕ} {fl : List ℕ} {ps : List (List ℕ)} {m : List ℕ}
+    → Tables a p ts lv guest fl ps m → (stays : Bool) (x : List ℕ) (f : ℕ) → ts x ≡ some f → ButAbove ts lv x
+    → Released a stays p m ts lv guest (releaseOf a stays p m (length x) f)
+unfolding releaseOf
+release-is g stays [] f e all = last g stays f e all
+release-is {a = a} {p = p} {ts = ts} {lv = lv} {guest = guest} {m = m} g stays (i ∷ x) f e all = go (bareOf m f 512) refl
+    (λ u. release-is (u .tables) stays x (parentOf m f) (upd-other ts (i ∷ x) none x (λ q. longer i x (sym q)) ∙ g .link i x f e .0) (λ y k. rest y k (eq? (i ∷ x) y)))
+  where
+    rest : (y : List ℕ) → IsSome (upd ts (i ∷ x) none y) → Dec (i ∷ x ≡ y) → (y ≡ x) ⊎ Ext y x ⊎ Leaf lv y
+    rest y k (yes q) = absurd (subst IsSome (upd-on ts (i ∷ x) none y q) k)
+    rest y k (no q) = elim (all y (subst IsSome (upd-other ts (i ∷ x) none y q) k)) [
+      | inl c ↦ absurd (q (sym c))
+      | inr c ↦ elim c [ inl r ↦ elim r [ inl d ↦ inl d | inr d ↦ inr (inl d) ] | inr r ↦ inr (inr r) ]
+    ]
+
+    fewer : (y : List ℕ) (h : ℕ) → upd ts (i ∷ x) none y ≡ some h → Dec (i ∷ x ≡ y) → ts y ≡ some h
+    fewer y h t (yes q) = absurd (not-some (upd-on ts (i ∷ x) none y q) t)
+    fewer y h t (no q) = sym (upd-other ts (i ∷ x) none y q) ∙ t
+
+    go : (t : Bool) → bareOf m f 512 ≡ t
+        → (Unhung g i x f → Released a stays (giveOf p f) (unhung g f) (upd ts (i ∷ x) none) lv guest (releaseOf a stays (giveOf p f) (unhung g f) (length x) (parentOf m f)))
+        → Released a stays p m ts lv guest (releaseOf a stays p m (suc (length x)) f)
+    go true b ih =
+        let u = unhang-is g i x f e b in
+        let d = ih u in
+        record {
+          pool = d .pool;
+          tabs = d .tabs;
+          list = d .list;
+          pres = d .pres;
+          memory = d .memory;
+          frame = d .frame;
+          done = release-on a stays p m (length x) f (giveOf p f) (unhung g f) (parentOf m f) (u .done) ∙ d .done;
+          tables = d .tables;
+          exact = d .exact;
+          top = d .top;
+          less = λ y h t. fewer y h (d .less y h t) (eq? (i ∷ x) y);
+          each = λ h lo hi. d .each h lo (rw fresh-give hi);
+          beside = beside-trans (u .beside) (d .beside);
+        }
+    go false b ih =
+        let k = busy g (i ∷ x) f e b all in
+        stop g stays f (release-end a stays p m (length x) f p m (unhang-not g f b))
+        (λ y c. elim (all y c) [
+          | inl d ↦ inl (subst (Leaf lv) (sym d) k)
+          | inr d ↦ elim d [ inl r ↦ inl (record { path = k .path; under = ext-trans y (i ∷ x) (k .path) r (k .under); set = k .set }) | inr r ↦ inl r ]
+        ]) (rooted g (i ∷ x) f e)

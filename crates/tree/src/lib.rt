@@ -1,0 +1,1 @@
+// Laws of the table area, by paths; no code.

@@ -1,0 +1,62 @@
+use Rattle.host.specs.Walk.{config}
+use Rattle.host.proofs.Laws.{host-fits}
+use native.Mathlib.Omega.{arith}
+use Rattle.walk.proofs.Laws.{page-step}
+use borrow.Author.Needs.{needs}
+use Rattle.walk.proofs.to_page.Statement.{statement}
+use Rattle.walk.proofs.to_page.Tie as tie
+
+granted-requires : tie.Need-granted-requires
+granted-requires c κs = search needs
+
+host-walk-requires : tie.Need-host-walk-requires
+host-walk-requires c κs = search needs
+
+enum-known-page : tie.Need-enum-known-page
+enum-known-page c = search needs
+
+add-to-found : tie.Need-add-to-found
+add-to-found c = search needs
+
+to-found-requires : tie.Need-to-found-requires
+to-found-requires c κs = search needs
+
+enum-known-reads : tie.Need-enum-known-reads
+enum-known-reads c = search needs
+
+add-t16 : tie.Need-add-t16
+add-t16 c =
+    let good = rw (← c .before .before .before .host-walk .ensures, c .before .reads .given .1) at (host-fits (config (c .before .before .before .before .before .before .before .args .l)) (c .before .before .before .before .before .before .before .args .mem .now) (c .before .before .before .before .before .before .before .args .g .0)) in
+    omega (arith, good, c .before .before .before .before .before .before .before .pre)
+
+enum-told : tie.Need-enum-told
+enum-told c = search needs
+
+returns : tie.Need-returns
+returns c = rw (page-step (config (c .before .before .before .before .before .before .before .before .before .args .l)) (c .before .before .before .before .before .before .before .before .before .args .mem .now) (c .before .before .before .before .before .before .before .before .before .args .read) (c .before .before .before .before .before .before .before .before .before .args .store) (c .before .before .before .before .before .before .before .before .before .args .g .0) (c .before .before .before .before .before .before .before .before .before .args .right), ← c .before .before .before .before .before .before .before .granted .ensures, c .before .before .before .before .before .before .if1 .taken, ← c .before .before .before .before .before .host-walk .ensures, c .before .before .before .page .given .1) (c .to-found .ensures)
+
+returns-2 : tie.Need-returns-2
+returns-2 c = rw (page-step (config (c .before .before .before .before .before .before .before .args .l)) (c .before .before .before .before .before .before .before .args .mem .now) (c .before .before .before .before .before .before .before .args .read) (c .before .before .before .before .before .before .before .args .store) (c .before .before .before .before .before .before .before .args .g .0) (c .before .before .before .before .before .before .before .args .right), ← c .before .before .before .before .before .granted .ensures, c .before .before .before .before .if1 .taken, ← c .before .before .before .host-walk .ensures, c .before .reads .given .1)
+
+returns-3 : tie.Need-returns-3
+returns-3 c = rw (page-step (config (c .before .before .before .before .before .before .args .l)) (c .before .before .before .before .before .before .args .mem .now) (c .before .before .before .before .before .before .args .read) (c .before .before .before .before .before .before .args .store) (c .before .before .before .before .before .before .args .g .0) (c .before .before .before .before .before .before .args .right), ← c .before .before .before .before .granted .ensures, c .before .before .before .if1 .taken, ← c .before .before .host-walk .ensures, c .enum-told .given .1)
+
+returns-4 : tie.Need-returns-4
+returns-4 c = rw (page-step (config (c .before .before .before .args .l)) (c .before .before .before .args .mem .now) (c .before .before .before .args .read) (c .before .before .before .args .store) (c .before .before .before .args .g .0) (c .before .before .before .args .right), ← c .before .granted .ensures, c .if1 .left)
+
+pub to-page-spec : {M : Type 1} → statement M
+to-page-spec =
+    tie.close
+    (tie.spec
+    granted-requires
+    host-walk-requires
+    enum-known-page
+    add-to-found
+    to-found-requires
+    enum-known-reads
+    add-t16
+    enum-told
+    returns
+    returns-2
+    returns-3
+    returns-4)

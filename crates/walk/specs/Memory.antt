@@ -1,0 +1,69 @@
+-- The plain walk over the words of the lent memory, damaged memory too: the specification's own walk, answered by memory.
+-- Assumes nothing.
+use Prim.Native.Nat.{ℕ, _+_, _<_, _≤_}
+use mathlib.Core.Bool.{Bool, not, _&&_, _||_, cond}
+use mathlib.Core.List.{List}
+use mathlib.Core.Option.{Option, none, some}
+use lib.Dec.{eqb}
+use Rattle.spec.specs.declared.Fault.{Fault}
+use Rattle.spec.specs.declared.Fault.the-variants.{Absent, Malformed, Protected, HostAbsent, HostReadOnly}
+use Rattle.spec.specs.Config.{Config}
+use Rattle.spec.specs.Walk.{Walk, World, Trace, Result, granted, failed, trace, _>>=_}
+use Rattle.spec.specs.Plain.{Place, entry, next}
+use Rattle.entry.specs.declared.HostPhysical.{HostPhysical}
+use Rattle.words.specs.Words.{wordIn}
+use Rattle.host.specs.declared.HostWalk.{HostWalk}
+use Rattle.host.specs.declared.HostWalk.the-variants as host
+use Rattle.host.specs.Walk.{hostWalkOf, page}
+use Rattle.walk.specs.declared.Walked.{Walked}
+use Rattle.walk.specs.declared.Walked.the-variants as walked
+
+-- ---- memory answers
+
+abbrev pub placeOf : HostWalk → Option Place
+placeOf (host.Found p w) = some (p .0, w)
+placeOf (host.Absent n) = none
+placeOf host.Damaged = none
+
+abbrev pub readsOf : Config → HostWalk → ℕ
+readsOf c (host.Found p w) = c .levels
+readsOf c (host.Absent n) = n
+readsOf c host.Damaged = 0
+
+-- host walks by the host tables, and the words as they stand. A host walk that meets damage ends the walk as one that finds
+-- nothing does; which of the two it was, `walkedBy` tells
+unfoldable pub memoryWorld : Config → List ℕ → World
+memoryWorld c m = record {
+  hostAt = λ g. placeOf (hostWalkOf c m g);
+  hostCost = λ g. readsOf c (hostWalkOf c m g);
+  wordAt = wordIn m;
+}
+
+-- ---- what the code answers
+
+abbrev pub absentBy : HostWalk → Walked → Walked
+absentBy (host.Found p w) r = r
+absentBy (host.Absent n) r = r
+absentBy host.Damaged r = walked.Damaged
+
+-- a result with n words read
+abbrev pub walkedBy : Config → List ℕ → Result Fault Place → ℕ → Walked
+walkedBy c m (granted p) n = walked.Arrived (page (p .0)) (p .1) n
+walkedBy c m (failed (Absent l)) n = walked.Faulted (Absent l) n
+walkedBy c m (failed (Malformed l)) n = walked.Faulted (Malformed l) n
+walkedBy c m (failed (Protected l)) n = walked.Faulted (Protected l) n
+walkedBy c m (failed (HostAbsent g)) n = absentBy (hostWalkOf c m g) (walked.Faulted (HostAbsent g) n)
+walkedBy c m (failed (HostReadOnly g)) n = walked.Faulted (HostReadOnly g) n
+
+-- a walk over memory, after n words read
+unfoldable pub walkedOf : Config → List ℕ → ℕ → Walk Fault Place → Walked
+walkedOf c m n p = walkedBy c m ((trace (memoryWorld c m) p) .result) (n + (trace (memoryWorld c m) p) .count)
+
+-- one level of the walk: the entry at index i of the table in frame t, and on to the frame that it names
+unfoldable pub turn : Config → Bool → ℕ → ℕ → ℕ → Bool → Walk Fault Place
+turn c st level t i w = entry c level t i >>= λ e. next st (eqb level 1) (e .0) (w && e .1)
+
+-- a page is found: "for a store, a page whose level 1 host entry is not writable is fault W"
+unfoldable pub foundOf : Bool → ℕ → HostPhysical → Bool → Bool → ℕ → Walked
+foundOf st g p writable right n =
+    cond (not st || writable) (walked.Arrived p (right && writable) n) (walked.Faulted (HostReadOnly g) n)

@@ -1,0 +1,261 @@
+// The plain walk: from a guest-virtual address to the host frame of its page, by the guest's tables and then the host's.
+// One loop serves the whole walk, its upper part and its lower part.
+ghost use mathlib.Core.Path.{_≡_};
+ghost use mathlib.Core.Bool.{true, false, _&&_, _||_, not};
+ghost use Prim.Native.Nat.{_+_, _<_, _≤_};
+ghost use lib.Dec.{eqb};
+ghost use Rattle.spec.specs.Entry.{indexes, pageOf};
+ghost use Rattle.spec.specs.Plain.{next, levels, walk};
+ghost use Rattle.host.specs.Walk.{LayoutFits, config};
+ghost use Rattle.walk.specs.Memory.{foundOf, walkedOf, turn};
+use entry::GuestPhysical;
+use entry::HostPhysical;
+use host::HostWalk;
+use host::Layout;
+use spec::Fault;
+
+// What a walk comes to, with the words read: where it arrived and whether stores pass, why it stopped, or damaged tables.
+pub enum Walked {
+    Arrived {
+        page: HostPhysical,
+        writable: bool,
+        reads: u64,
+    },
+    Faulted {
+        fault: Fault,
+        reads: u64,
+    },
+    Damaged,
+}
+
+// Whether a request with this write right is granted: a load needs none.
+pub fn granted(store: bool, right: bool) -> bool
+    ensures { λ r. ⌜ r ≡ (not store || right) ⌝ }
+{
+    if store { right } else { true }
+}
+
+pub fn both(a: bool, b: bool) -> bool
+    ensures { λ r. ⌜ r ≡ (a && b) ⌝ }
+{
+    if a { b } else { false }
+}
+
+// On to the guest table in frame g. Reading a table needs no write right.
+pub fn to_table(mem: &[u64], l: Layout, g: GuestPhysical, right: bool, read: u64) -> Walked
+    requires { ⌜ (LayoutFits l) × (read ≤ 65536) ⌝ }
+    ensures { λ r. ⌜ r ≡ walkedOf (config l) (now (mem .entry)) read (next false false (g .0) right) ⌝ }
+{
+    match host::host_walk(mem, l, g) {
+        HostWalk::Found { page, writable } => Walked::Arrived {
+            page: page,
+            writable: right,
+            reads: read + l.levels,
+        },
+        HostWalk::Absent { reads } => Walked::Faulted {
+            fault: Fault::HostAbsent(g.0),
+            reads: read + reads,
+        },
+        HostWalk::Damaged => Walked::Damaged,
+    }
+}
+
+// The page is found: a store needs its write right.
+pub fn to_found(
+    store: bool,
+    g: GuestPhysical,
+    page: HostPhysical,
+    writable: bool,
+    right: bool,
+    reads: u64,
+) -> Walked
+    ensures { λ r. ⌜ r ≡ foundOf store (g .0) page writable right reads ⌝ }
+{
+    if granted(store, writable) {
+        Walked::Arrived {
+            page: page,
+            writable: both(right, writable),
+            reads: reads,
+        }
+    } else {
+        Walked::Faulted {
+            fault: Fault::HostReadOnly(g.0),
+            reads: reads,
+        }
+    }
+}
+
+// On to the page in frame g.
+pub fn to_page(
+    mem: &[u64],
+    l: Layout,
+    store: bool,
+    g: GuestPhysical,
+    right: bool,
+    read: u64,
+) -> Walked
+    requires { ⌜ (LayoutFits l) × (read ≤ 65536) ⌝ }
+    ensures { λ r. ⌜ r ≡ walkedOf (config l) (now (mem .entry)) read (next store true (g .0) right) ⌝ }
+{
+    if granted(store, right) {
+        match host::host_walk(mem, l, g) {
+            HostWalk::Found { page, writable } => to_found(
+                store,
+                g,
+                page,
+                writable,
+                right,
+                read + l.levels,
+            ),
+            HostWalk::Absent { reads } => Walked::Faulted {
+                fault: Fault::HostAbsent(g.0),
+                reads: read + reads,
+            },
+            HostWalk::Damaged => Walked::Damaged,
+        }
+    } else {
+        Walked::Faulted {
+            fault: Fault::Protected(1),
+            reads: read,
+        }
+    }
+}
+
+// On to the frame g that an entry of a level names.
+pub fn to_frame(
+    mem: &[u64],
+    l: Layout,
+    store: bool,
+    level: u64,
+    g: GuestPhysical,
+    right: bool,
+    read: u64,
+) -> Walked
+    requires { ⌜ (LayoutFits l) × (read ≤ 65536) ⌝ }
+    ensures { λ r. ⌜ r ≡ walkedOf (config l) (now (mem .entry)) read (next store (eqb level 1) (g .0) right) ⌝ }
+{
+    if level == 1 {
+        to_page(mem, l, store, g, right, read)
+    } else {
+        to_table(mem, l, g, right, read)
+    }
+}
+
+// One level: the entry at index i of a table, and on to the frame that it names.
+pub fn descend(
+    mem: &[u64],
+    l: Layout,
+    store: bool,
+    level: u64,
+    table: HostPhysical,
+    i: u64,
+    right: bool,
+    read: u64,
+) -> Walked
+    requires { ⌜ (LayoutFits l) × (read ≤ 65535) × (table .0 < 1099511627776) × (i < 512) ⌝ }
+    ensures { λ r. ⌜ r ≡ walkedOf (config l) (now (mem .entry)) read (turn (config l) store level (table .0) i right) ⌝ }
+{
+    let e = words::word_in(mem, table.0, i);
+    if entry::present(e) {
+        if entry::malformed(l.levels, level, e) {
+            Walked::Faulted {
+                fault: Fault::Malformed(level),
+                reads: read + 1,
+            }
+        } else {
+            let g = GuestPhysical(entry::frame_of(e));
+            to_frame(
+                mem,
+                l,
+                store,
+                level,
+                g,
+                both(right, entry::writable(e)),
+                read + 1,
+            )
+        }
+    } else {
+        Walked::Faulted {
+            fault: Fault::Absent(level),
+            reads: read + 1,
+        }
+    }
+}
+
+// By the k lowest indexes of a page number, from a table down to the table of level `below`, or to the page where it is 0.
+pub fn walk_tables(
+    mem: &[u64],
+    l: Layout,
+    store: bool,
+    path: u64,
+    k: u64,
+    below: u64,
+    table: HostPhysical,
+    right: bool,
+    read: u64,
+) -> Walked
+    requires { ⌜ (LayoutFits l) × (k + below ≤ l .levels) × (read ≤ 1024) × (table .0 < 1099511627776) ⌝ }
+    ensures { λ r. ⌜ r ≡ walkedOf (config l) (now (mem .entry)) read (levels (config l) store (below + k) (table .0) right (indexes k path)) ⌝ }
+{
+    let mut left = k;
+    let mut at = table.0;
+    let mut w = right;
+    let mut n = read;
+    while left > 0 {
+        left -= 1;
+        let i = entry::index_of(path, left) as u64;
+        match descend(mem, l, store, below + left + 1, HostPhysical(at), i, w, n) {
+            Walked::Arrived {
+                page,
+                writable,
+                reads,
+            } => {
+                at = page.0;
+                w = writable;
+                n = reads;
+            }
+            Walked::Faulted { fault, reads } => {
+                return Walked::Faulted {
+                    fault: fault,
+                    reads: reads,
+                };
+            }
+            Walked::Damaged => {
+                return Walked::Damaged;
+            }
+        }
+    }
+    Walked::Arrived {
+        page: HostPhysical(at),
+        writable: w,
+        reads: n,
+    }
+}
+
+// From the root, by the k highest indexes of an address down to the table of level `below`: path is its page number
+// without the indexes below.
+pub fn walk_root(
+    mem: &[u64],
+    l: Layout,
+    store: bool,
+    root: GuestPhysical,
+    path: u64,
+    k: u64,
+    below: u64,
+) -> Walked
+    requires { ⌜ (LayoutFits l) × (below + k ≡ l .levels) ⌝ }
+    ensures { λ r. ⌜ r ≡ walkedOf (config l) (now (mem .entry)) 0 (walk (config l) store (root .0) (indexes k path)) ⌝ }
+{
+    match to_table(mem, l, root, true, 0) {
+        Walked::Arrived {
+            page,
+            writable,
+            reads,
+        } => walk_tables(mem, l, store, path, k, below, page, true, reads),
+        Walked::Faulted { fault, reads } => Walked::Faulted {
+            fault: fault,
+            reads: reads,
+        },
+        Walked::Damaged => Walked::Damaged,
+    }
+}

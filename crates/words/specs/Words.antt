@@ -1,0 +1,22 @@
+-- Words of the lent memory: "A frame is 512 words". Reads and stores past the end are total.
+-- Assumes nothing.
+use Prim.Native.Nat.{ℕ, zero, suc, _+_, _*_}
+use mathlib.Core.List.{List}
+use lib.ListN.{getD, set}
+
+-- the place of word i of frame f
+abbrev pub at : ℕ → ℕ → ℕ
+at f i = f * 512 + i
+
+-- word i of frame f
+abbrev pub wordIn : List ℕ → ℕ → ℕ → ℕ
+wordIn m f i = getD m (at f i) 0
+
+-- the memory with word i of frame f set to v
+abbrev pub setIn : List ℕ → ℕ → ℕ → ℕ → List ℕ
+setIn m f i v = set m (at f i) v
+
+-- n words from a place on set to 0
+unfoldable pub zeroed : List ℕ → ℕ → ℕ → List ℕ
+zeroed m place zero = m
+zeroed m place (suc n) = set (zeroed m place n) (place + n) 0

@@ -1,0 +1,50 @@
+// Words of the lent memory: total reads and stores, by place and by frame, and a frame set to 0.
+ghost use mathlib.Core.Path.{_≡_};
+ghost use Prim.Native.Nat.{_*_, _<_};
+ghost use lib.ListN.{getD, set};
+ghost use Rattle.words.specs.Words.{wordIn, setIn, zeroed};
+
+// The word at a place, and 0 past the end.
+pub fn word_at(mem: &[u64], place: usize) -> u64
+    ensures { λ r. ⌜ r ≡ getD (now (mem .entry)) place 0 ⌝ }
+{
+    if place < mem.len() { mem[place] } else { 0 }
+}
+
+// A store at a place; past the end it changes nothing.
+pub fn set_word(mem: &mut [u64], place: usize, value: u64)
+    ensures { λ r. ⌜ now (mem .exit) ≡ set (now (mem .entry)) place value ⌝ }
+{
+    if place < mem.len() {
+        mem[place] = value;
+    }
+}
+
+// A word of a frame.
+pub fn word_in(mem: &[u64], frame: u64, i: u64) -> u64
+    requires { ⌜ (frame < 1099511627776) × (i < 512) ⌝ }
+    ensures { λ r. ⌜ r ≡ wordIn (now (mem .entry)) frame i ⌝ }
+{
+    word_at(mem, (frame * 512 + i) as usize)
+}
+
+// A store to a word of a frame.
+pub fn set_in(mem: &mut [u64], frame: u64, i: u64, value: u64)
+    requires { ⌜ (frame < 1099511627776) × (i < 512) ⌝ }
+    ensures { λ r. ⌜ now (mem .exit) ≡ setIn (now (mem .entry)) frame i value ⌝ }
+{
+    set_word(mem, (frame * 512 + i) as usize, value);
+}
+
+// A whole frame is set to 0.
+pub fn zero_frame(mem: &mut [u64], frame: u64)
+    requires { ⌜ frame < 1099511627776 ⌝ }
+    ensures { λ r. ⌜ now (mem .exit) ≡ zeroed (now (mem .entry)) (frame * 512) 512 ⌝ }
+{
+    let base = frame as usize * 512;
+    let mut i: usize = 0;
+    while i < 512 {
+        set_word(mem, base + i, 0);
+        i += 1;
+    }
+}

@@ -1,0 +1,158 @@
+//! The book: the marks and the held paths, "each with the guest words and
+//! mappings its shadow part used and its writable bit; none at opening".
+
+use crate::machine::{Step, Walk, Word};
+use crate::numbers::{different_proper_prefixes, frame_of, indexes};
+use std::collections::{BTreeMap, BTreeSet};
+
+/// "At most 64 marks are set."
+pub const MOST_MARKS: usize = 64;
+
+/// "A mark is a level n from 1 to 5 and a prefix."
+#[derive(Clone, Debug, PartialEq, Eq, PartialOrd, Ord)]
+pub struct Mark {
+    pub level: u32,
+    pub prefix: Vec<u64>,
+}
+
+/// What the shadow part of a held path used, and its writable bit.
+#[derive(Clone, Debug, PartialEq, Eq)]
+pub struct HeldPath {
+    pub words: Vec<Word>,
+    pub frames: Vec<u64>,
+    pub writable: bool,
+}
+
+#[derive(Clone, Debug)]
+pub struct Book {
+    levels: u32,
+    shadow_frames: u64,
+    pub marks: BTreeSet<Mark>,
+    /// A path is the first N - d indexes of an address.
+    pub held: BTreeMap<Vec<u64>, HeldPath>,
+}
+
+impl Book {
+    pub fn new(levels: u32, shadow_frames: u64) -> Book {
+        Book { levels, shadow_frames, marks: BTreeSet::new(), held: BTreeMap::new() }
+    }
+
+    fn indexes(&self, address: u64) -> Vec<u64> {
+        indexes(frame_of(address), self.levels)
+    }
+
+    /// "Levels 1 to 3 keep the first 4 - n indexes of the address given; 4 and 5 keep none."
+    pub fn mark(&self, address: u64, level: u32) -> Mark {
+        let kept = self.levels.saturating_sub(level) as usize;
+        Mark { level, prefix: self.indexes(address)[..kept].to_vec() }
+    }
+
+    /// "The depth d of an address is the greatest level among marks whose prefix
+    /// it begins with, or 0."
+    pub fn depth(&self, address: u64) -> u32 {
+        let indexes = self.indexes(address);
+        let begun_with = self.marks.iter().filter(|mark| indexes.starts_with(&mark.prefix));
+        begun_with.map(|mark| mark.level).max().unwrap_or(0)
+    }
+
+    /// "A path is the first 4 - d indexes of an address (none for d = 4)."
+    /// "At d = 5 nothing is shadowed": no path.
+    pub fn path(&self, address: u64, depth: u32) -> Option<Vec<u64>> {
+        let length = self.levels.checked_sub(depth)? as usize;
+        Some(self.indexes(address)[..length].to_vec())
+    }
+
+    /// "Shadow tables in use are the different proper prefixes of held paths."
+    pub fn tables_in_use(&self) -> u64 {
+        different_proper_prefixes(self.held.keys())
+    }
+
+    /// "If a new path would make them more than S, all held paths are dropped
+    /// first." Yields how many paths were dropped.
+    pub fn fill(&mut self, path: Vec<u64>, held: HeldPath) -> usize {
+        let tables = different_proper_prefixes(self.held.keys().chain([&path]));
+        let dropped = if tables > self.shadow_frames { self.drop_all() } else { 0 };
+        self.held.insert(path, held);
+        dropped
+    }
+
+    /// "A host frame is watched while the shadow part of some held path reads a
+    /// guest entry in it."
+    pub fn watched(&self, host: u64) -> bool {
+        self.held.values().any(|held| held.words.iter().any(|word| word.frame == host))
+    }
+
+    /// "A guest or device store drops every held path whose shadow part read the
+    /// word stored to, and no other, even if the value is the same."
+    /// Yields the dropped paths.
+    pub fn drop_by_word(&mut self, word: Word) -> Vec<(Vec<u64>, HeldPath)> {
+        self.drop_where(|_, held| held.words.contains(&word))
+    }
+
+    /// "Mapping or unmapping a guest frame drops every held path whose shadow
+    /// part used its mapping."
+    pub fn drop_by_mapping(&mut self, guest: u64) -> usize {
+        self.drop_where(|_, held| held.frames.contains(&guest)).len()
+    }
+
+    /// "A mark set or cleared drops the paths that begin with its prefix."
+    pub fn drop_by_prefix(&mut self, prefix: &[u64]) -> usize {
+        self.drop_where(|path, _| path.starts_with(prefix)).len()
+    }
+
+    /// "A root load drops all."
+    pub fn drop_all(&mut self) -> usize {
+        self.drop_where(|_, _| true).len()
+    }
+
+    fn drop_where(&mut self, drops: impl Fn(&[u64], &HeldPath) -> bool) -> Vec<(Vec<u64>, HeldPath)> {
+        let paths: Vec<Vec<u64>> =
+            self.held.iter().filter(|(path, held)| drops(path, held)).map(|(path, _)| path.clone()).collect();
+        paths.into_iter().filter_map(|path| self.held.remove_entry(&path)).collect()
+    }
+}
+
+/// How many steps of a plain walk the shadow part has: the root's host walk, and
+/// for each level above d the guest entry and the host walk of its frame ("the
+/// plain walk up to the host frame of the guest table at level d, or of the page
+/// when d = 0"). "At d = 5 nothing is shadowed."
+pub fn shadow_steps(levels: u32, depth: u32) -> usize {
+    match levels.checked_sub(depth) {
+        Some(shadowed) => 1 + 2 * shadowed as usize,
+        None => 0,
+    }
+}
+
+/// Whether a walk meets its fault in the shadow part. "At d = 0 that includes P and W."
+pub fn faults_in_shadow_part(walk: &Walk, levels: u32, depth: u32) -> bool {
+    if walk.end.is_ok() || depth > levels {
+        return false;
+    }
+    depth == 0 || !shadow_part_complete(walk, levels, depth)
+}
+
+/// Whether the walk found the host frame at which its shadow part ends.
+fn shadow_part_complete(walk: &Walk, levels: u32, depth: u32) -> bool {
+    let last = walk.steps.get(shadow_steps(levels, depth) - 1);
+    matches!(last, Some(Step::HostWalk { found: Some(_), .. }))
+}
+
+/// The book's note of a shadow part that met no fault. "Its writable bit is the
+/// and of the guest bits it covers, and at d = 0 of the host bit too."
+pub fn note_shadow_part(walk: &Walk, levels: u32, depth: u32) -> HeldPath {
+    let mut note = HeldPath { words: Vec::new(), frames: Vec::new(), writable: true };
+    let steps = &walk.steps[..shadow_steps(levels, depth)];
+    for step in steps {
+        match step {
+            Step::GuestEntry { word, entry, .. } => {
+                note.words.push(*word);
+                note.writable = note.writable && entry.writable();
+            }
+            Step::HostWalk { frame, .. } => note.frames.push(*frame),
+        }
+    }
+    if let (0, Some(Step::HostWalk { found: Some(page), .. })) = (depth, steps.last()) {
+        note.writable = note.writable && page.writable;
+    }
+    note
+}

@@ -1,0 +1,17 @@
+//! A second reading of document 01, written from the paper alone: the machine
+//! without shadow, its book, and the job program's records. It is meant to be
+//! plainly right and is compared with the unit on many runs.
+
+pub mod answer;
+pub mod book;
+pub mod events;
+pub mod job;
+pub mod machine;
+pub mod numbers;
+pub mod random;
+pub mod unit;
+pub mod vectors;
+
+pub use answer::{Answer, Call, Fault};
+pub use job::run_job;
+pub use unit::Unit;

@@ -1,0 +1,171 @@
+//! The machine without shadow: a mapping, a root, the guest area and the plain walk.
+
+use crate::answer::Fault;
+use crate::numbers::{different_proper_prefixes, frame_of, index, indexes, Entry, FRAME_WORDS};
+use std::collections::BTreeMap;
+
+/// Where a guest frame is mapped to, and its write right.
+#[derive(Clone, Copy, Debug, PartialEq, Eq)]
+pub struct Mapping {
+    pub host: u64,
+    pub writable: bool,
+}
+
+/// A word of the guest area, by its host frame and its place in it.
+#[derive(Clone, Copy, Debug, PartialEq, Eq, PartialOrd, Ord)]
+pub struct Word {
+    pub frame: u64,
+    pub index: u64,
+}
+
+#[derive(Clone, Copy, Debug, PartialEq, Eq)]
+pub enum Access {
+    Load,
+    Store,
+}
+
+/// One step of a plain walk: a host walk of a guest frame, or one guest entry read.
+#[derive(Clone, Copy, Debug, PartialEq, Eq)]
+pub enum Step {
+    HostWalk { frame: u64, words: u64, found: Option<Mapping> },
+    GuestEntry { level: u32, word: Word, entry: Entry },
+}
+
+impl Step {
+    /// The words that the step reads.
+    pub fn words(&self) -> u64 {
+        match self {
+            Step::HostWalk { words, .. } => *words,
+            Step::GuestEntry { .. } => 1,
+        }
+    }
+}
+
+/// A plain walk: its steps in order, and the page's mapping or the fault it ends with.
+#[derive(Clone, Debug, PartialEq, Eq)]
+pub struct Walk {
+    pub steps: Vec<Step>,
+    pub end: Result<Mapping, Fault>,
+}
+
+/// The words that some steps read together.
+pub fn words_read(steps: &[Step]) -> u64 {
+    steps.iter().map(Step::words).sum()
+}
+
+#[derive(Clone, Debug)]
+pub struct Machine {
+    pub levels: u32,
+    pub host_frames: u64,
+    pub shadow_frames: u64,
+    pub guest_area: Vec<u64>,
+    pub mapping: BTreeMap<u64, Mapping>,
+    pub root: u64,
+}
+
+impl Machine {
+    /// "It starts with the opening's H, S and guest area, nothing mapped, root 0."
+    pub fn new(levels: u32, host_frames: u64, shadow_frames: u64, guest_area: Vec<u64>) -> Machine {
+        Machine { levels, host_frames, shadow_frames, guest_area, mapping: BTreeMap::new(), root: 0 }
+    }
+
+    /// "first H host frames, then S shadow frames, then the guest area"
+    pub fn first_guest_frame(&self) -> u64 {
+        self.host_frames + self.shadow_frames
+    }
+
+    pub fn in_guest_area(&self, host: u64) -> bool {
+        let frames = self.guest_area.len() as u64 / FRAME_WORDS;
+        host >= self.first_guest_frame() && host - self.first_guest_frame() < frames
+    }
+
+    fn place(&self, word: Word) -> usize {
+        ((word.frame - self.first_guest_frame()) * FRAME_WORDS + word.index) as usize
+    }
+
+    pub fn read(&self, word: Word) -> u64 {
+        self.guest_area[self.place(word)]
+    }
+
+    pub fn write(&mut self, word: Word, value: u64) {
+        let place = self.place(word);
+        self.guest_area[place] = value;
+    }
+
+    /// "A mapped frame's host walk reads one word a level; an unmapped one is H
+    /// after 1 word and one more for each proper, not empty prefix of it that
+    /// some mapped frame has."
+    pub fn host_walk(&self, frame: u64) -> Step {
+        match self.mapping.get(&frame) {
+            Some(found) => Step::HostWalk { frame, words: self.levels as u64, found: Some(*found) },
+            None => Step::HostWalk { frame, words: 1 + self.tables_met(frame), found: None },
+        }
+    }
+
+    /// How many "proper, not empty" prefixes of the frame some mapped frame has.
+    fn tables_met(&self, frame: u64) -> u64 {
+        let sought = indexes(frame, self.levels);
+        let mapped: Vec<Vec<u64>> = self.mapping.keys().map(|other| indexes(*other, self.levels)).collect();
+        let has = |prefix: &[u64]| mapped.iter().any(|other| other.starts_with(prefix));
+        (1..sought.len()).filter(|length| has(&sought[..*length])).count() as u64
+    }
+
+    /// "the host tables, counted as different proper prefixes of mapped frames,"
+    /// if this frame were mapped too.
+    pub fn host_tables_with(&self, frame: u64) -> u64 {
+        let frames = self.mapping.keys().chain([&frame]);
+        let lists: Vec<Vec<u64>> = frames.map(|frame| indexes(*frame, self.levels)).collect();
+        different_proper_prefixes(lists.iter())
+    }
+
+    pub fn plain_walk(&self, address: u64, access: Access) -> Walk {
+        let mut steps = Vec::new();
+        let end = self.walk_down(address, access, &mut steps);
+        Walk { steps, end }
+    }
+
+    fn walk_down(&self, address: u64, access: Access, steps: &mut Vec<Step>) -> Result<Mapping, Fault> {
+        let page = frame_of(address);
+        // "Host-walk the root's frame."
+        let mut frame = self.root;
+        let mut found = self.take_host_walk(frame, steps)?;
+        let mut all_writable = true;
+        for level in (1..=self.levels).rev() {
+            // "At each level 4 to 1 read the guest entry: not present is fault A,
+            // else malformed is fault M, with that level."
+            let word = Word { frame: found.host, index: index(page, level) };
+            let entry = Entry(self.read(word));
+            steps.push(Step::GuestEntry { level, word, entry });
+            if !entry.present() {
+                return Err(Fault::Absent { level });
+            }
+            if entry.malformed(level, self.levels) {
+                return Err(Fault::Malformed { level });
+            }
+            all_writable = all_writable && entry.writable();
+            // "For a store, once level 1 is read, any unset writable bit among
+            // the four guest entries is fault P, with level 1."
+            if level == 1 && access == Access::Store && !all_writable {
+                return Err(Fault::Protected { level });
+            }
+            // "Host-walk the entry's frame before the next level."
+            // At level 1: "Then host-walk the page".
+            frame = entry.frame();
+            found = self.take_host_walk(frame, steps)?;
+        }
+        // "for a store, a page whose level 1 host entry is not writable is fault W"
+        if access == Access::Store && !found.writable {
+            return Err(Fault::HostReadOnly { frame });
+        }
+        Ok(found)
+    }
+
+    fn take_host_walk(&self, frame: u64, steps: &mut Vec<Step>) -> Result<Mapping, Fault> {
+        let step = self.host_walk(frame);
+        steps.push(step);
+        match step {
+            Step::HostWalk { found: Some(mapping), .. } => Ok(mapping),
+            _ => Err(Fault::HostAbsent { frame }),
+        }
+    }
+}

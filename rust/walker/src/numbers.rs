@@ -1,0 +1,105 @@
+//! Addresses, indexes and entries. The number of levels is a value: document 01
+//! has four; with five, frames are below 2^40 and addresses have 57 bits.
+
+use std::collections::BTreeSet;
+
+/// "A frame is 512 words."
+pub const FRAME_WORDS: u64 = 512;
+/// "There are at most 65,536 frames"
+pub const MOST_FRAMES: u64 = 65_536;
+/// "then 12 bits of offset"
+const OFFSET_BITS: u32 = 12;
+/// "indexes of 9 bits"
+const INDEX_BITS: u32 = 9;
+/// "bits 12 to 51 frame number"
+const FRAME_FIELD_BITS: u32 = 40;
+
+/// "A guest-virtual address has 48 bits": the first number that is none.
+pub fn address_limit(levels: u32) -> u64 {
+    1 << (INDEX_BITS * levels + OFFSET_BITS)
+}
+
+/// "A guest frame number is below 2^36": as many indexes as there are levels,
+/// and never more bits than an entry's frame field has.
+pub fn frame_limit(levels: u32) -> u64 {
+    1 << (INDEX_BITS * levels).min(FRAME_FIELD_BITS)
+}
+
+/// The first number that is no guest-physical address.
+pub fn device_limit(levels: u32) -> u64 {
+    frame_limit(levels) << OFFSET_BITS
+}
+
+pub fn frame_of(address: u64) -> u64 {
+    address >> OFFSET_BITS
+}
+
+/// The place of an address's word within its frame.
+pub fn word_in_frame(address: u64) -> u64 {
+    (address / 8) % FRAME_WORDS
+}
+
+/// The indexes of a page or frame number, the top level's first.
+pub fn indexes(number: u64, levels: u32) -> Vec<u64> {
+    (1..=levels).rev().map(|level| index(number, level)).collect()
+}
+
+/// The index of a page or frame number for one level.
+pub fn index(number: u64, level: u32) -> u64 {
+    (number >> (INDEX_BITS * (level - 1))) % FRAME_WORDS
+}
+
+/// The page number that has these first indexes and then zeros.
+pub fn page_from(first: &[u64], levels: u32) -> u64 {
+    let below = levels - first.len() as u32;
+    first.iter().fold(0, |page, index| (page << INDEX_BITS) | index) << (INDEX_BITS * below)
+}
+
+/// The first address of a page.
+pub fn address_of(page: u64) -> u64 {
+    page << OFFSET_BITS
+}
+
+/// The number of different proper prefixes of some lists of indexes: what host
+/// tables and shadow tables alike are counted by. "The empty prefix counts once."
+pub fn different_proper_prefixes<'a>(lists: impl Iterator<Item = &'a Vec<u64>>) -> u64 {
+    let mut prefixes = BTreeSet::new();
+    for list in lists {
+        for length in 0..list.len() {
+            prefixes.insert(&list[..length]);
+        }
+    }
+    prefixes.len() as u64
+}
+
+/// A guest entry, read as it stands in memory.
+#[derive(Clone, Copy, Debug, PartialEq, Eq)]
+pub struct Entry(pub u64);
+
+impl Entry {
+    /// "bit 0 present"
+    pub fn present(self) -> bool {
+        bit(self.0, 0)
+    }
+
+    /// "bit 1 writable"
+    pub fn writable(self) -> bool {
+        bit(self.0, 1)
+    }
+
+    /// "bits 12 to 51 frame number"
+    pub fn frame(self) -> u64 {
+        (self.0 >> OFFSET_BITS) % (1 << FRAME_FIELD_BITS)
+    }
+
+    /// "a present guest entry is malformed if any of bits 48 to 51 is set, or
+    /// bit 7 at level 2, 3 or 4". Bits 48 to 51 are the bits by which a frame
+    /// number reaches 2^36; with five levels they are ordinary frame bits.
+    pub fn malformed(self, level: u32, levels: u32) -> bool {
+        self.frame() >= frame_limit(levels) || (level >= 2 && bit(self.0, 7))
+    }
+}
+
+fn bit(word: u64, place: u32) -> bool {
+    (word >> place) & 1 == 1
+}

@@ -1,0 +1,638 @@
+//! Random runs from a seed: a guest whose tables stand in memory at opening, the
+//! maps that make them reachable, and calls around a few pages. Frames are
+//! aliased, tables are mapped as pages or map themselves, table frames are
+//! remapped, tables and pages are read-only at times, marks come and go.
+
+use crate::answer::Call;
+use crate::job::{raw_record, write_record, Record, JOB_FRAMES, JOB_LEVELS};
+use crate::numbers::*;
+use std::collections::BTreeMap;
+
+/// A small generator (xorshift with a multiplication), the same on every machine.
+#[derive(Clone, Debug)]
+pub struct Random(u64);
+
+impl Random {
+    pub fn new(seed: u64) -> Random {
+        let mixed = (seed ^ 0x9E37_79B9_7F4A_7C15).wrapping_mul(0xBF58_476D_1CE4_E5B9);
+        Random((mixed ^ (mixed >> 31)).max(1))
+    }
+
+    pub fn word(&mut self) -> u64 {
+        self.0 ^= self.0 >> 12;
+        self.0 ^= self.0 << 25;
+        self.0 ^= self.0 >> 27;
+        self.0.wrapping_mul(0x2545_F491_4F6C_DD1D)
+    }
+
+    pub fn below(&mut self, limit: u64) -> u64 {
+        (self.word() >> 24) % limit
+    }
+
+    /// True one time in so many.
+    pub fn one_in(&mut self, many: u64) -> bool {
+        self.below(many) == 0
+    }
+
+    pub fn pick<T: Copy>(&mut self, from: &[T]) -> T {
+        from[self.below(from.len() as u64) as usize]
+    }
+}
+
+#[derive(Clone, Copy, Debug, PartialEq, Eq)]
+pub struct Sizes {
+    pub levels: u32,
+    pub frames: u64,
+    pub h: u64,
+    pub s: u64,
+}
+
+impl Sizes {
+    /// 16 to 24 frames, H and S little above the least, at least six guest frames.
+    pub fn small(random: &mut Random, levels: u32) -> Sizes {
+        let least = levels as u64;
+        let frames = 16 + random.below(9);
+        let spare = frames - 2 * least - 6;
+        let h = least + random.below(spare.min(4) + 1);
+        let s = least + random.below((spare + least - h).min(4) + 1);
+        Sizes { levels, frames, h, s }
+    }
+
+    /// Hundreds of frames, room for many shadow tables.
+    pub fn large(random: &mut Random, levels: u32) -> Sizes {
+        let least = levels as u64;
+        Sizes {
+            levels,
+            frames: 200 + random.below(200),
+            h: least + random.below(12),
+            s: least + random.below(40),
+        }
+    }
+
+    fn first_guest_frame(&self) -> u64 {
+        self.h + self.s
+    }
+
+    fn guest_frames(&self) -> u64 {
+        self.frames - self.first_guest_frame()
+    }
+}
+
+/// A run: the memory at opening and the later calls.
+#[derive(Clone, Debug)]
+pub struct Run {
+    pub sizes: Sizes,
+    pub words: Vec<u64>,
+    pub calls: Vec<Call>,
+}
+
+/// A run of so many calls. The first ones map the guest's frames and load the root.
+/// The sizes must be those of a granted opening, with four or five levels.
+pub fn run(seed: u64, sizes: Sizes, calls: usize) -> Run {
+    let mut guest = Guest::new(Random::new(seed), sizes);
+    let mut list = guest.setup(calls);
+    while list.len() < calls {
+        list.push(guest.next_call());
+    }
+    list.truncate(calls);
+    Run { sizes, words: guest.memory(), calls: list }
+}
+
+/// A word of the guest area at opening, by host frame and place.
+type Places = BTreeMap<(u64, u64), u64>;
+
+/// What the generator knows of the guest: its plan, and calls that undo changes.
+struct Guest {
+    random: Random,
+    sizes: Sizes,
+    /// The mapping as planned: guest frame, host frame, write right.
+    plan: Vec<(u64, u64, bool)>,
+    /// The first of the 512 guest frames that most names are among.
+    base: u64,
+    /// The guest frame that each frame of the guest area first has.
+    names: Vec<u64>,
+    /// Further guest frames, mapped to host frames that have a name already.
+    second_names: Vec<u64>,
+    /// The indexes at which tables have entries.
+    indexes: Vec<u64>,
+    entries: Places,
+    /// The pages that calls go to.
+    pages: Vec<u64>,
+    last_page: u64,
+    marks: Vec<(u64, u64)>,
+    undo: Vec<Call>,
+}
+
+impl Guest {
+    fn new(random: Random, sizes: Sizes) -> Guest {
+        let mut guest = Guest {
+            random,
+            sizes,
+            plan: Vec::new(),
+            base: 0,
+            names: Vec::new(),
+            second_names: Vec::new(),
+            indexes: Vec::new(),
+            entries: Places::new(),
+            pages: Vec::new(),
+            last_page: 0,
+            marks: Vec::new(),
+            undo: Vec::new(),
+        };
+        guest.choose_names();
+        guest.choose_indexes();
+        guest.choose_entries();
+        guest.choose_pages();
+        guest
+    }
+
+    /// The memory at opening: zeros but for the guest's tables.
+    fn memory(&self) -> Vec<u64> {
+        let mut words = vec![0; (self.sizes.frames * FRAME_WORDS) as usize];
+        for ((frame, index), value) in &self.entries {
+            words[(frame * FRAME_WORDS + index) as usize] = *value;
+        }
+        words
+    }
+
+    // The plan.
+
+    /// Guest frames of one group of 512, a few far away, and some second names
+    /// for the same host frames: as many as H host tables allow.
+    fn choose_names(&mut self) {
+        let limit = frame_limit(self.sizes.levels);
+        self.base = self.random.pick(&[0, 0, 0, 512, 1 << 18, limit - 512]);
+        for number in 0..self.sizes.guest_frames() {
+            let name = self.new_name(5, number);
+            self.names.push(name);
+            self.add_to_plan(name, self.sizes.first_guest_frame() + number);
+        }
+        for _ in 0..1 + self.random.below(3) {
+            let place = 100 + self.random.below(50);
+            let name = self.new_name(2, place);
+            // Among the first frames are the tables.
+            let host = self.sizes.first_guest_frame() + self.random.below(self.sizes.guest_frames().min(6));
+            self.second_names.push(name);
+            self.add_to_plan(name, host);
+        }
+    }
+
+    /// One time in so many a far guest frame, if it fits and is new.
+    fn new_name(&mut self, many: u64, place: u64) -> u64 {
+        let far = self.far_frame();
+        let is_new = self.plan.iter().all(|(other, _, _)| *other != far);
+        if self.random.one_in(many) && is_new && self.fits(far) {
+            far
+        } else {
+            self.base + place
+        }
+    }
+
+    fn add_to_plan(&mut self, name: u64, host: u64) {
+        if self.plan.iter().all(|(other, _, _)| *other != name) {
+            let writable = !self.random.one_in(7);
+            self.plan.push((name, host, writable));
+        }
+    }
+
+    /// Whether the frame can be mapped beside the planned ones and the first group.
+    fn fits(&self, name: u64) -> bool {
+        let planned = self.plan.iter().map(|(guest, _, _)| *guest).chain([self.base, name]);
+        let lists: Vec<Vec<u64>> = planned.map(|frame| indexes(frame, self.sizes.levels)).collect();
+        different_proper_prefixes(lists.iter()) <= self.sizes.h
+    }
+
+    fn far_frame(&mut self) -> u64 {
+        let limit = frame_limit(self.sizes.levels);
+        let group = self.random.below(4);
+        let place = self.random.below(8);
+        match self.random.below(4) {
+            0 => group * 512 + place,
+            1 => (group << 18) + place,
+            2 => (group << 27) + place,
+            _ => limit - 1 - place,
+        }
+    }
+
+    /// Some host frame of the guest area.
+    fn host_frame(&mut self) -> u64 {
+        self.sizes.first_guest_frame() + self.random.below(self.sizes.guest_frames())
+    }
+
+    fn choose_indexes(&mut self) {
+        self.indexes = vec![0, 1, 2];
+        for _ in 0..self.random.below(3) {
+            let more = self.random.pick(&[3, 4, 255, 256, 511]);
+            if !self.indexes.contains(&more) {
+                self.indexes.push(more);
+            }
+        }
+    }
+
+    /// Either proper layers of tables, or a graph in which every frame is a table
+    /// of every level and a page too.
+    fn choose_entries(&mut self) {
+        let levels = self.sizes.levels as u64;
+        if self.sizes.guest_frames() >= levels + 2 && !self.random.one_in(3) {
+            self.choose_layers();
+        } else {
+            self.choose_graph();
+        }
+    }
+
+    fn choose_graph(&mut self) {
+        let any = self.planned_frames();
+        for number in 0..self.sizes.guest_frames() {
+            self.choose_table(number, &any, 1);
+        }
+    }
+
+    /// The first frame is the root, the next ones a table of each level, some more
+    /// tables, then pages. A level 1 entry may name a table, and the root itself.
+    fn choose_layers(&mut self) {
+        let levels = self.sizes.levels as u64;
+        let tables = levels + self.random.below(self.sizes.guest_frames() - levels - 1);
+        let mut layers: Vec<Vec<u64>> = vec![Vec::new(); levels as usize + 1];
+        for number in 0..tables {
+            let level = if number < levels { levels - number } else { 1 + self.random.below(levels - 1) };
+            layers[level as usize].push(number);
+        }
+        for number in tables..self.sizes.guest_frames() {
+            layers[0].push(number);
+            self.choose_data(number);
+        }
+        for level in 1..=levels as usize {
+            let mut below: Vec<u64> =
+                layers[level - 1].iter().map(|number| self.names[*number as usize]).collect();
+            if level == 1 {
+                below.extend(self.second_names.clone());
+                below.push(self.names[self.random.below(tables) as usize]);
+            }
+            for number in layers[level].clone() {
+                self.choose_table(number, &below, level as u64);
+            }
+        }
+        if self.random.one_in(3) {
+            let index = *self.indexes.last().unwrap_or(&0);
+            let entry = self.names[0] << 12 | 3;
+            self.entries.insert((self.sizes.first_guest_frame(), index), entry);
+        }
+    }
+
+    /// Entries of one table, at the chosen indexes. Bad ones are rarer in upper
+    /// levels, where each spoils many walks.
+    fn choose_table(&mut self, number: u64, names: &[u64], level: u64) {
+        let frame = self.sizes.first_guest_frame() + number;
+        for index in self.indexes.clone() {
+            let name = self.random.pick(names);
+            let entry = if self.random.one_in(level) { self.entry(name) } else { name << 12 | 3 };
+            self.entries.insert((frame, index), entry);
+        }
+    }
+
+    /// Words of a page that are all different.
+    fn choose_data(&mut self, number: u64) {
+        let frame = self.sizes.first_guest_frame() + number;
+        for index in self.indexes.clone() {
+            self.entries.insert((frame, index), frame << 32 | index << 16 | 0xDA7A);
+        }
+    }
+
+    fn planned_frames(&self) -> Vec<u64> {
+        self.plan.iter().map(|(guest, _, _)| *guest).collect()
+    }
+
+    /// An entry that names the frame: mostly present and writable, seldom
+    /// malformed, often with bits set that a walk ignores.
+    fn entry(&mut self, name: u64) -> u64 {
+        let mut entry = name << 12 | 3;
+        if self.random.one_in(20) {
+            entry &= !1;
+        }
+        if self.random.one_in(9) {
+            entry &= !2;
+        }
+        if self.random.one_in(30) {
+            entry |= 1 << 7;
+        }
+        if self.random.one_in(50) {
+            entry |= 1 << (48 + self.random.below(4));
+        }
+        if self.random.one_in(5) {
+            entry |= self.random.word() & 0xFFF0_0000_0000_0F7C;
+        }
+        entry
+    }
+
+    /// Pages near each other: each new one changes the last few indexes of an old one.
+    fn choose_pages(&mut self) {
+        let levels = self.sizes.levels as usize;
+        let mut list = vec![0; levels];
+        for _ in 0..6 + self.random.below(5) {
+            let kept = self.random.below(levels as u64) as usize;
+            for place in list.iter_mut().skip(kept) {
+                *place = self.random.pick(&self.indexes);
+            }
+            self.pages.push(page_from(&list, self.sizes.levels));
+        }
+        self.last_page = self.pages[0];
+    }
+
+    // The calls.
+
+    /// Maps of the planned frames, the root, some marks, and at times nearly 64
+    /// marks far from the pages in use.
+    fn setup(&mut self, calls: usize) -> Vec<Call> {
+        let mut list: Vec<Call> = self.plan.iter().map(planned_map).collect();
+        list.push(Call::Root { frame: self.names[0] });
+        for _ in 0..self.random.below(3) {
+            list.push(self.set_mark());
+        }
+        if calls >= 200 && self.random.one_in(3) {
+            for number in 0..60 {
+                list.push(self.far_mark(number));
+            }
+        }
+        list
+    }
+
+    fn far_mark(&mut self, number: u64) -> Call {
+        let mut list = vec![0; self.sizes.levels as usize];
+        list[0] = 300 + number / 3;
+        let level = 1 + number % 3;
+        Call::SetMark { address: address_of(page_from(&list, self.sizes.levels)), level }
+    }
+
+    fn next_call(&mut self) -> Call {
+        if self.random.one_in(6) {
+            if let Some(call) = self.undo.pop() {
+                return call;
+            }
+        }
+        match self.random.below(100) {
+            0..=38 => Call::Load { address: self.address() },
+            39..=62 => Call::Store { address: self.address(), value: self.value() },
+            63..=69 => Call::DeviceStore { address: self.device_address(), value: self.value() },
+            70..=72 => self.repair(),
+            73..=78 => self.map(),
+            79..=81 => self.unmap(),
+            82..=88 => self.set_mark(),
+            89..=93 => self.clear_mark(),
+            94..=95 => self.root(),
+            _ => self.odd_call(),
+        }
+    }
+
+    /// A word of one of the pages, often of the page used last.
+    fn address(&mut self) -> u64 {
+        if !self.random.one_in(3) {
+            self.last_page = self.random.pick(&self.pages);
+        }
+        address_of(self.last_page) + 8 * self.word_place()
+    }
+
+    fn device_address(&mut self) -> u64 {
+        address_of(self.guest_frame()) + 8 * self.word_place()
+    }
+
+    /// A place in a frame: mostly one at which tables have entries.
+    fn word_place(&mut self) -> u64 {
+        match self.random.below(6) {
+            0 => 5 + self.random.below(3),
+            1 => self.random.below(FRAME_WORDS),
+            _ => self.random.pick(&self.indexes),
+        }
+    }
+
+    fn guest_frame(&mut self) -> u64 {
+        let planned = self.planned_frames();
+        match self.random.below(12) {
+            0 => self.far_frame(),
+            1 => self.random.pick(&planned) ^ 32,
+            2..=4 => self.random.pick(&self.second_names),
+            _ => self.random.pick(&planned),
+        }
+    }
+
+    fn value(&mut self) -> u64 {
+        match self.random.below(10) {
+            0 => 0,
+            1 => self.random.word(),
+            2 => self.random.below(256),
+            _ => {
+                let name = self.guest_frame();
+                self.entry(name)
+            }
+        }
+    }
+
+    /// A device store of an entry as it was at opening.
+    fn repair(&mut self) -> Call {
+        let places: Vec<(u64, u64)> = self.entries.keys().copied().collect();
+        let (frame, index) = self.random.pick(&places);
+        let names = self.plan.iter().filter(|(_, host, _)| *host == frame);
+        let names: Vec<u64> = names.map(|(guest, _, _)| *guest).collect();
+        let name = if names.is_empty() { self.names[0] } else { self.random.pick(&names) };
+        Call::DeviceStore { address: address_of(name) + 8 * index, value: self.entries[&(frame, index)] }
+    }
+
+    fn map(&mut self) -> Call {
+        let planned = self.random.pick(&self.plan);
+        let (guest, host, writable) = planned;
+        match self.random.below(8) {
+            // The same again, with both rights in turn.
+            0 => planned_map(&planned),
+            1 | 2 => {
+                self.undo.push(planned_map(&planned));
+                Call::Map { guest, host, writable: !writable }
+            }
+            // To another host frame.
+            3..=5 => {
+                self.undo.push(planned_map(&planned));
+                Call::Map { guest, host: self.host_frame(), writable: !self.random.one_in(4) }
+            }
+            // Another guest frame, far or near.
+            6 => Call::Map {
+                guest: self.far_frame(),
+                host: self.host_frame(),
+                writable: !self.random.one_in(4),
+            },
+            _ => Call::Map { guest: guest ^ 32, host: self.host_frame(), writable: !self.random.one_in(4) },
+        }
+    }
+
+    fn unmap(&mut self) -> Call {
+        let planned = self.random.pick(&self.plan);
+        match self.random.below(4) {
+            0 => Call::Unmap { guest: self.guest_frame() },
+            _ => {
+                self.undo.push(planned_map(&planned));
+                Call::Unmap { guest: planned.0 }
+            }
+        }
+    }
+
+    /// Marks of low levels stay a while; those of level N and N + 1 hide all
+    /// other depths and are cleared soon.
+    fn set_mark(&mut self) -> Call {
+        let levels = self.sizes.levels as u64;
+        let address = address_of(self.random.pick(&self.pages)) + self.random.below(4096);
+        let level = match self.random.below(10) {
+            0..=3 => 1,
+            4 | 5 => 2,
+            6 | 7 => 3 + self.random.below(levels - 3),
+            _ => levels + self.random.below(2),
+        };
+        if level >= levels {
+            self.undo.push(Call::ClearMark { address, level });
+        } else {
+            self.marks.push((address, level));
+        }
+        Call::SetMark { address, level }
+    }
+
+    fn clear_mark(&mut self) -> Call {
+        if self.marks.is_empty() || self.random.one_in(10) {
+            let address = address_of(self.random.pick(&self.pages));
+            return Call::ClearMark { address, level: 1 + self.random.below(self.sizes.levels as u64 + 1) };
+        }
+        let place = self.random.below(self.marks.len() as u64) as usize;
+        let (address, level) = self.marks.swap_remove(place);
+        Call::ClearMark { address, level }
+    }
+
+    fn root(&mut self) -> Call {
+        let frame = self.names[0];
+        if self.random.one_in(2) {
+            return Call::Root { frame };
+        }
+        self.undo.push(Call::Root { frame });
+        Call::Root { frame: self.guest_frame() }
+    }
+
+    /// Calls at the edges: refused, or only just not.
+    fn odd_call(&mut self) -> Call {
+        let levels = self.sizes.levels;
+        let address = self.address();
+        let guest = self.guest_frame();
+        let edge = self.random.pick(&[0, 1, 1 << 40, u64::MAX - address_limit(levels)]);
+        let bad_level = self.random.pick(&[0, levels as u64 + 2, 255]);
+        match self.random.below(12) {
+            0 => Call::Load { address: address + 1 + self.random.below(7) },
+            1 => Call::Load { address: address_limit(levels) + (edge & !7) },
+            2 => Call::Load { address: address_limit(levels) - 8 },
+            3 => Call::Store { address: address + 4, value: 1 },
+            4 => Call::DeviceStore { address: device_limit(levels) + (edge & !7), value: 1 },
+            5 => Call::DeviceStore { address: device_limit(levels) - 8, value: 1 },
+            6 => Call::SetMark { address, level: bad_level },
+            7 => Call::SetMark { address: address_limit(levels) + edge, level: bad_level.min(1) },
+            8 => Call::Map { guest: frame_limit(levels) + edge, host: 0, writable: true },
+            9 => Call::Map { guest, host: self.odd_host_frame(), writable: true },
+            10 => self.odd_frame_call(frame_limit(levels) + edge),
+            _ => {
+                let number = self.random.below(70);
+                self.far_mark(number)
+            }
+        }
+    }
+
+    fn odd_host_frame(&mut self) -> u64 {
+        let first = self.sizes.first_guest_frame();
+        self.random.pick(&[
+            0,
+            self.sizes.h,
+            first - 1,
+            self.sizes.frames,
+            self.sizes.frames + (1 << 40),
+            u64::MAX,
+        ])
+    }
+
+    fn odd_frame_call(&mut self, frame: u64) -> Call {
+        if self.random.one_in(2) {
+            Call::Unmap { guest: frame }
+        } else {
+            Call::Root { frame }
+        }
+    }
+}
+
+fn planned_map(planned: &(u64, u64, bool)) -> Call {
+    let (guest, host, writable) = *planned;
+    Call::Map { guest, host, writable }
+}
+
+// Jobs.
+
+/// The bytes of a random job. A memory of zeros is made a guest by device stores;
+/// then the run follows. Some jobs have refused opens, records before the first
+/// open, a second open, or a damaged end. H + S never falls from one granted open
+/// to the next, for what the tables left in their frames is left open.
+pub fn job(seed: u64, calls: usize) -> Vec<u8> {
+    let mut random = Random::new(seed ^ 0x6A6F_6273);
+    let mut bytes = Vec::new();
+    if random.one_in(8) {
+        bytes.extend(write_record(&Record::Call(Call::Load { address: 1 << 48 })));
+    }
+    if random.one_in(8) {
+        bytes.extend(refused_open(&mut random));
+    }
+    let first = job_sizes(&mut random);
+    bytes.extend(job_part(random.word(), first, calls));
+    if random.one_in(4) {
+        bytes.extend(refused_open(&mut random));
+        bytes.extend(write_record(&Record::Call(Call::Load { address: 0 })));
+    }
+    if random.one_in(4) {
+        let more = if random.one_in(2) && first.h + first.s < 10 { 1 } else { 0 };
+        bytes.extend(job_part(random.word(), Sizes { h: first.h + more, ..first }, calls));
+    }
+    if random.one_in(4) {
+        damage_end(&mut random, &mut bytes);
+    }
+    bytes
+}
+
+fn job_sizes(random: &mut Random) -> Sizes {
+    let (h, s) = random.pick(&[(4, 4), (4, 4), (4, 5), (5, 4), (6, 4), (5, 5)]);
+    Sizes { levels: JOB_LEVELS, frames: JOB_FRAMES, h, s }
+}
+
+fn refused_open(random: &mut Random) -> Vec<u8> {
+    let (h, s) = random.pick(&[(3, 4), (4, 3), (8, 8), (4, 12), (65_535, 65_535), (65_535, 9), (0, 0)]);
+    write_record(&Record::Open { h, s })
+}
+
+/// An open, the guest's words by device stores, and a run.
+pub fn job_part(seed: u64, sizes: Sizes, calls: usize) -> Vec<u8> {
+    let run = run(seed, sizes, calls);
+    let mut bytes = write_record(&Record::Open { h: sizes.h as u16, s: sizes.s as u16 });
+    for host in sizes.first_guest_frame()..sizes.frames {
+        let mut list = vec![Call::Map { guest: 0, host, writable: true }];
+        for index in 0..FRAME_WORDS {
+            let value = run.words[(host * FRAME_WORDS + index) as usize];
+            if value != 0 {
+                list.push(Call::DeviceStore { address: 8 * index, value });
+            }
+        }
+        list.push(Call::Unmap { guest: 0 });
+        bytes.extend(list.iter().flat_map(|call| write_record(&Record::Call(*call))));
+    }
+    bytes.extend(run.calls.iter().flat_map(|call| write_record(&Record::Call(*call))));
+    bytes
+}
+
+/// An end that the reader answers with 13, or a cut anywhere.
+fn damage_end(random: &mut Random, bytes: &mut Vec<u8>) {
+    match random.below(6) {
+        0 => bytes.extend(raw_record(10, 10, &[0; 8])),
+        1 => bytes.extend(raw_record(11, 7, &[0; 9])),
+        2 => bytes.extend(raw_record(1, 7, &[0; 8])),
+        3 => bytes.extend(raw_record(0, 2, &[])),
+        4 => bytes.push(10),
+        _ => {
+            let length = random.below(bytes.len() as u64) as usize;
+            bytes.truncate(length);
+        }
+    }
+}

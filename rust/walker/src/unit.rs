@@ -1,0 +1,358 @@
+//! The calls: each one asks the first refusal that applies, then steps machine and book.
+
+use crate::answer::*;
+use crate::book::{faults_in_shadow_part, note_shadow_part, shadow_steps, Book, MOST_MARKS};
+use crate::events::Events;
+use crate::machine::{words_read, Access, Machine, Mapping, Step, Walk, Word};
+use crate::numbers::*;
+
+#[derive(Clone, Debug)]
+pub struct Unit {
+    machine: Machine,
+    book: Book,
+    events: Events,
+}
+
+/// A load or store once its walk, its counts and its fill are done.
+struct Served {
+    end: Result<Mapping, Fault>,
+    /// The guest frame that was host-walked last: the page's, if granted.
+    last_frame: u64,
+    references: u64,
+    exits: u64,
+}
+
+impl Unit {
+    /// "Open (H, S): 1 if the words are no multiple of 512 or the frames are 0 or
+    /// more than 65,536; then 2 if H or S is below 4 or H + S leaves no guest
+    /// frame." With N levels, below N.
+    pub fn open(levels: u32, words: Vec<u64>, h: u64, s: u64) -> Result<Unit, u32> {
+        let length = words.len() as u64;
+        let frames = length / FRAME_WORDS;
+        if length % FRAME_WORDS != 0 || frames == 0 || frames > MOST_FRAMES {
+            return Err(BAD_MEMORY);
+        }
+        let least = levels as u64;
+        if h < least || s < least || h.saturating_add(s) >= frames {
+            return Err(BAD_SPLIT);
+        }
+        // "keeps guest words; root 0, no marks"
+        let guest_area = words[((h + s) * FRAME_WORDS) as usize..].to_vec();
+        let machine = Machine::new(levels, h, s, guest_area);
+        Ok(Unit { machine, book: Book::new(levels, s), events: Events::default() })
+    }
+
+    /// The words of the guest area, in order.
+    pub fn guest_words(&self) -> &[u64] {
+        &self.machine.guest_area
+    }
+
+    pub fn machine(&self) -> &Machine {
+        &self.machine
+    }
+
+    pub fn book(&self) -> &Book {
+        &self.book
+    }
+
+    pub fn events(&self) -> &Events {
+        &self.events
+    }
+
+    fn levels(&self) -> u32 {
+        self.machine.levels
+    }
+
+    /// "A refused call changes nothing."
+    pub fn call(&mut self, call: &Call) -> Answer {
+        let answer = match *call {
+            Call::Root { frame } => self.root(frame),
+            Call::Map { guest, host, writable } => self.map(guest, host, writable),
+            Call::Unmap { guest } => self.unmap(guest),
+            Call::SetMark { address, level } => self.set_mark(address, level),
+            Call::ClearMark { address, level } => self.clear_mark(address, level),
+            Call::Load { address } => self.load(address),
+            Call::Store { address, value } => self.store(address, value),
+            Call::DeviceStore { address, value } => self.device_store(address, value),
+        };
+        self.note_answer(call, &answer);
+        answer
+    }
+
+    // Root, map and unmap.
+
+    fn root(&mut self, frame: u64) -> Answer {
+        if frame >= frame_limit(self.levels()) {
+            return Answer::No(BAD_GUEST_FRAME);
+        }
+        self.machine.root = frame;
+        let dropped = self.book.drop_all();
+        self.events.add_many("paths dropped by root", dropped);
+        Answer::Ok
+    }
+
+    fn map(&mut self, guest: u64, host: u64, writable: bool) -> Answer {
+        if guest >= frame_limit(self.levels()) {
+            return Answer::No(BAD_GUEST_FRAME);
+        }
+        if !self.machine.in_guest_area(host) {
+            return Answer::No(BAD_HOST_FRAME);
+        }
+        if self.machine.host_tables_with(guest) > self.machine.host_frames {
+            return Answer::No(HOST_TABLES_FULL);
+        }
+        // "A mapped frame is mapped anew."
+        let before = self.machine.mapping.insert(guest, Mapping { host, writable });
+        let dropped = self.book.drop_by_mapping(guest);
+        self.events.add_if(before.is_some(), "mapped anew");
+        self.events.add_many("paths dropped by map", dropped);
+        Answer::Ok
+    }
+
+    fn unmap(&mut self, guest: u64) -> Answer {
+        if guest >= frame_limit(self.levels()) {
+            return Answer::No(BAD_GUEST_FRAME);
+        }
+        if self.machine.mapping.remove(&guest).is_none() {
+            return Answer::No(NOT_MAPPED);
+        }
+        let dropped = self.book.drop_by_mapping(guest);
+        self.events.add_many("paths dropped by unmap", dropped);
+        Answer::Ok
+    }
+
+    // Marks.
+
+    /// The refusals that set and clear mark share: "4 (2^48 or more only), 5 if
+    /// the level is not 1 to 5".
+    fn refuse_mark(&self, address: u64, level: u64) -> Option<u32> {
+        if address >= address_limit(self.levels()) {
+            return Some(BAD_ADDRESS);
+        }
+        if level < 1 || level > self.levels() as u64 + 1 {
+            return Some(BAD_LEVEL);
+        }
+        None
+    }
+
+    fn set_mark(&mut self, address: u64, level: u64) -> Answer {
+        if let Some(number) = self.refuse_mark(address, level) {
+            return Answer::No(number);
+        }
+        let mark = self.book.mark(address, level as u32);
+        if self.book.marks.contains(&mark) {
+            return Answer::No(MARK_AS_IS);
+        }
+        if self.book.marks.len() == MOST_MARKS {
+            return Answer::No(MARKS_FULL);
+        }
+        let dropped = self.book.drop_by_prefix(&mark.prefix);
+        self.book.marks.insert(mark);
+        self.events.add_many(format!("paths dropped by setting a mark of level {level}"), dropped);
+        Answer::Ok
+    }
+
+    fn clear_mark(&mut self, address: u64, level: u64) -> Answer {
+        if let Some(number) = self.refuse_mark(address, level) {
+            return Answer::No(number);
+        }
+        let mark = self.book.mark(address, level as u32);
+        if !self.book.marks.remove(&mark) {
+            return Answer::No(MARK_AS_IS);
+        }
+        let dropped = self.book.drop_by_prefix(&mark.prefix);
+        self.events.add_many(format!("paths dropped by clearing a mark of level {level}"), dropped);
+        Answer::Ok
+    }
+
+    // Loads and stores.
+
+    fn load(&mut self, address: u64) -> Answer {
+        if address >= address_limit(self.levels()) || address % 8 != 0 {
+            return Answer::No(BAD_ADDRESS);
+        }
+        let served = self.serve(address, Access::Load);
+        let Served { references, exits, .. } = served;
+        match served.end {
+            Err(fault) => Answer::Fault { fault, references, exits },
+            Ok(page) => {
+                let word = Word { frame: page.host, index: word_in_frame(address) };
+                Answer::Value { value: self.machine.read(word), references, exits }
+            }
+        }
+    }
+
+    /// "a store fills first, then writes, then drops"
+    fn store(&mut self, address: u64, value: u64) -> Answer {
+        if address >= address_limit(self.levels()) || address % 8 != 0 {
+            return Answer::No(BAD_ADDRESS);
+        }
+        let served = self.serve(address, Access::Store);
+        let Served { references, exits, .. } = served;
+        match served.end {
+            Err(fault) => Answer::Fault { fault, references, exits },
+            Ok(page) => {
+                let word = Word { frame: page.host, index: word_in_frame(address) };
+                self.note_own_drop(address, word);
+                let watched = self.write_and_drop(served.last_frame, word, value);
+                Answer::Done { references, exits: exits + watched }
+            }
+        }
+    }
+
+    /// "A device store takes one host walk, with W as for a page; granted, it
+    /// writes likewise." "For a device store: the host walk's words, 1 exit for
+    /// H or W, 1, if granted, for a watched frame."
+    fn device_store(&mut self, address: u64, value: u64) -> Answer {
+        if address >= device_limit(self.levels()) || address % 8 != 0 {
+            return Answer::No(BAD_ADDRESS);
+        }
+        let frame = frame_of(address);
+        let Step::HostWalk { words, found, .. } = self.machine.host_walk(frame) else { unreachable!() };
+        match found {
+            None => Answer::Fault { fault: Fault::HostAbsent { frame }, references: words, exits: 1 },
+            Some(page) if !page.writable => {
+                Answer::Fault { fault: Fault::HostReadOnly { frame }, references: words, exits: 1 }
+            }
+            Some(page) => {
+                let word = Word { frame: page.host, index: word_in_frame(address) };
+                let watched = self.write_and_drop(frame, word, value);
+                Answer::Done { references: words, exits: watched }
+            }
+        }
+    }
+
+    /// Writes the word and drops by it. Yields the exit "for a store into a frame
+    /// that is watched once the store is translated".
+    fn write_and_drop(&mut self, through: u64, word: Word, value: u64) -> u64 {
+        let watched = self.book.watched(word.frame);
+        let same = self.machine.read(word) == value;
+        self.machine.write(word, value);
+        let dropped = self.book.drop_by_word(word);
+        self.events.add_if(watched, "exit for a watched frame");
+        self.events.add_if(watched && dropped.is_empty(), "watched frame, no path dropped");
+        self.events.add_if(same && !dropped.is_empty(), "drop though the value is the same");
+        self.events.add_many("paths dropped by word", dropped.len());
+        let by_alias = dropped.iter().filter(|(_, held)| !held.frames.contains(&through)).count();
+        self.events.add_many("paths dropped through a guest frame they did not use", by_alias);
+        watched as u64
+    }
+
+    /// The walk of a load or store, its counts, and the fill of its path.
+    fn serve(&mut self, address: u64, access: Access) -> Served {
+        let levels = self.levels();
+        let depth = self.book.depth(address);
+        let path = self.book.path(address, depth);
+        let held = path.as_ref().and_then(|path| self.book.held.get(path));
+        let walk = self.machine.plain_walk(address, access);
+        let shadow_fault = faults_in_shadow_part(&walk, levels, depth);
+
+        // "1 if d is at most 4 and the path was not held, or d = 0 and the held
+        // path forbids the store"
+        let not_held = path.is_some() && held.is_none();
+        let forbidden = depth == 0 && access == Access::Store && held.is_some_and(|held| !held.writable);
+        let mut exits = (not_held || forbidden) as u64;
+        // "1 for H or W in the direct part"
+        if let Err(fault) = walk.end {
+            exits += (fault.is_of_host() && !shadow_fault) as u64;
+        }
+        let references = references(&walk, levels, depth, shadow_fault);
+
+        self.note_request(&walk, access, depth, not_held, shadow_fault, forbidden);
+        // "A path not held is filled exactly if the request meets no fault in its
+        // shadow part."
+        if let (Some(path), true, false) = (path, not_held, shadow_fault) {
+            let watched_before = self.watches_target(&walk, access);
+            let dropped = self.book.fill(path, note_shadow_part(&walk, levels, depth));
+            self.events.add_if(dropped > 0, &format!("overflow at depth {depth}"));
+            self.events.add_many("paths dropped by overflow", dropped);
+            self.note_own_fill(watched_before, self.watches_target(&walk, access));
+        }
+        Served { last_frame: last_frame(&walk), end: walk.end, references, exits }
+    }
+
+    // Notes of events. They read the state and change only the counters.
+
+    /// Whether the frame that a granted store goes to is watched.
+    fn watches_target(&self, walk: &Walk, access: Access) -> bool {
+        access == Access::Store && walk.end.is_ok_and(|page| self.book.watched(page.host))
+    }
+
+    fn note_answer(&mut self, call: &Call, answer: &Answer) {
+        let device = matches!(call, Call::DeviceStore { .. });
+        match answer {
+            Answer::No(number) => self.events.add(format!("refusal {number}")),
+            Answer::Fault { fault, references, .. } if device => {
+                self.events.add(format!("device store, fault {} after {references}", fault.letter()))
+            }
+            Answer::Done { exits, .. } if device => {
+                self.events.add(format!("device store done, {exits} exits"))
+            }
+            Answer::Done { exits, .. } => self.events.add(format!("store done, {exits} exits")),
+            _ => {}
+        }
+    }
+
+    fn note_request(
+        &mut self,
+        walk: &Walk,
+        access: Access,
+        depth: u32,
+        not_held: bool,
+        shadow_fault: bool,
+        forbidden: bool,
+    ) {
+        let part = if shadow_fault { "shadow" } else { "direct" };
+        let way = if depth > self.levels() {
+            "no path"
+        } else if not_held {
+            "path not held"
+        } else {
+            "path held"
+        };
+        match walk.end {
+            Ok(_) => self.events.add(format!("granted {access:?} at depth {depth}, {way}")),
+            Err(fault) => {
+                self.events.add(format!("fault {} at depth {depth}, {part} part, {way}", fault.letter()));
+                self.events.add(format!("fault {} of level {}", fault.letter(), fault.level()));
+            }
+        }
+        self.events.add_if(not_held && !shadow_fault, &format!("fill at depth {depth}"));
+        self.events.add_if(forbidden, "held path forbids the store");
+    }
+
+    /// Whether the fill of a store changed that its frame is watched.
+    fn note_own_fill(&mut self, watched_before: bool, watched: bool) {
+        self.events.add_if(!watched_before && watched, "store's own fill makes its frame watched");
+        self.events.add_if(watched_before && !watched, "store's own overflow leaves its frame not watched");
+    }
+
+    fn note_own_drop(&mut self, address: u64, word: Word) {
+        let path = self.book.path(address, self.book.depth(address));
+        let own = path.and_then(|path| self.book.held.get(&path));
+        let drops = own.is_some_and(|held| held.words.contains(&word));
+        self.events.add_if(drops, "store drops its own path");
+    }
+}
+
+/// "A granted request reads (4 - d) + 5d words. A fault in the shadow part carries
+/// the plain walk's count. A later fault carries (4 - d), or 0 at d = 5, and the
+/// words read by the direct part, which at d = 5 starts with the root's host walk."
+fn references(walk: &Walk, levels: u32, depth: u32, shadow_fault: bool) -> u64 {
+    if shadow_fault {
+        return words_read(&walk.steps);
+    }
+    let shadow_entries = levels.saturating_sub(depth) as u64;
+    shadow_entries + words_read(&walk.steps[shadow_steps(levels, depth)..])
+}
+
+/// The guest frame of a walk's last host walk.
+fn last_frame(walk: &Walk) -> u64 {
+    let mut frame = 0;
+    for step in &walk.steps {
+        if let Step::HostWalk { frame: walked, .. } = step {
+            frame = *walked;
+        }
+    }
+    frame
+}

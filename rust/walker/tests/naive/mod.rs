@@ -1,0 +1,152 @@
+//! An entirely separate plain walk: host tables are real words in a memory, and a
+//! host walk reads them. It shares nothing with the library but the calls.
+
+pub struct Naive {
+    pub levels: u32,
+    pub h: u64,
+    pub s: u64,
+    pub root: u64,
+    pub memory: Vec<u64>,
+    used: Vec<bool>,
+}
+
+/// What a walk yields: the page's host frame or the fault's letter, level and
+/// frame; the number of all words read, and of those read when each table, and last
+/// the page, was found; the guest words among them, by host frame and index; and the
+/// guest frames host-walked.
+pub struct Seen {
+    pub end: Result<u64, (char, u32, u64)>,
+    pub reads: u64,
+    pub found_at: Vec<u64>,
+    pub guest_words: Vec<(u64, u64)>,
+    pub frames: Vec<u64>,
+}
+
+impl Naive {
+    pub fn open(levels: u32, mut memory: Vec<u64>, h: u64, s: u64) -> Naive {
+        for word in memory.iter_mut().take(((h + s) * 512) as usize) {
+            *word = 0;
+        }
+        // Host frame 0 is the top table.
+        let mut used = vec![false; h as usize];
+        used[0] = true;
+        Naive { levels, h, s, root: 0, memory, used }
+    }
+
+    pub fn guest_words(&self) -> &[u64] {
+        &self.memory[((self.h + self.s) * 512) as usize..]
+    }
+
+    fn slot(&self, table: u64, number: u64, level: u32) -> usize {
+        let digit = (number / 512u64.pow(level - 1)) % 512;
+        (table * 512 + digit) as usize
+    }
+
+    /// Maps, or says false if the host frames do not suffice.
+    pub fn map(&mut self, guest: u64, host: u64, writable: bool) -> bool {
+        if self.missing_tables(guest) > self.used.iter().filter(|used| !**used).count() {
+            return false;
+        }
+        let mut table = 0;
+        for level in (2..=self.levels).rev() {
+            let slot = self.slot(table, guest, level);
+            if self.memory[slot] == 0 {
+                let free = self.used.iter().position(|used| !used).unwrap();
+                self.used[free] = true;
+                self.memory[slot] = (free as u64) * 4096 + 1;
+            }
+            table = self.memory[slot] / 4096;
+        }
+        let slot = self.slot(table, guest, 1);
+        self.memory[slot] = host * 4096 + if writable { 3 } else { 1 };
+        true
+    }
+
+    fn missing_tables(&self, guest: u64) -> usize {
+        let mut table = 0;
+        for level in (2..=self.levels).rev() {
+            let entry = self.memory[self.slot(table, guest, level)];
+            if entry == 0 {
+                return level as usize - 1;
+            }
+            table = entry / 4096;
+        }
+        0
+    }
+
+    pub fn unmap(&mut self, guest: u64) {
+        let mut slots = Vec::new();
+        let mut table = 0;
+        for level in (1..=self.levels).rev() {
+            let slot = self.slot(table, guest, level);
+            slots.push(slot);
+            table = self.memory[slot] / 4096;
+        }
+        // Clear from below; a table that is all zero is given back.
+        while let Some(slot) = slots.pop() {
+            self.memory[slot] = 0;
+            let table = slot / 512;
+            if table == 0 || self.memory[table * 512..table * 512 + 512].iter().any(|word| *word != 0) {
+                break;
+            }
+            self.used[table] = false;
+        }
+    }
+
+    /// Reads host entries; the level 1 entry, or none, and the words read.
+    pub fn host_walk(&self, guest: u64) -> (Option<u64>, u64) {
+        let (mut table, mut reads, mut entry) = (0, 0, 0);
+        for level in (1..=self.levels).rev() {
+            entry = self.memory[self.slot(table, guest, level)];
+            reads += 1;
+            if entry & 1 == 0 {
+                return (None, reads);
+            }
+            table = entry / 4096;
+        }
+        (Some(entry), reads)
+    }
+
+    pub fn walk(&self, address: u64, is_store: bool) -> Seen {
+        let mut seen = Seen { end: Ok(0), reads: 0, found_at: vec![], guest_words: vec![], frames: vec![] };
+        seen.end = self.walk_into(address, is_store, &mut seen);
+        seen
+    }
+
+    fn walk_into(&self, address: u64, is_store: bool, seen: &mut Seen) -> Result<u64, (char, u32, u64)> {
+        let mut frame = self.root;
+        let mut level = self.levels;
+        let mut rights = 2;
+        loop {
+            let (host_entry, words) = self.host_walk(frame);
+            seen.reads += words;
+            seen.frames.push(frame);
+            let Some(host_entry) = host_entry else { return Err(('H', 0, frame)) };
+            seen.found_at.push(seen.reads);
+            if level == 0 {
+                if is_store && host_entry & 2 == 0 {
+                    return Err(('W', 0, frame));
+                }
+                return Ok(host_entry / 4096);
+            }
+            let slot = self.slot(host_entry / 4096, address / 4096, level);
+            let entry = self.memory[slot];
+            seen.reads += 1;
+            seen.guest_words.push((slot as u64 / 512, slot as u64 % 512));
+            let reserved: u64 = if self.levels == 4 { 0x000F_0000_0000_0000 } else { 0 };
+            let large: u64 = if level == 1 { 0 } else { 0x80 };
+            if entry & 1 == 0 {
+                return Err(('A', level, 0));
+            }
+            if entry & (reserved | large) != 0 {
+                return Err(('M', level, 0));
+            }
+            rights &= entry;
+            if level == 1 && is_store && rights == 0 {
+                return Err(('P', 1, 0));
+            }
+            frame = (entry & 0x000F_FFFF_FFFF_F000) / 4096;
+            level -= 1;
+        }
+    }
+}

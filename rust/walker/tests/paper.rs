@@ -1,0 +1,458 @@
+//! Document 01's own examples and each refusal, by the numbers printed there.
+
+use walker::answer::{Answer, Call, Fault};
+use walker::machine::Access;
+use walker::Unit;
+
+const LEVELS: u32 = 4;
+
+fn memory(frames: usize) -> Vec<u64> {
+    vec![0; frames * 512]
+}
+
+/// "H = S = 4; guest frames 0 to 7 at 8 to 15, writable; root 0. Entry 0 of frame 0
+/// is 0x1003, of 1 is 0x2003, of 2 is 0x3003. Frame 3 holds 0x4003, 0x5001, 0x8003,
+/// 0, 0x3003. Entry 1 of frame 2 is 0x3003. All other guest words are 0."
+fn sixteen_frame_guest() -> Unit {
+    let mut words = memory(16);
+    let guest = |frame: usize, index: usize| (8 + frame) * 512 + index;
+    words[guest(0, 0)] = 0x1003;
+    words[guest(1, 0)] = 0x2003;
+    words[guest(2, 0)] = 0x3003;
+    words[guest(2, 1)] = 0x3003;
+    for (index, entry) in [0x4003, 0x5001, 0x8003, 0, 0x3003].into_iter().enumerate() {
+        words[guest(3, index)] = entry;
+    }
+    let mut unit = Unit::open(LEVELS, words, 4, 4).unwrap();
+    for frame in 0..8 {
+        assert_eq!(map(&mut unit, frame, 8 + frame), Answer::Ok);
+    }
+    assert_eq!(unit.call(&Call::Root { frame: 0 }), Answer::Ok);
+    unit
+}
+
+fn map(unit: &mut Unit, guest: u64, host: u64) -> Answer {
+    unit.call(&Call::Map { guest, host, writable: true })
+}
+
+fn load(unit: &mut Unit, address: u64) -> Answer {
+    unit.call(&Call::Load { address })
+}
+
+fn store(unit: &mut Unit, address: u64, value: u64) -> Answer {
+    unit.call(&Call::Store { address, value })
+}
+
+fn set_mark(unit: &mut Unit, address: u64, level: u64) -> Answer {
+    unit.call(&Call::SetMark { address, level })
+}
+
+fn clear_mark(unit: &mut Unit, address: u64, level: u64) -> Answer {
+    unit.call(&Call::ClearMark { address, level })
+}
+
+fn value(value: u64, references: u64, exits: u64) -> Answer {
+    Answer::Value { value, references, exits }
+}
+
+fn done(references: u64, exits: u64) -> Answer {
+    Answer::Done { references, exits }
+}
+
+fn fault(fault: Fault, references: u64, exits: u64) -> Answer {
+    Answer::Fault { fault, references, exits }
+}
+
+/// The host frame that an address's page is found in.
+fn page(unit: &Unit, address: u64) -> u64 {
+    unit.machine().plain_walk(address, Access::Load).end.unwrap().host
+}
+
+// A sixteen-frame guest, line by line.
+
+#[test]
+fn load_8_and_again() {
+    let mut unit = sixteen_frame_guest();
+    assert_eq!(load(&mut unit, 0x8), value(0, 4, 1));
+    assert_eq!(load(&mut unit, 0x8), value(0, 4, 0));
+    assert_eq!(page(&unit, 0x8), 12);
+    // Word 1 of frame 12 is the word loaded.
+    assert_eq!(unit.call(&Call::DeviceStore { address: 0x4008, value: 0x77 }), done(4, 0));
+    assert_eq!(unit.guest_words()[(12 - 8) * 512 + 1], 0x77);
+    assert_eq!(load(&mut unit, 0x8), value(0x77, 4, 0));
+}
+
+#[test]
+fn store_1000_load_2000_load_3000() {
+    let mut unit = sixteen_frame_guest();
+    assert_eq!(store(&mut unit, 0x1000, 1), fault(Fault::Protected { level: 1 }, 20, 1));
+    let mut unit = sixteen_frame_guest();
+    assert_eq!(load(&mut unit, 0x2000), fault(Fault::HostAbsent { frame: 8 }, 24, 1));
+    let mut unit = sixteen_frame_guest();
+    assert_eq!(load(&mut unit, 0x3000), fault(Fault::Absent { level: 1 }, 20, 1));
+}
+
+#[test]
+fn store_into_a_watched_table() {
+    let mut unit = sixteen_frame_guest();
+    load(&mut unit, 0);
+    assert_eq!(store(&mut unit, 0x4000, 0x7003), done(4, 2));
+    assert_eq!(load(&mut unit, 0), value(0, 4, 1));
+    assert_eq!(page(&unit, 0), 15);
+}
+
+#[test]
+fn mark_1() {
+    let mut unit = sixteen_frame_guest();
+    assert_eq!(set_mark(&mut unit, 0, 1), Answer::Ok);
+    assert_eq!(load(&mut unit, 0), value(0, 8, 1));
+    assert_eq!(store(&mut unit, 0x4000, 0x7003), done(8, 0));
+    assert_eq!(load(&mut unit, 0x2000), fault(Fault::HostAbsent { frame: 8 }, 8, 1));
+}
+
+#[test]
+fn marks_4_and_5() {
+    let mut unit = sixteen_frame_guest();
+    set_mark(&mut unit, 0, 4);
+    assert_eq!(load(&mut unit, 0), value(0, 20, 1));
+    let mut unit = sixteen_frame_guest();
+    set_mark(&mut unit, 0, 5);
+    assert_eq!(load(&mut unit, 0), value(0, 24, 0));
+}
+
+#[test]
+fn map_4_to_13() {
+    let mut unit = sixteen_frame_guest();
+    load(&mut unit, 0);
+    assert_eq!(map(&mut unit, 4, 13), Answer::Ok);
+    assert_eq!(load(&mut unit, 0), value(0, 4, 1));
+    assert_eq!(page(&unit, 0), 13);
+    let mut unit = sixteen_frame_guest();
+    set_mark(&mut unit, 0, 1);
+    load(&mut unit, 0);
+    assert_eq!(map(&mut unit, 4, 13), Answer::Ok);
+    assert_eq!(load(&mut unit, 0), value(0, 8, 0));
+    assert_eq!(page(&unit, 0), 13);
+}
+
+#[test]
+fn five_tables_do_not_fit_four() {
+    let mut unit = sixteen_frame_guest();
+    assert_eq!(load(&mut unit, 0), value(0, 4, 1));
+    assert_eq!(load(&mut unit, 0x200000), value(0, 4, 1));
+    assert_eq!(load(&mut unit, 0), value(0, 4, 1));
+}
+
+#[test]
+fn the_ends_of_the_address_space() {
+    let mut unit = sixteen_frame_guest();
+    assert_eq!(load(&mut unit, 0xFFFF_FFFF_FFF8), fault(Fault::Absent { level: 4 }, 5, 1));
+    assert_eq!(load(&mut unit, 1 << 48), Answer::No(4));
+}
+
+// Openings.
+
+#[test]
+fn open_refuses_1_then_2() {
+    let open = |words: Vec<u64>, h, s| Unit::open(LEVELS, words, h, s).err();
+    assert_eq!(open(vec![0; 16 * 512 + 1], 0, 0), Some(1));
+    assert_eq!(open(Vec::new(), 4, 4), Some(1));
+    assert_eq!(open(memory(65_537), 4, 4), Some(1));
+    assert_eq!(open(memory(65_536), 4, 4), None);
+    assert_eq!(open(memory(16), 3, 4), Some(2));
+    assert_eq!(open(memory(16), 4, 3), Some(2));
+    assert_eq!(open(memory(16), 8, 8), Some(2));
+    assert_eq!(open(memory(16), u64::MAX, 4), Some(2));
+    assert_eq!(open(memory(16), 8, 7), None);
+    assert_eq!(open(memory(9), 4, 4), None);
+}
+
+#[test]
+fn open_keeps_guest_words() {
+    let words: Vec<u64> = (0..16 * 512).collect();
+    let unit = Unit::open(LEVELS, words.clone(), 5, 4).unwrap();
+    assert_eq!(unit.guest_words(), &words[9 * 512..]);
+}
+
+// The other refusals, in their order.
+
+#[test]
+fn refusal_4_of_requests() {
+    let mut unit = sixteen_frame_guest();
+    for address in [1, 4, 0x1007, 1 << 48, (1 << 48) + 8, u64::MAX, u64::MAX - 7] {
+        assert_eq!(load(&mut unit, address), Answer::No(4));
+        assert_eq!(store(&mut unit, address, 1), Answer::No(4));
+        assert_eq!(unit.call(&Call::DeviceStore { address, value: 1 }), Answer::No(4));
+    }
+    assert!(unit.book().held.is_empty());
+}
+
+#[test]
+fn refusals_of_marks() {
+    let mut unit = sixteen_frame_guest();
+    assert_eq!(set_mark(&mut unit, 1 << 48, 9), Answer::No(4));
+    assert_eq!(clear_mark(&mut unit, 1 << 48, 9), Answer::No(4));
+    for level in [0, 6, 255, u64::MAX] {
+        assert_eq!(set_mark(&mut unit, 0, level), Answer::No(5));
+        assert_eq!(clear_mark(&mut unit, 0, level), Answer::No(5));
+    }
+    assert_eq!(clear_mark(&mut unit, 0, 1), Answer::No(6));
+    // Mark addresses need not be multiples of 8.
+    assert_eq!(set_mark(&mut unit, 0x1FFFFF, 1), Answer::Ok);
+    assert_eq!(set_mark(&mut unit, 0, 1), Answer::No(6));
+    assert_eq!(set_mark(&mut unit, 0x200000, 1), Answer::Ok);
+    // Levels 4 and 5 keep no index.
+    assert_eq!(set_mark(&mut unit, 0, 4), Answer::Ok);
+    assert_eq!(set_mark(&mut unit, 1 << 40, 4), Answer::No(6));
+    assert_eq!(set_mark(&mut unit, 0, 5), Answer::Ok);
+    assert_eq!(clear_mark(&mut unit, 1 << 40, 4), Answer::Ok);
+    assert_eq!(clear_mark(&mut unit, 0, 4), Answer::No(6));
+}
+
+#[test]
+fn refusal_7_after_6() {
+    let mut unit = sixteen_frame_guest();
+    for number in 0..64 {
+        assert_eq!(set_mark(&mut unit, number << 21, 1), Answer::Ok);
+    }
+    assert_eq!(set_mark(&mut unit, 63 << 21, 1), Answer::No(6));
+    assert_eq!(set_mark(&mut unit, 64 << 21, 1), Answer::No(7));
+    assert_eq!(clear_mark(&mut unit, 64 << 21, 1), Answer::No(6));
+    assert_eq!(clear_mark(&mut unit, 5 << 21, 1), Answer::Ok);
+    assert_eq!(set_mark(&mut unit, 64 << 21, 1), Answer::Ok);
+}
+
+#[test]
+fn refusals_of_root_map_and_unmap() {
+    let mut unit = sixteen_frame_guest();
+    load(&mut unit, 0);
+    assert_eq!(unit.call(&Call::Root { frame: 1 << 36 }), Answer::No(8));
+    assert_eq!(map(&mut unit, 1 << 36, 0), Answer::No(8));
+    for host in [0, 4, 7, 16, u64::MAX] {
+        assert_eq!(map(&mut unit, 512, host), Answer::No(9));
+    }
+    assert_eq!(map(&mut unit, 512, 8), Answer::No(10));
+    assert_eq!(map(&mut unit, (1 << 36) - 1, 8), Answer::No(10));
+    assert_eq!(map(&mut unit, 511, 8), Answer::Ok);
+    assert_eq!(unit.call(&Call::Unmap { guest: 1 << 36 }), Answer::No(8));
+    assert_eq!(unit.call(&Call::Unmap { guest: 8 }), Answer::No(12));
+    // Refused calls drop nothing.
+    assert_eq!(load(&mut unit, 0), value(0, 4, 0));
+}
+
+#[test]
+fn emptied_host_tables_can_be_used_again() {
+    let mut unit = Unit::open(LEVELS, memory(16), 4, 4).unwrap();
+    for guest in [0, 512, 1 << 18, 1 << 27, (1 << 36) - 1] {
+        assert_eq!(map(&mut unit, guest, 8), Answer::Ok);
+        assert_eq!(map(&mut unit, guest ^ 512, 8), Answer::No(10));
+        assert_eq!(unit.call(&Call::Unmap { guest }), Answer::Ok);
+    }
+    // One more table carries another group of 512, four more another top index.
+    let mut unit = Unit::open(LEVELS, memory(16), 7, 4).unwrap();
+    assert_eq!(map(&mut unit, 0, 11), Answer::Ok);
+    assert_eq!(map(&mut unit, 1 << 27, 11), Answer::Ok);
+    assert_eq!(map(&mut unit, 512, 11), Answer::No(10));
+}
+
+// Points of the readings.
+
+#[test]
+fn host_walk_of_an_unmapped_frame_counts_1_to_4() {
+    let mut unit = Unit::open(LEVELS, memory(16), 4, 4).unwrap();
+    let device =
+        |unit: &mut Unit, frame: u64| unit.call(&Call::DeviceStore { address: frame << 12, value: 1 });
+    let absent = |frame, references| fault(Fault::HostAbsent { frame }, references, 1);
+    assert_eq!(device(&mut unit, 0), absent(0, 1));
+    assert_eq!(load(&mut unit, 0), absent(0, 1));
+    map(&mut unit, 0, 8);
+    for (frame, references) in [(1, 4), (512, 3), (1 << 18, 2), (1 << 27, 1), ((1 << 36) - 1, 1)] {
+        assert_eq!(device(&mut unit, frame), absent(frame, references));
+    }
+}
+
+#[test]
+fn absent_and_malformed_and_protected_in_their_order() {
+    let walk = |entry: u64, level: u64| {
+        let mut unit = sixteen_frame_guest();
+        // The entry of this level on the walk of address 0 stands in frame 4 - level.
+        unit.call(&Call::DeviceStore { address: (4 - level) << 12, value: entry });
+        (load(&mut unit, 0), store(&mut unit, 0, 1))
+    };
+    for level in 1..=4u64 {
+        let plain = 9 + 5 * (4 - level) - 4;
+        let absent = fault(Fault::Absent { level: level as u32 }, plain, 1);
+        let malformed = fault(Fault::Malformed { level: level as u32 }, plain, 1);
+        // Not present is A, whatever else is set.
+        assert_eq!(walk(0xF_0000_0000_0082, level), (absent, absent));
+        for bit in 48..52 {
+            assert_eq!(walk(0x1003 | 1 << bit, level), (malformed, malformed));
+        }
+        if level > 1 {
+            assert_eq!(walk(0x1083, level), (malformed, malformed));
+        }
+    }
+    // Ignored bits, and bit 7 at level 1.
+    assert_eq!(walk(0xFFF0_0000_0000_4FFF, 1), (value(0, 4, 1), done(4, 0)));
+    assert_eq!(walk(0xFFF0_0000_0000_1F7F, 4), (value(0, 4, 1), done(4, 0)));
+    // P is judged once level 1 is read, wherever the unset bit stands.
+    for level in 1..=4 {
+        let protected = fault(Fault::Protected { level: 1 }, 20, 1);
+        let frame = 5 - level;
+        assert_eq!(walk(frame << 12 | 1, level), (value(0, 4, 1), protected));
+    }
+    // Read-only above and absent at level 1 is A; read-only with an unmapped page is P.
+    let mut unit = sixteen_frame_guest();
+    unit.call(&Call::DeviceStore { address: 0, value: 0x1001 });
+    assert_eq!(store(&mut unit, 0x3000, 1), fault(Fault::Absent { level: 1 }, 20, 1));
+    assert_eq!(store(&mut unit, 0x2000, 1), fault(Fault::Protected { level: 1 }, 20, 1));
+    assert_eq!(load(&mut unit, 0x2000), fault(Fault::HostAbsent { frame: 8 }, 24, 1));
+}
+
+#[test]
+fn protected_by_a_shadowed_entry_fills_and_costs_no_exit_of_its_own() {
+    for depth in 1..=5u64 {
+        let mut unit = sixteen_frame_guest();
+        unit.call(&Call::DeviceStore { address: 0, value: 0x1001 });
+        set_mark(&mut unit, 0, depth);
+        let references = if depth == 5 { 20 } else { 4 * depth };
+        let protected = |exits| fault(Fault::Protected { level: 1 }, references, exits);
+        assert_eq!(store(&mut unit, 0, 1), protected((depth < 5) as u64));
+        assert_eq!(store(&mut unit, 0, 1), protected(0));
+        assert_eq!(unit.book().held.len(), (depth < 5) as usize);
+    }
+}
+
+#[test]
+fn a_held_path_that_forbids_the_store_stays_held() {
+    let mut unit = sixteen_frame_guest();
+    // P: page 1 is read-only by its guest entry.
+    assert_eq!(store(&mut unit, 0x1000, 1), fault(Fault::Protected { level: 1 }, 20, 1));
+    assert!(unit.book().held.is_empty());
+    assert_eq!(load(&mut unit, 0x1000), value(0, 4, 1));
+    assert_eq!(store(&mut unit, 0x1000, 1), fault(Fault::Protected { level: 1 }, 20, 1));
+    assert_eq!(load(&mut unit, 0x1000), value(0, 4, 0));
+    // W: page 0 is read-only by its mapping.
+    unit.call(&Call::Map { guest: 4, host: 12, writable: false });
+    let read_only = fault(Fault::HostReadOnly { frame: 4 }, 24, 1);
+    assert_eq!(store(&mut unit, 0, 1), read_only);
+    assert_eq!(load(&mut unit, 0), value(0, 4, 1));
+    assert_eq!(store(&mut unit, 0, 1), read_only);
+    assert_eq!(load(&mut unit, 0), value(0, 4, 0));
+    // A read-only mapping of a table forbids nothing.
+    unit.call(&Call::Map { guest: 4, host: 12, writable: true });
+    unit.call(&Call::Map { guest: 3, host: 11, writable: false });
+    assert_eq!(store(&mut unit, 0, 1), done(4, 1));
+    // W in the direct part: the path is filled, and there are two exits.
+    unit.call(&Call::Map { guest: 4, host: 12, writable: false });
+    set_mark(&mut unit, 0, 1);
+    assert_eq!(store(&mut unit, 0, 1), fault(Fault::HostReadOnly { frame: 4 }, 8, 2));
+    assert_eq!(store(&mut unit, 0, 1), fault(Fault::HostReadOnly { frame: 4 }, 8, 1));
+}
+
+#[test]
+fn the_root_not_mapped() {
+    let mut unit = sixteen_frame_guest();
+    unit.call(&Call::Root { frame: 9 });
+    let absent = |references, exits| fault(Fault::HostAbsent { frame: 9 }, references, exits);
+    assert_eq!(load(&mut unit, 0), absent(4, 1));
+    set_mark(&mut unit, 0, 4);
+    assert_eq!(load(&mut unit, 0), absent(4, 1));
+    assert!(unit.book().held.is_empty());
+    set_mark(&mut unit, 0, 5);
+    assert_eq!(load(&mut unit, 0), absent(4, 1));
+}
+
+#[test]
+fn marks_drop_what_begins_with_their_prefix() {
+    let mut unit = sixteen_frame_guest();
+    set_mark(&mut unit, 0, 2);
+    assert_eq!(load(&mut unit, 0), value(0, 12, 1));
+    // The path is shorter than the prefix of a level 1 mark: it stays.
+    assert_eq!(set_mark(&mut unit, 0, 1), Answer::Ok);
+    assert_eq!(load(&mut unit, 0), value(0, 12, 0));
+    assert_eq!(set_mark(&mut unit, 1 << 39, 2), Answer::Ok);
+    assert_eq!(load(&mut unit, 0), value(0, 12, 0));
+    assert_eq!(clear_mark(&mut unit, 0, 2), Answer::Ok);
+    assert_eq!(load(&mut unit, 0), value(0, 8, 1));
+    assert_eq!(clear_mark(&mut unit, 0, 1), Answer::Ok);
+    assert_eq!(load(&mut unit, 0), value(0, 4, 1));
+}
+
+#[test]
+fn watching_is_judged_after_the_fill_and_before_the_drops() {
+    // The store's own fill makes its frame watched: two exits, and its path is dropped.
+    let mut unit = sixteen_frame_guest();
+    assert_eq!(store(&mut unit, 0x4020, 0x3003), done(4, 2));
+    assert_eq!(load(&mut unit, 0x4000), value(0x4003, 4, 1));
+    // A word that nobody read: an exit and no drop.
+    assert_eq!(store(&mut unit, 0x4ff8, 1), done(4, 1));
+    assert_eq!(load(&mut unit, 0x4000), value(0x4003, 4, 0));
+    // The store's own overflow takes the only path that watched the frame.
+    let mut unit = sixteen_frame_guest();
+    unit.call(&Call::DeviceStore { address: 0x6000, value: 0x2003 });
+    unit.call(&Call::DeviceStore { address: 0x2008, value: 0x6003 });
+    assert_eq!(load(&mut unit, 0), value(0, 4, 1));
+    assert!(unit.book().watched(11));
+    // Page 0x201000: entry 1 of frame 2, then entry 1 of frame 6, a page in frame 3.
+    unit.call(&Call::DeviceStore { address: 0x6008, value: 0x3003 });
+    assert_eq!(store(&mut unit, 0x201ff8, 1), done(4, 1));
+    assert!(!unit.book().watched(11));
+}
+
+#[test]
+fn stores_drop_by_host_word() {
+    // Guest frame 9 is a second name of the level 1 table.
+    let mut unit = sixteen_frame_guest();
+    map(&mut unit, 9, 11);
+    load(&mut unit, 0);
+    assert_eq!(unit.call(&Call::DeviceStore { address: 0x9000, value: 0x4003 }), done(4, 1));
+    assert_eq!(load(&mut unit, 0), value(0, 4, 1));
+    assert_eq!(unit.call(&Call::DeviceStore { address: 0x9008, value: 0x5003 }), done(4, 1));
+    assert_eq!(load(&mut unit, 0), value(0, 4, 0));
+    // Mapping the second name anew drops nothing, the first name drops.
+    map(&mut unit, 9, 12);
+    assert_eq!(load(&mut unit, 0), value(0, 4, 0));
+    map(&mut unit, 3, 11);
+    assert_eq!(load(&mut unit, 0), value(0, 4, 1));
+    unit.call(&Call::Root { frame: 0 });
+    assert_eq!(load(&mut unit, 0), value(0, 4, 1));
+}
+
+// Five levels.
+
+#[test]
+fn five_levels() {
+    let mut words = memory(24);
+    // Guest frame n at host frame 10 + n; frames 0 to 4 are the tables, 5 the page.
+    for frame in 0..5u64 {
+        words[(10 + frame as usize) * 512] = (frame + 1) << 12 | 3;
+    }
+    assert_eq!(Unit::open(5, words.clone(), 4, 5).err(), Some(2));
+    let open = || {
+        let mut unit = Unit::open(5, words.clone(), 5, 5).unwrap();
+        for frame in 0..8 {
+            assert_eq!(map(&mut unit, frame, 10 + frame), Answer::Ok);
+        }
+        unit
+    };
+    for depth in 0..=6 {
+        let mut unit = open();
+        if depth > 0 {
+            assert_eq!(set_mark(&mut unit, 0, depth), Answer::Ok);
+        }
+        assert_eq!(load(&mut unit, 8), value(0, 5 + 5 * depth, (depth < 6) as u64));
+        assert_eq!(load(&mut unit, 8), value(0, 5 + 5 * depth, 0));
+    }
+    let mut unit = open();
+    assert_eq!(set_mark(&mut unit, 0, 7), Answer::No(5));
+    assert_eq!(unit.call(&Call::Root { frame: 1 << 40 }), Answer::No(8));
+    assert_eq!(unit.call(&Call::Root { frame: (1 << 40) - 1 }), Answer::Ok);
+    assert_eq!(load(&mut unit, 0), fault(Fault::HostAbsent { frame: (1 << 40) - 1 }, 1, 1));
+    assert_eq!(load(&mut unit, 1 << 57), Answer::No(4));
+    assert_eq!(unit.call(&Call::DeviceStore { address: 1 << 52, value: 0 }), Answer::No(4));
+    // Bits 48 to 51 are frame bits.
+    unit.call(&Call::Root { frame: 0 });
+    unit.call(&Call::DeviceStore { address: 0, value: 1 << 51 | 3 });
+    assert_eq!(load(&mut unit, 0), fault(Fault::HostAbsent { frame: 1 << 39 }, 7, 1));
+}

@@ -1,0 +1,399 @@
+//! Random runs: the walker beside a separate plain walk over real host tables, and
+//! the rules of the book checked after each call.
+
+mod naive;
+
+use naive::{Naive, Seen};
+use std::collections::BTreeMap;
+use walker::answer::{Answer, Call};
+use walker::events::Events;
+use walker::numbers::{address_of, page_from};
+use walker::random::{run, Random, Run, Sizes};
+use walker::vectors::lines;
+use walker::Unit;
+
+/// Held paths with the guest words that their shadow parts read.
+type Held = BTreeMap<Vec<u64>, Vec<(u64, u64)>>;
+
+/// The end of a walk: a host frame, or a fault's letter, level and frame.
+type End = Result<u64, (char, u32, u64)>;
+
+/// A unit beside the naive machine.
+struct Pair {
+    unit: Unit,
+    naive: Naive,
+    marks: Vec<(u64, u64)>,
+}
+
+impl Pair {
+    fn new(run: &Run) -> Pair {
+        let Sizes { levels, h, s, .. } = run.sizes;
+        let unit = Unit::open(levels, run.words.clone(), h, s).unwrap();
+        Pair { unit, naive: Naive::open(levels, run.words.clone(), h, s), marks: Vec::new() }
+    }
+
+    fn step(&mut self, call: &Call) {
+        match *call {
+            Call::Load { address } => self.request(call, address, None),
+            Call::Store { address, value } => self.request(call, address, Some(value)),
+            Call::DeviceStore { address, value } => self.device_store(call, address, value),
+            _ => self.change(call),
+        }
+        assert_eq!(self.unit.guest_words(), self.naive.guest_words());
+        self.check_book();
+    }
+
+    fn held(&self) -> Held {
+        let words =
+            |held: &walker::book::HeldPath| held.words.iter().map(|word| (word.frame, word.index)).collect();
+        self.unit.book().held.iter().map(|(path, held)| (path.clone(), words(held))).collect()
+    }
+
+    // Root, map, unmap and marks: what is dropped, and only that.
+
+    fn change(&mut self, call: &Call) {
+        let before = self.unit.book().held.clone();
+        let answer = self.unit.call(call);
+        let levels = self.naive.levels;
+        let after = &self.unit.book().held;
+        let refused = matches!(answer, Answer::No(_));
+        for (path, held) in &before {
+            let dropped = match *call {
+                Call::Root { .. } => true,
+                Call::Map { guest, .. } | Call::Unmap { guest } => held.frames.contains(&guest),
+                Call::SetMark { address, level } | Call::ClearMark { address, level } => {
+                    let kept = levels.saturating_sub(level as u32) as usize;
+                    path.len() >= kept && path[..kept] == path_of(address, levels, kept)[..]
+                }
+                _ => unreachable!(),
+            };
+            assert_eq!(after.contains_key(path), refused || !dropped, "{call:?}");
+        }
+        assert!(after.keys().all(|path| before.contains_key(path)));
+        self.change_naive(call, &answer);
+    }
+
+    fn change_naive(&mut self, call: &Call, answer: &Answer) {
+        match (*call, answer) {
+            (Call::Map { guest, host, writable }, Answer::Ok) => {
+                assert!(self.naive.map(guest, host, writable))
+            }
+            (Call::Map { guest, host, writable }, Answer::No(10)) => {
+                assert!(!self.naive.map(guest, host, writable))
+            }
+            (_, Answer::No(_)) => {}
+            (Call::Root { frame }, Answer::Ok) => self.naive.root = frame,
+            (Call::Unmap { guest }, Answer::Ok) => self.naive.unmap(guest),
+            (Call::SetMark { address, level }, Answer::Ok) => self.marks.push((address, level)),
+            (Call::ClearMark { address, level }, Answer::Ok) => {
+                let bits = mark_bits(level, self.naive.levels);
+                self.marks.retain(|mark| mark.1 != level || mark.0 >> bits != address >> bits);
+            }
+            other => panic!("{other:?}"),
+        }
+    }
+
+    // Loads, stores and device stores.
+
+    fn request(&mut self, call: &Call, address: u64, value: Option<u64>) {
+        if address % 8 != 0 || address >> (12 + 9 * self.naive.levels) != 0 {
+            return assert_eq!(self.unit.call(call), Answer::No(4));
+        }
+        let levels = self.naive.levels as u64;
+        let seen = self.naive.walk(address, value.is_some());
+        let depth = depth(&self.marks, address, self.naive.levels);
+        let mut held = self.held();
+
+        // The counts and the fill, from the naive walk and the paths held before.
+        let (references, mut exits) = if depth > levels {
+            (seen.reads, of_host(seen.end) as u64)
+        } else {
+            self.through_path(address, value.is_some(), depth, &seen, &mut held)
+        };
+        // The write and the drops.
+        if let (Ok(host), Some(value)) = (seen.end, value) {
+            exits += watched(&held, host) as u64;
+            self.write(&mut held, host, address, value);
+        }
+        if seen.end.is_ok() {
+            assert_eq!(references, levels + levels * depth);
+        }
+        let answer = self.unit.call(call);
+        assert_eq!((end_of(&answer), counts(&answer)), (seen.end.err(), (references, exits)), "{call:?}");
+        assert_eq!(self.held(), held, "{call:?}");
+        if let (Ok(host), Answer::Value { value, .. }) = (seen.end, answer) {
+            assert_eq!(value, self.naive.memory[place(host, address)]);
+        }
+    }
+
+    /// References and exits of a request at depth N or less, and the fill.
+    fn through_path(
+        &self,
+        address: u64,
+        is_store: bool,
+        depth: u64,
+        seen: &Seen,
+        held: &mut Held,
+    ) -> (u64, u64) {
+        let shadowed = (self.naive.levels as u64 - depth) as usize;
+        let path = path_of(address, self.naive.levels, shadowed);
+        let complete = if depth == 0 { seen.end.is_ok() } else { seen.found_at.len() > shadowed };
+        let was_held = held.contains_key(&path);
+        let forbids = depth == 0 && is_store && was_held && !self.unit.book().held[&path].writable;
+        let exits = (!was_held || forbids) as u64;
+        if !complete {
+            return (seen.reads, exits);
+        }
+        if !was_held {
+            held.insert(path.clone(), Vec::new());
+            if tables(held) > self.naive.s as usize {
+                held.clear();
+            }
+            held.insert(path, seen.guest_words[..shadowed].to_vec());
+        }
+        let references = shadowed as u64 + seen.reads - seen.found_at[shadowed];
+        (references, exits + of_host(seen.end) as u64)
+    }
+
+    fn device_store(&mut self, call: &Call, address: u64, value: u64) {
+        let frame = address / 4096;
+        let frame_bits = if self.naive.levels == 4 { 36 } else { 40 };
+        if address % 8 != 0 || frame >> frame_bits != 0 {
+            return assert_eq!(self.unit.call(call), Answer::No(4));
+        }
+        let (entry, references) = self.naive.host_walk(frame);
+        let end: End = match entry {
+            None => Err(('H', 0, frame)),
+            Some(entry) if entry & 2 == 0 => Err(('W', 0, frame)),
+            Some(entry) => Ok(entry / 4096),
+        };
+        let mut held = self.held();
+        let exits = end.map_or(1, |host| watched(&held, host) as u64);
+        if let Ok(host) = end {
+            self.write(&mut held, host, address, value);
+        }
+        let answer = self.unit.call(call);
+        assert_eq!((end_of(&answer), counts(&answer)), (end.err(), (references, exits)), "{call:?}");
+        assert_eq!(self.held(), held, "{call:?}");
+    }
+
+    fn write(&mut self, held: &mut Held, host: u64, address: u64, value: u64) {
+        self.naive.memory[place(host, address)] = value;
+        held.retain(|_, words| !words.contains(&(host, address / 8 % 512)));
+    }
+
+    /// No held path is a proper prefix of another; each has the depth of its
+    /// addresses and re-walks to what the book has; the tables fit S.
+    fn check_book(&self) {
+        let book = self.unit.book();
+        let levels = self.naive.levels;
+        assert!(book.tables_in_use() <= self.naive.s);
+        for (path, held) in &book.held {
+            let others = book.held.keys().filter(|other| *other != path);
+            assert!(others.into_iter().all(|other| !other.starts_with(path)));
+            let address = address_of(page_from(path, levels));
+            let path_depth = levels - path.len() as u32;
+            assert_eq!(depth(&self.marks, address, levels), path_depth as u64);
+            let seen = self.naive.walk(address, false);
+            let words: Vec<(u64, u64)> = held.words.iter().map(|word| (word.frame, word.index)).collect();
+            assert_eq!(words, seen.guest_words[..path.len()]);
+            assert_eq!(held.frames, seen.frames[..=path.len()]);
+            assert_eq!(held.writable, self.writable(address, path_depth, &words));
+            assert!(path_depth > 0 || seen.end.is_ok());
+        }
+    }
+
+    /// At depth 0 whether a store is granted, else whether the guest words allow it.
+    fn writable(&self, address: u64, path_depth: u32, words: &[(u64, u64)]) -> bool {
+        if path_depth == 0 {
+            return self.naive.walk(address, true).end.is_ok();
+        }
+        words.iter().all(|word| self.naive.memory[(word.0 * 512 + word.1) as usize] & 2 != 0)
+    }
+}
+
+/// The bits of an address that a mark's prefix does not keep.
+fn mark_bits(level: u64, levels: u32) -> u64 {
+    12 + 9 * level.min(levels as u64)
+}
+
+/// The depth, from addresses and levels alone.
+fn depth(marks: &[(u64, u64)], address: u64, levels: u32) -> u64 {
+    let begins = |mark: &&(u64, u64)| (mark.0 ^ address) >> mark_bits(mark.1, levels) == 0;
+    marks.iter().filter(begins).map(|mark| mark.1).max().unwrap_or(0)
+}
+
+fn path_of(address: u64, levels: u32, length: usize) -> Vec<u64> {
+    (0..length as u32).map(|place| (address >> (12 + 9 * (levels - 1 - place))) & 511).collect()
+}
+
+/// Shadow tables in use: each proper prefix once.
+fn tables(held: &Held) -> usize {
+    let mut prefixes: Vec<&[u64]> = Vec::new();
+    for path in held.keys() {
+        for length in 0..path.len() {
+            if !prefixes.contains(&&path[..length]) {
+                prefixes.push(&path[..length]);
+            }
+        }
+    }
+    prefixes.len()
+}
+
+fn watched(held: &Held, host: u64) -> bool {
+    held.values().flatten().any(|word| word.0 == host)
+}
+
+fn of_host(end: End) -> bool {
+    matches!(end, Err(('H' | 'W', _, _)))
+}
+
+fn place(host: u64, address: u64) -> usize {
+    (host * 512 + address / 8 % 512) as usize
+}
+
+/// The fault of an answer, if it has one.
+fn end_of(answer: &Answer) -> Option<(char, u32, u64)> {
+    match answer {
+        Answer::Fault { fault, .. } => Some((fault.letter(), fault.level(), fault.frame())),
+        _ => None,
+    }
+}
+
+fn counts(answer: &Answer) -> (u64, u64) {
+    match *answer {
+        Answer::Value { references, exits, .. }
+        | Answer::Done { references, exits }
+        | Answer::Fault { references, exits, .. } => (references, exits),
+        _ => panic!("no counts in {answer:?}"),
+    }
+}
+
+fn check_run(run: &Run) -> Events {
+    let mut pair = Pair::new(run);
+    for call in &run.calls {
+        pair.step(call);
+    }
+    pair.unit.events().clone()
+}
+
+fn check_small_runs(levels: u32, seeds: std::ops::Range<u64>, calls: usize) -> Events {
+    let mut all = Events::default();
+    for seed in seeds {
+        let sizes = Sizes::small(&mut Random::new(seed + 1), levels);
+        all.join(&check_run(&run(seed, sizes, calls)));
+    }
+    all
+}
+
+#[test]
+fn small_runs_with_four_levels() {
+    let events = check_small_runs(4, 0..400, 60);
+    for (name, many) in &events.counts {
+        println!("{many:>9}  {name}");
+    }
+}
+
+#[test]
+fn small_runs_with_five_levels() {
+    let events = check_small_runs(5, 0..200, 60);
+    assert!(events.count("granted Load at depth 6, no path") > 0);
+    assert!(events.count("granted Store at depth 5, path held") > 0);
+}
+
+#[test]
+fn long_runs_reach_every_event() {
+    let events = check_small_runs(4, 1000..1060, 600);
+    let missed: Vec<String> = sought_events().into_iter().filter(|name| events.count(name) == 0).collect();
+    assert!(missed.is_empty(), "{missed:?}");
+}
+
+/// The events that long runs must show.
+fn sought_events() -> Vec<String> {
+    let mut names = Vec::new();
+    for depth in 0..=4 {
+        for way in ["path held", "path not held"] {
+            names.push(format!("granted Load at depth {depth}, {way}"));
+            names.push(format!("granted Store at depth {depth}, {way}"));
+        }
+        for letter in ["A", "H", "P", "W"] {
+            if depth > 0 {
+                names.push(format!("fault {letter} at depth {depth}, direct part, path held"));
+                names.push(format!("fault {letter} at depth {depth}, direct part, path not held"));
+            }
+        }
+        // P and W belong to the shadow part at depth 0 only, A and M need an entry in it.
+        let letters: &[&str] = match depth {
+            0 => &["A", "M", "H", "P", "W"],
+            4 => &["H"],
+            _ => &["A", "M", "H"],
+        };
+        for letter in letters {
+            names.push(format!("fault {letter} at depth {depth}, shadow part, path not held"));
+        }
+    }
+    for letter in ["A", "M", "H", "P", "W"] {
+        names.push(format!("fault {letter} at depth 5, direct part, no path"));
+    }
+    for level in 1..=4 {
+        names.push(format!("fault A of level {level}"));
+        names.push(format!("fault M of level {level}"));
+        names.push(format!("paths dropped by setting a mark of level {level}"));
+        names.push(format!("paths dropped by clearing a mark of level {level}"));
+        names.push(format!("device store, fault H after {level}"));
+    }
+    for number in [4, 5, 6, 7, 8, 9, 10, 12] {
+        names.push(format!("refusal {number}"));
+    }
+    let others = [
+        "fault P at depth 0, shadow part, path held",
+        "fault W at depth 0, shadow part, path held",
+        "granted Load at depth 5, no path",
+        "granted Store at depth 5, no path",
+        "overflow at depth 0",
+        "overflow at depth 1",
+        "overflow at depth 2",
+        "paths dropped by map",
+        "paths dropped by overflow",
+        "paths dropped by root",
+        "paths dropped by setting a mark of level 5",
+        "paths dropped by unmap",
+        "paths dropped by word",
+        "paths dropped through a guest frame they did not use",
+        "drop though the value is the same",
+        "exit for a watched frame",
+        "watched frame, no path dropped",
+        "held path forbids the store",
+        "mapped anew",
+        "store drops its own path",
+        "store's own fill makes its frame watched",
+        "store's own overflow leaves its frame not watched",
+        "device store, fault W after 4",
+        "device store done, 0 exits",
+        "device store done, 1 exits",
+        "store done, 0 exits",
+        "store done, 1 exits",
+        "store done, 2 exits",
+    ];
+    names.extend(others.map(String::from));
+    names
+}
+
+#[test]
+fn large_runs() {
+    for seed in 0..6 {
+        let levels = 4 + (seed % 2) as u32;
+        let sizes = Sizes::large(&mut Random::new(seed), levels);
+        check_run(&run(seed, sizes, 1000));
+    }
+}
+
+#[test]
+fn the_same_seed_gives_the_same_lines() {
+    let text = || {
+        let sizes = Sizes::small(&mut Random::new(8), 4);
+        lines(&run(7, sizes, 60)).unwrap().0
+    };
+    assert_eq!(text(), text());
+    assert!(text()[0].starts_with("open 4 "));
+}
