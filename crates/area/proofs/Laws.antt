@@ -1,15 +1,15 @@
 -- The steps of the loops' definitions, and what the answers of hops, takes and walks always satisfy.
 -- Assumes nothing.
-use mathlib.Core.Path.{_≡_, refl, sym, ap, _∙_}
-use Prim.Native.Nat.{ℕ, zero, suc, _+_, _*_, _-_, _/_, _%_, _^_, _≤_, _<_}
+use mathlib.Core.Path.{_≡_, refl, sym, ap}
+use Prim.Native.Nat.{ℕ, zero, suc, _+_, _*_, _-_, _≤_, _<_}
 use native.Mathlib.Omega.{arith}
 use mathlib.Core.Bool.{Bool, true, false, cond}
 use mathlib.Core.List.{List, [], _∷_}
 use lib.Dec.{eqb, ltb, leb}
 use lib.ListN.{length, getD}
 use borrow.Author.Tests.{leb-true, leb-false, le-leb, lt-leb, ltb-true, ltb-false}
-use Rattle.spec.specs.Entry.{bitSet, present, frameOf, index, indexes}
-use Rattle.words.specs.Words.{wordIn, zeroed}
+use Rattle.spec.specs.Entry.{present, frameOf, index, indexes}
+use Rattle.words.specs.Words.{zeroed}
 use Rattle.area.specs.declared.Area.{Area}
 use Rattle.area.specs.declared.Pool.{Pool}
 use Rattle.area.specs.declared.Way.{Way}
@@ -21,21 +21,7 @@ use Rattle.area.specs.Pool.{hopOf, onWay, end, poolOf, freshOf, freedOf,
 use Rattle.area.specs.Tree.{lookOf, headed, tableOf, enterOf, hung, hangOf, descendOf, onward, downOf}
 use Rattle.area.specs.Remove.{unhangOf, shutOf, releaseOf, lastOf, lastIndex}
 
--- ---- entries and indexes
-pub present-is : (e : ℕ) → present e ≡ eqb (e % 2) 1
-unfolding present bitSet
-present-is e =
-    let whole : e / 2 ^ 0 ≡ e = omega arith in
-    rw whole
-
-pub frame-is : (e : ℕ) → frameOf e ≡ e / 4096 % 1099511627776
-unfolding frameOf
-frame-is e = refl
-
-pub index-small : (k g : ℕ) → index k g < 512
-unfolding index
-index-small k g = omega arith
-
+-- ---- indexes
 pub indexes-none : (g : ℕ) → indexes 0 g ≡ []
 unfolding indexes
 indexes-none g = refl
@@ -46,11 +32,6 @@ indexes-step zero g l = absurd (omega arith)
 indexes-step (suc k) g l =
     let d : suc k - 1 ≡ k = omega arith in
     rw d
-
-pub indexes-length : (k g : ℕ) → length (indexes k g) ≡ k
-unfolding indexes
-indexes-length zero g = refl
-indexes-length (suc k) g = ap suc (indexes-length k g)
 
 pub indexes-last : (k g : ℕ) → lastIndex (index k g) (indexes k g) ≡ index 0 g
 unfolding lastIndex indexes

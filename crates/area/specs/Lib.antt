@@ -2,3 +2,4 @@ pub mod Header
 pub mod Pool
 pub mod Tree
 pub mod Remove
+pub mod Outside

@@ -1,7 +1,7 @@
 -- A radix tree of tables in an area: lookup, room and insert, for any memory. A path is a list of indexes, the highest first.
 -- Assumes nothing.
-use Prim.Native.Nat.{ℕ, suc, _+_, _-_}
-use mathlib.Core.Bool.{Bool, cond}
+use Prim.Native.Nat.{ℕ, _+_, _-_}
+use mathlib.Core.Bool.{cond}
 use mathlib.Core.List.{List, [], _∷_}
 use lib.ListN.{getD, length}
 use lib.Dec.{eqb, leb}
@@ -63,10 +63,10 @@ unfoldable pub descendOf : Area → Pool → List ℕ → ℕ → ℕ → ℕ �
 descendOf a p m guest level f i =
     onWay (hopOf (a .base) (a .size) (entryIn m f i)) (hangOf a p m guest level f i) (end p Bad m) (λ h. end p (To h) m)
 
--- on with the table that a step leads to
+-- on with the table that a step leads to; where there is none, though there was room for all, the memory is damaged
 abbrev pub onward : End → (Pool → List ℕ → ℕ → End) → End
 onward t next =
-    onWay (t .went .way) (end (t .went .pool) Not (t .memory)) (end (t .went .pool) Bad (t .memory)) (next (t .went .pool) (t .memory))
+    onWay (t .went .way) (end (t .went .pool) Bad (t .memory)) (end (t .went .pool) Bad (t .memory)) (next (t .went .pool) (t .memory))
 
 -- in table f of depth d at index i, and then by the indexes that are left; guests are the host frames by depth
 unfoldable pub downOf : Area → List ℕ → Pool → List ℕ → ℕ → ℕ → ℕ → List ℕ → ℕ → End

@@ -29,6 +29,7 @@ pub enum Way {
     Bad,
 }
 
+// A step's way, and the pool after it.
 pub struct Went {
     pub pool: Pool,
     pub way: Way,
@@ -140,7 +141,7 @@ pub fn bare(mem: &[u64], f: u64) -> bool
     let mut k: u64 = 512;
     while k > 0 {
         k -= 1;
-        if entry_at(mem, f, k) % 2 == 1 {
+        if entry::present(entry_at(mem, f, k)) {
             return false;
         }
     }
@@ -153,8 +154,8 @@ pub fn bare(mem: &[u64], f: u64) -> bool
 pub fn hop(base: u64, size: u64, e: u64) -> Way
     ensures { λ r. ⌜ r ≡ hopOf base size e ⌝ }
 {
-    if e % 2 == 1 {
-        let f = (e / 4096) % 1099511627776;
+    if entry::present(e) {
+        let f = entry::frame_of(e);
         if inside(base, size, f) {
             Way::To(f)
         } else {
@@ -275,7 +276,7 @@ pub fn index_at(g: u64, k: u64) -> u64
     requires { ⌜ k ≤ 6 ⌝ }
     ensures { λ r. ⌜ r ≡ index k g ⌝ }
 {
-    (g >> (9 * k)) % 512
+    entry::index_of(g, k) as u64
 }
 
 // The entry of the top table, by the number of frames handed out.
@@ -447,7 +448,7 @@ pub fn down(
             Way::Not => {
                 return Went {
                     pool: cur,
-                    way: Way::Not,
+                    way: Way::Bad,
                 };
             }
             Way::Bad => {
@@ -466,6 +467,7 @@ pub fn down(
     }
 }
 
+// The top table is handed out if there is none, then the path is filled from it down.
 pub fn place(a: Area, guests: &[u64], p: Pool, mem: &mut [u64], g: u64, k: u64, e: u64) -> Went
     requires { ⌜ (a .base + a .size < 1099511627776) × (1 ≤ k) × (k ≤ 7) × (k ≤ a .levels) ⌝ }
     ensures { λ r. ⌜ ends r (now (mem .exit)) ≡ placeOf a (now (guests .entry)) p (now (mem .entry)) (index (k - 1) g) (indexes (k - 1) g) e ⌝ }
@@ -478,7 +480,7 @@ pub fn place(a: Area, guests: &[u64], p: Pool, mem: &mut [u64], g: u64, k: u64, 
         Way::To(f) => down(a, guests, q, mem, f, g, k, e),
         Way::Not => Went {
             pool: q,
-            way: Way::Not,
+            way: Way::Bad,
         },
         Way::Bad => Went {
             pool: q,
@@ -625,7 +627,7 @@ pub fn clear(a: Area, stays: bool, p: Pool, mem: &mut [u64], k: u64, f: u64, i: 
     requires { ⌜ (f < 1099511627776) × (a .base + a .size < 1099511627776) × (i < 512) ⌝ }
     ensures { λ r. ⌜ ends r (now (mem .exit)) ≡ clearOf a stays p (now (mem .entry)) k f i ⌝ }
 {
-    if entry_at(mem, f, i) % 2 == 1 {
+    if entry::present(entry_at(mem, f, i)) {
         put_entry(mem, f, i, 0);
         release(a, stays, p, mem, k, f)
     } else {

@@ -8,3 +8,5 @@ pub mod Counts
 pub mod Depth
 pub mod Runs
 pub mod Asks
+pub mod Trail
+pub mod Keeps

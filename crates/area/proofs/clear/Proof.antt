@@ -1,12 +1,13 @@
-use borrow.Author.Tests.{eq-eqb, ne-eqb}
-use Rattle.area.specs.Remove.{clearOf}
-use Rattle.area.proofs.Laws.{present-is}
 use borrow.Author.Needs.{needs}
+use Rattle.area.specs.Remove.{clearOf}
 use Rattle.area.proofs.clear.Statement.{statement}
 use Rattle.area.proofs.clear.Tie as tie
 
 entry-at-requires : tie.Need-entry-at-requires
 entry-at-requires c κs = search needs
+
+present-requires : tie.Need-present-requires
+present-requires c κs = search needs
 
 put-entry-requires : tie.Need-put-entry-requires
 put-entry-requires c κs = search needs
@@ -19,20 +20,27 @@ same-length c = search needs
 
 returns : tie.Need-returns
 unfolding clearOf
-returns c = rw (← c .before .before .before .before .before .before .before .before .before .entry-at .ensures, present-is, eq-eqb _ _ (c .before .before .before .before .before .before .before .before .if1 .taken), ← c .before .before .before .before .before .before .put-entry .ensures) (c .before .before .release .ensures)
+returns c =
+    let entry-at = c .before .before .before .before .before .before .before .before .before .before .entry-at in
+    let present = c .before .before .before .before .before .before .before .before .before .present in
+    let if1 = c .before .before .before .before .before .before .before .before .if1 in
+    let put-entry = c .before .before .before .before .before .before .put-entry in
+    let release = c .before .before .release in
+    rw (← entry-at .ensures, ← present .ensures, if1 .taken, ← put-entry .ensures) (release .ensures)
 
 same-length-2 : tie.Need-same-length-2
 same-length-2 c = search needs
 
 returns-2 : tie.Need-returns-2
 unfolding clearOf
-returns-2 c = rw (← c .before .entry-at .ensures, present-is, ne-eqb _ _ (c .if1 .left))
+returns-2 c = rw (← c .before .before .entry-at .ensures, ← c .before .present .ensures, c .if1 .left)
 
 pub clear-spec : {M : Type 1} → statement M
 clear-spec =
     tie.close
     (tie.spec
     entry-at-requires
+    present-requires
     put-entry-requires
     release-requires
     same-length

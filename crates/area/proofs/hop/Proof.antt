@@ -1,24 +1,42 @@
-use borrow.Author.Tests.{eq-eqb, ne-eqb}
 use Rattle.area.specs.Pool.{hopOf}
-use Rattle.area.proofs.Laws.{present-is, frame-is}
 use borrow.Author.Needs.{needs}
 use Rattle.area.proofs.hop.Statement.{statement}
 use Rattle.area.proofs.hop.Tie as tie
+
+present-requires : tie.Need-present-requires
+present-requires c κs = search needs
+
+frame-of-requires : tie.Need-frame-of-requires
+frame-of-requires c κs = search needs
 
 inside-requires : tie.Need-inside-requires
 inside-requires c κs = search needs
 
 returns : tie.Need-returns
 unfolding hopOf
-returns c = rw (present-is, frame-is, eq-eqb _ _ (c .before .before .if1 .taken), ← c .before .inside .ensures, c .if2 .taken)
+returns c =
+    let present = c .before .before .before .before .present in
+    let if1 = c .before .before .before .if1 in
+    let frame-of = c .before .before .frame-of in
+    let inside = c .before .inside in
+    let if2 = c .if2 in
+    rw (← present .ensures, if1 .taken, ← frame-of .ensures, ← inside .ensures, if2 .taken)
 
 returns-2 : tie.Need-returns-2
 unfolding hopOf
-returns-2 c = rw (present-is, frame-is, eq-eqb _ _ (c .before .before .if1 .taken), ← c .before .inside .ensures, c .if2 .left)
+returns-2 c =
+    let present = c .before .before .before .before .present in
+    let if1 = c .before .before .before .if1 in
+    let frame-of = c .before .before .frame-of in
+    let inside = c .before .inside in
+    let if2 = c .if2 in
+    rw (← present .ensures, if1 .taken, ← frame-of .ensures, ← inside .ensures, if2 .left)
 
 returns-3 : tie.Need-returns-3
 unfolding hopOf
-returns-3 c = rw (present-is, ne-eqb _ _ (c .if1 .left))
+returns-3 c = rw (← c .before .present .ensures, c .if1 .left)
 
 pub hop-spec : {M : Type 1} → statement M
-hop-spec = tie.close (tie.spec inside-requires returns returns-2 returns-3)
+hop-spec =
+    tie.close
+    (tie.spec present-requires frame-of-requires inside-requires returns returns-2 returns-3)

@@ -1,0 +1,165 @@
+-- Keys say what marks say: level and prefix, whether they fit, whether they are alike, the depth.
+-- Each law holds for any key, damaged ones too. Assumes nothing.
+use mathlib.Core.Path.{_≡_, refl, sym, ap, ap₂, _∙_}
+use mathlib.Core.Bool.{Bool, true, false, not, _&&_, _||_, cond, and-false, and-true}
+use mathlib.Core.List.{List, [], _∷_, map}
+use Prim.Native.Nat.{ℕ, suc, _+_, _-_, _*_, _/_, _%_, _^_, _<_, _≤_}
+use native.Mathlib.Omega.{arith}
+use native.Mathlib.Decide.{decLe}
+use borrow.Author.Tests.{eq-eqb, ne-eqb, eqb-true, eqb-false, lt-ltb, ltb-true, ltb-false, leb-true}
+use lib.Dec.{eqb, leb, ltb}
+use lib.Pow.{pow-mono, shr-lt}
+use lib.ListN.{length, take}
+use Rattle.spec.specs.Config.{Config}
+use Rattle.spec.specs.Entry.{indexes}
+use Rattle.spec.specs.Prefix.{begins, same, any}
+use Rattle.spec.specs.Book.{markAt, sameMark, isSet, depth}
+use Rattle.spec.specs.Refusal.{allOf, markFits, levelFits, noTwoAlike}
+use Rattle.entry.proofs.Indexes.{indexes-length, indexes-small, indexes-take, indexes-same, begins-longer, same-longer, begins-indexes}
+use Rattle.marks.specs.Key.{keyOf, levelAt, depthOf, keyFits, keysFit}
+use Rattle.marks.specs.Reading.{kept, markOf}
+use Rattle.marks.proofs.Ascending.{and-left, and-right}
+
+-- ---- the depth
+
+-- a page number of n levels, without its l lowest indexes, is below 2 ^ (9 * (n - l)), also where l is above n
+shifted : (n l p : ℕ) → p < 2 ^ (9 * n) → p / 2 ^ (9 * l) < 2 ^ (9 * (n - l))
+shifted n l p b =
+    let s : 9 * n ≤ 9 * (n - l) + 9 * l = omega arith in
+    shr-lt (9 * (n - l)) (9 * l) (omega (arith, pow-mono s))
+
+-- an address begins with the prefix of a key exactly if its page number, shifted, is what the key holds
+module _ (n p l q : ℕ) (b : p < 2 ^ (9 * n)) where
+  begins-kept : q < 2 ^ (9 * (n - l)) → begins (indexes (n - l) q) (indexes n p) ≡ eqb (p / 2 ^ (9 * l)) q
+  unfolding indexes
+  begins-kept s =
+      elim (decLe l n) [
+        | yes le ↦ let all : n - l + l ≡ n = omega arith in rw all at (begins-indexes (n - l) l p q (rw all b) s)
+        | no gt ↦
+            let none : n - l ≡ 0 = omega arith in
+            let low : q < 1 = rw none at s in
+            let out : p / 2 ^ (9 * l) < 1 = rw none at (shifted n l p b) in
+            rw none (sym (eq-eqb (p / 2 ^ (9 * l)) q (omega arith)))
+      ]
+
+  begins-other : 2 ^ (9 * (n - l)) ≤ q → begins (indexes (suc n) q) (indexes n p) ≡ eqb (p / 2 ^ (9 * l)) q
+  begins-other g =
+      begins-longer (indexes (suc n) q) (indexes n p) (rw (indexes-length n p, indexes-length (suc n) q) (omega arith))
+      ∙ sym (ne-eqb (p / 2 ^ (9 * l)) q (λ e. omega (arith, shifted n l p b)))
+
+  begins-key : begins (indexes (cond (ltb q (2 ^ (9 * (n - l)))) (n - l) (suc n)) q) (indexes n p) ≡ eqb (p / 2 ^ (9 * l)) q
+  begins-key = go (ltb q (2 ^ (9 * (n - l)))) refl
+    where
+      go : (t : Bool) → ltb q (2 ^ (9 * (n - l))) ≡ t → begins (indexes (cond t (n - l) (suc n)) q) (indexes n p) ≡ eqb (p / 2 ^ (9 * l)) q
+      go true e = begins-kept (ltb-true q _ e)
+      go false e = begins-other (ltb-false q _ e)
+
+pub depth-keys : (n p : ℕ) (ks : List ℕ) → p < 2 ^ (9 * n) → depthOf p ks ≡ depth (map (markOf n) ks) (indexes n p)
+unfolding depthOf levelAt markOf
+depth-keys n p [] b = refl
+depth-keys n p (k ∷ ks) b = rw (begins-key n p (k % 8) (k / 8) b, depth-keys n p ks b)
+
+-- ---- whether a key fits
+fits-indexes : (n l q : ℕ) (t a : Bool)
+    → (a && eqb (length (indexes (cond t (n - l) (suc n)) q)) (n - l) && allOf (λ i. ltb i 512) (indexes (cond t (n - l) (suc n)) q)) ≡ (a && t)
+fits-indexes n l q true a = rw (indexes-length (n - l) q, eq-eqb (n - l) _ refl, indexes-small (n - l) q, and-true a, and-true a)
+fits-indexes n l q false a = rw (indexes-length (suc n) q, ne-eqb (suc n) (n - l) (λ e. omega arith), and-false a)
+
+pub fits-key : (c : Config) (k : ℕ) → markFits c (markOf (c .levels) k) ≡ keyFits (c .levels) k
+unfolding markOf keyFits
+fits-key c k =
+    let n = c .levels in
+    fits-indexes n (k % 8) (k / 8) (ltb (k / 8) (2 ^ (9 * (n - k % 8)))) (leb 1 (k % 8) && leb (k % 8) (suc n))
+
+-- ---- whether two are alike
+
+-- a key is its two parts
+parts : (k x : ℕ) → (eqb (k % 8) (x % 8) && eqb (k / 8) (x / 8)) ≡ eqb k x
+parts k x = go (eqb (k % 8) (x % 8)) refl (eqb (k / 8) (x / 8)) refl
+  where
+    go : (s : Bool) → eqb (k % 8) (x % 8) ≡ s → (t : Bool) → eqb (k / 8) (x / 8) ≡ t → (s && t) ≡ eqb k x
+    go true e true f = sym (eq-eqb k x (omega (arith, eqb-true (k % 8) (x % 8) e, eqb-true (k / 8) (x / 8) f)))
+    go true e false f = sym (ne-eqb k x (λ g. eqb-false (k / 8) (x / 8) f (ap (λ (y : ℕ). y / 8) g)))
+    go false e t f = sym (ne-eqb k x (λ g. eqb-false (k % 8) (x % 8) e (ap (λ (y : ℕ). y % 8) g)))
+
+-- of a number that fits k indexes, and any other
+same-kept : (n l q r : ℕ) → q < 2 ^ (9 * (n - l))
+    → same (indexes (n - l) q) (indexes (cond (ltb r (2 ^ (9 * (n - l)))) (n - l) (suc n)) r) ≡ eqb q r
+same-kept n l q r s = go (ltb r (2 ^ (9 * (n - l)))) refl
+  where
+    go : (t : Bool) → ltb r (2 ^ (9 * (n - l))) ≡ t → same (indexes (n - l) q) (indexes (cond t (n - l) (suc n)) r) ≡ eqb q r
+    go true e = indexes-same (n - l) q r s (ltb-true r _ e)
+    go false e =
+        same-longer (indexes (n - l) q) (indexes (suc n) r) (rw (indexes-length (n - l) q, indexes-length (suc n) r) (λ f. omega arith))
+        ∙ sym (ne-eqb q r (λ f. omega (arith, ltb-false r _ e)))
+
+key-small : (n k : ℕ) → keyFits n k ≡ true → k / 8 < 2 ^ (9 * (n - k % 8))
+unfolding keyFits
+key-small n k e = ltb-true (k / 8) _ (and-right (leb 1 (k % 8) && leb (k % 8) (suc n)) _ e)
+
+pub key-positive : (n k : ℕ) → keyFits n k ≡ true → 0 < k
+unfolding keyFits
+key-positive n k e =
+    let level = and-left (leb 1 (k % 8) && leb (k % 8) (suc n)) _ e in
+    omega (arith, leb-true 1 (k % 8) (and-left (leb 1 (k % 8)) (leb (k % 8) (suc n)) level))
+
+pub alike-keys : (n k x : ℕ) → keyFits n k ≡ true → sameMark (markOf n k) (markOf n x) ≡ eqb k x
+unfolding markOf
+alike-keys n k x e = go (eqb (k % 8) (x % 8)) refl ∙ parts k x
+  where
+    go : (s : Bool) → eqb (k % 8) (x % 8) ≡ s → (s && same (indexes (kept n k) (k / 8)) (indexes (kept n x) (x / 8))) ≡ (eqb (k % 8) (x % 8) && eqb (k / 8) (x / 8))
+    go false f = rw f
+    go true f =
+        let small = key-small n k e in
+        rw (f, lt-ltb _ _ small, ← eqb-true (k % 8) (x % 8) f) (same-kept n (k % 8) (k / 8) (x / 8) small)
+
+pub set-keys : (n k : ℕ) (ks : List ℕ) → keyFits n k ≡ true → isSet (markOf n k) (map (markOf n) ks) ≡ any (eqb k) ks
+set-keys n k [] e = refl
+set-keys n k (x ∷ ks) e = ap₂ _||_ (alike-keys n k x e) (set-keys n k ks e)
+
+-- "each of level 1 to 5 with only the indexes it keeps, no two alike"
+pub fits-keys : (c : Config) (ks : List ℕ)
+    → (allOf (markFits c) (map (markOf (c .levels)) ks) && noTwoAlike (map (markOf (c .levels)) ks)) ≡ keysFit (c .levels) ks
+unfolding keysFit
+fits-keys c [] = refl
+fits-keys c (k ∷ ks) =
+    let n = c .levels in
+    rw (fits-key c k, ← fits-keys c ks)
+    (go (keyFits n k) refl (allOf (markFits c) (map (markOf n) ks)) (noTwoAlike (map (markOf n) ks)))
+  where
+    sorted : (s a t : Bool) → (a && (not s && t)) ≡ (not s && (a && t))
+    sorted true a t = and-false a
+    sorted false a t = refl
+
+    go : (f : Bool) → keyFits (c .levels) k ≡ f → (a t : Bool)
+        → (f && a && (not (isSet (markOf (c .levels) k) (map (markOf (c .levels)) ks)) && t)) ≡ (f && not (any (eqb k) ks) && (a && t))
+    go true e a t = rw (set-keys (c .levels) k ks e) (sorted (any (eqb k) ks) a t)
+    go false e a t = refl
+
+-- ---- the key of a mark
+module _ (c : Config) (l p : ℕ) (b : p < 2 ^ (9 * c .levels)) (h : l < 8) where
+  level-of : keyOf l p % 8 ≡ l
+  unfolding keyOf
+  level-of = omega arith
+
+  rest-of : keyOf l p / 8 ≡ p / 2 ^ (9 * l)
+  unfolding keyOf
+  rest-of = omega arith
+
+  taken : indexes (c .levels - l) (p / 2 ^ (9 * l)) ≡ take (c .levels - l) (indexes (c .levels) p)
+  unfolding indexes
+  taken =
+      let n = c .levels in
+      elim (decLe l n) [
+        | yes le ↦ let all : n - l + l ≡ n = omega arith in rw all at (sym (indexes-take (n - l) l p))
+        | no gt ↦ let none : n - l ≡ 0 = omega arith in rw none
+      ]
+
+  pub mark-key : markOf (c .levels) (keyOf l p) ≡ markAt c l (indexes (c .levels) p)
+  unfolding markOf
+  mark-key =
+      rw (level-of, rest-of, lt-ltb (p / 2 ^ (9 * l)) (2 ^ (9 * (c .levels - l))) (shifted (c .levels) l p b), taken)
+
+  pub key-fits : levelFits c l ≡ true → keyFits (c .levels) (keyOf l p) ≡ true
+  unfolding keyFits
+  key-fits f = rw (level-of, rest-of, f) (lt-ltb (p / 2 ^ (9 * l)) (2 ^ (9 * (c .levels - l))) (shifted (c .levels) l p b))

@@ -1,0 +1,50 @@
+-- Each refusal by its test, in their order. Assumes nothing.
+use mathlib.Core.Path.{sym, _∙_}
+use native.Mathlib.Omega.{arith}
+use borrow.Author.Tests.{not-true, not-false}
+use Rattle.marks.proofs.Ascending.{level-below}
+use Rattle.marks.specs.Table.{clearRefusal}
+use borrow.Author.Needs.{needs}
+use Rattle.marks.proofs.clear_refusal.Statement.{statement}
+use Rattle.marks.proofs.clear_refusal.Tie as tie
+
+fits-requires : tie.Need-fits-requires
+fits-requires c κs = search needs
+
+returns : tie.Need-returns
+unfolding clearRefusal
+returns c = rw (← c .before .fits2 .ensures, not-true (c .before .fits2 .result) (c .if1 .taken))
+
+level-fits-requires : tie.Need-level-fits-requires
+level-fits-requires c κs = search needs
+
+returns-2 : tie.Need-returns-2
+unfolding clearRefusal
+returns-2 c = rw (← c .before .before .before .fits2 .ensures, not-false (c .before .before .before .fits2 .result) (c .before .before .if1 .left), ← c .before .level-fits .ensures, not-true (c .before .level-fits .result) (c .if2 .taken))
+
+key-of-requires : tie.Need-key-of-requires
+key-of-requires c κs = omega (arith, level-below (c .before .before .before .before .args .levels) (c .before .before .before .before .args .level) (sym (c .before .level-fits .ensures) ∙ not-false (c .before .level-fits .result) (c .if2 .left)))
+
+holds-requires : tie.Need-holds-requires
+holds-requires c κs = search needs
+
+returns-3 : tie.Need-returns-3
+unfolding clearRefusal
+returns-3 c = rw (← c .before .before .before .before .before .before .fits2 .ensures, not-false (c .before .before .before .before .before .before .fits2 .result) (c .before .before .before .before .before .if1 .left), ← c .before .before .before .before .level-fits .ensures, not-false (c .before .before .before .before .level-fits .result) (c .before .before .before .if2 .left), ← c .before .before .key-of .ensures, ← c .before .holds .ensures, c .if3 .taken)
+
+returns-4 : tie.Need-returns-4
+unfolding clearRefusal
+returns-4 c = rw (← c .before .before .before .before .before .before .fits2 .ensures, not-false (c .before .before .before .before .before .before .fits2 .result) (c .before .before .before .before .before .if1 .left), ← c .before .before .before .before .level-fits .ensures, not-false (c .before .before .before .before .level-fits .result) (c .before .before .before .if2 .left), ← c .before .before .key-of .ensures, ← c .before .holds .ensures, c .if3 .left)
+
+pub clear-refusal-spec : {M : Type 1} → statement M
+clear-refusal-spec =
+    tie.close
+    (tie.spec
+    fits-requires
+    returns
+    level-fits-requires
+    returns-2
+    key-of-requires
+    holds-requires
+    returns-3
+    returns-4)

@@ -1,0 +1,21 @@
+use Prim.Native.Nat.{_<_}
+use native.Mathlib.Omega.{arith}
+-- Each way goes by its test. Assumes nothing.
+use borrow.Author.Tests.{lt-ltb, le-ltb}
+use borrow.Author.Needs.{needs}
+use Rattle.marks.proofs.follows.Statement.{statement}
+use Rattle.marks.proofs.follows.Tie as tie
+
+key-fits-requires : tie.Need-key-fits-requires
+key-fits-requires c κs = search needs
+
+returns : tie.Need-returns
+returns c =
+    let next : c .before .before .args .last < c .before .before .args .key = omega arith in
+    rw (lt-ltb _ _ next) (c .key-fits .ensures)
+
+returns-2 : tie.Need-returns-2
+returns-2 c = rw (le-ltb _ _ (c .if1 .left))
+
+pub follows-spec : {M : Type 1} → statement M
+follows-spec = tie.close (tie.spec key-fits-requires returns returns-2)

@@ -1,0 +1,35 @@
+-- A mark in one word, its key: the level in the low three bits, above them the indexes that it keeps, as one number.
+-- So an address begins with them where its page number, shifted by the levels below, equals that number.
+-- Assumes nothing.
+use Prim.Native.Nat.{ℕ, suc, _+_, _-_, _*_, _/_, _%_, _^_, max}
+use mathlib.Core.Bool.{Bool, true, not, _&&_, cond}
+use mathlib.Core.List.{List, [], _∷_}
+use lib.Dec.{eqb, leb, ltb}
+use Rattle.spec.specs.Prefix.{any}
+
+-- the key of the mark of level n at the page p
+unfoldable pub keyOf : ℕ → ℕ → ℕ
+keyOf n p = p / 2 ^ (9 * n) * 8 + n
+
+-- the level of the key k where the page p begins with its indexes, else 0
+unfoldable pub levelAt : ℕ → ℕ → ℕ
+levelAt p k = cond (eqb (p / 2 ^ (9 * (k % 8))) (k / 8)) (k % 8) 0
+
+-- "The depth d of an address is the greatest level among marks whose prefix it begins with, or 0"
+unfoldable pub depthOf : ℕ → List ℕ → ℕ
+depthOf p [] = 0
+depthOf p (k ∷ ks) = max (levelAt p k) (depthOf p ks)
+
+-- "each of level 1 to 5 with only the indexes it keeps"; n is the number of levels
+unfoldable pub keyFits : ℕ → ℕ → Bool
+keyFits n k = leb 1 (k % 8) && leb (k % 8) (suc n) && ltb (k / 8) (2 ^ (9 * (n - k % 8)))
+
+-- each key fits, "no two alike"
+unfoldable pub keysFit : ℕ → List ℕ → Bool
+keysFit n [] = true
+keysFit n (k ∷ ks) = keyFits n k && not (any (eqb k) ks) && keysFit n ks
+
+-- each key fits, and is greater than the one before it: the first than `last`
+unfoldable pub ascending : ℕ → ℕ → List ℕ → Bool
+ascending n last [] = true
+ascending n last (k ∷ ks) = ltb last k && keyFits n k && ascending n k ks

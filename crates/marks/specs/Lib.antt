@@ -1,0 +1,3 @@
+pub mod Key
+pub mod Table
+pub mod Reading

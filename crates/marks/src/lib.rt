@@ -1,0 +1,304 @@
+// The table of marks. A mark stands in one word, its key (specs/Key); the keys of the set places ascend in the order of the places.
+// So one pass shows that no two are alike, and a mark of the highest level stands among the first places.
+// What is called often takes the places by reference; a table is passed by value only where it changes.
+use entry::GuestVirtual;
+ghost use mathlib.Core.Path.{_≡_};
+ghost use mathlib.Core.Bool.{not, _&&_};
+ghost use mathlib.Core.List.{[]};
+ghost use lib.Count.{ones};
+ghost use lib.Dec.{eqb, ltb};
+ghost use Prim.Native.Nat.{_-_, _<_, min, max};
+ghost use Rattle.spec.specs.Entry.{pageOf};
+ghost use Rattle.spec.specs.Prefix.{any};
+ghost use Rattle.spec.specs.Refusal.{levelFits};
+ghost use Rattle.entry.specs.Levels.{ofLevels};
+ghost use Rattle.marks.specs.Key.{keyOf, levelAt, depthOf, keyFits, keysFit, ascending};
+ghost use Rattle.marks.specs.Table.{keys, placeOf, inserted, tableOf, withKey, withoutKey, setRefusal, clearRefusal, number};
+
+// The places that are set, and the key at each place.
+pub struct Marks {
+    pub set: u64,
+    pub place: [u64; 64],
+}
+
+fn greater(a: u64, b: u64) -> u64
+    ensures { λ r. ⌜ r ≡ max a b ⌝ }
+{
+    if a < b { b } else { a }
+}
+
+fn smaller(a: u64, b: u64) -> u64
+    ensures { λ r. ⌜ r ≡ min a b ⌝ }
+{
+    if a < b { a } else { b }
+}
+
+// The key of the mark of that level at an address.
+pub fn key_of(level: u64, address: GuestVirtual) -> u64
+    requires { ⌜ level < 8 ⌝ }
+    ensures { λ r. ⌜ r ≡ keyOf level (pageOf (address .0)) ⌝ }
+{
+    (address.page() >> (9 * level)) * 8 + level
+}
+
+// The level of the key where the page begins with its indexes, else 0.
+fn level_at(page: u64, key: u64) -> u64
+    ensures { λ r. ⌜ r ≡ levelAt page key ⌝ }
+{
+    let level = key % 8;
+    if page >> (9 * level) == key / 8 {
+        level
+    } else {
+        0
+    }
+}
+
+// The depth of an address: the set places are visited in their order.
+pub fn depth(place: &[u64; 64], set: u64, address: GuestVirtual) -> u64
+    ensures { λ r. ⌜ r ≡ depthOf (pageOf (address .0)) (keys (now (place .entry)) set) ⌝ }
+{
+    let page = address.page();
+    let mut found = 0;
+    let mut rest = set;
+    while rest != 0 {
+        let i = bits::lowest(rest);
+        found = greater(found, level_at(page, place[i]));
+        rest = bits::after_lowest(rest);
+    }
+    found
+}
+
+// The first set place that holds the key; 64 where none does.
+pub fn place_of(place: &[u64; 64], set: u64, key: u64) -> usize
+    ensures { λ r. ⌜ r ≡ placeOf (now (place .entry)) set key ⌝ }
+{
+    let mut rest = set;
+    while rest != 0 {
+        let i = bits::lowest(rest);
+        if place[i] == key {
+            return i;
+        }
+        rest = bits::after_lowest(rest);
+    }
+    64
+}
+
+// How many indexes a mark of that level keeps.
+fn kept(levels: u64, level: u64) -> u64
+    ensures { λ r. ⌜ r ≡ levels - level ⌝ }
+{
+    if level < levels { levels - level } else { 0 }
+}
+
+// Is it the key of a mark, with only the indexes that the mark keeps?
+fn key_fits(levels: u64, key: u64) -> bool
+    requires { ⌜ levels < 6 ⌝ }
+    ensures { λ r. ⌜ r ≡ keyFits levels key ⌝ }
+{
+    let level = key % 8;
+    if level < 1 {
+        return false;
+    }
+    if levels + 1 < level {
+        return false;
+    }
+    (key / 8) >> (9 * kept(levels, level)) == 0
+}
+
+// The next key of an ascending table.
+fn follows(levels: u64, last: u64, key: u64) -> bool
+    requires { ⌜ levels < 6 ⌝ }
+    ensures { λ r. ⌜ r ≡ (ltb last key && keyFits levels key) ⌝ }
+{
+    if last < key {
+        return key_fits(levels, key);
+    }
+    false
+}
+
+// Does each key fit, and is it greater than the one before it?
+fn ascends(place: &[u64; 64], set: u64, levels: u64) -> bool
+    requires { ⌜ levels < 6 ⌝ }
+    ensures { λ r. ⌜ r ≡ ascending levels 0 (keys (now (place .entry)) set) ⌝ }
+{
+    let mut last = 0;
+    let mut rest = set;
+    while rest != 0 {
+        let i = bits::lowest(rest);
+        let key = place[i];
+        if !follows(levels, last, key) {
+            return false;
+        }
+        last = key;
+        rest = bits::after_lowest(rest);
+    }
+    true
+}
+
+// Does a set place hold the key?
+fn holds(place: &[u64; 64], set: u64, key: u64) -> bool
+    ensures { λ r. ⌜ r ≡ any (eqb key) (keys (now (place .entry)) set) ⌝ }
+{
+    place_of(place, set, key) < 64
+}
+
+// Is the key one of a mark, and at no place of the rest?
+fn differs(place: &[u64; 64], rest: u64, levels: u64, key: u64) -> bool
+    requires { ⌜ levels < 6 ⌝ }
+    ensures { λ r. ⌜ r ≡ (keyFits levels key && not (any (eqb key) (keys (now (place .entry)) rest))) ⌝ }
+{
+    if key_fits(levels, key) {
+        return !holds(place, rest, key);
+    }
+    false
+}
+
+// The rule for keys in any order.
+fn all_differ(place: &[u64; 64], set: u64, levels: u64) -> bool
+    requires { ⌜ levels < 6 ⌝ }
+    ensures { λ r. ⌜ r ≡ keysFit levels (keys (now (place .entry)) set) ⌝ }
+{
+    let mut rest = set;
+    while rest != 0 {
+        let i = bits::lowest(rest);
+        rest = bits::after_lowest(rest);
+        if !differs(place, rest, levels, place[i]) {
+            return false;
+        }
+    }
+    true
+}
+
+// Does the table break no rule? One pass where the keys ascend, as they do in every table made here.
+pub fn fits(place: &[u64; 64], set: u64, levels: u64) -> bool
+    requires { ⌜ levels < 6 ⌝ }
+    ensures { λ r. ⌜ r ≡ keysFit levels (keys (now (place .entry)) set) ⌝ }
+{
+    if ascends(place, set, levels) {
+        return true;
+    }
+    all_differ(place, set, levels)
+}
+
+// Is it the level of a mark?
+fn level_fits(levels: u64, level: u64) -> bool
+    requires { ⌜ levels < 6 ⌝ }
+    ensures { λ r. ⌜ r ≡ levelFits (ofLevels levels) level ⌝ }
+{
+    if level < 1 {
+        return false;
+    }
+    level <= levels + 1
+}
+
+// The number with which setting a mark is refused, or 0.
+pub fn set_refusal(
+    place: &[u64; 64],
+    set: u64,
+    levels: u64,
+    address: GuestVirtual,
+    level: u64,
+) -> u64
+    requires { ⌜ levels < 6 ⌝ }
+    ensures { λ r. ⌜ r ≡ number (setRefusal levels (keys (now (place .entry)) set) (address .0) level) ⌝ }
+{
+    if !address.fits(levels) {
+        return 4;
+    }
+    if !level_fits(levels, level) {
+        return 5;
+    }
+    if holds(place, set, key_of(level, address)) {
+        return 6;
+    }
+    if bits::count(set) < 64 {
+        return 0;
+    }
+    7
+}
+
+// The number with which clearing a mark is refused, or 0.
+pub fn clear_refusal(
+    place: &[u64; 64],
+    set: u64,
+    levels: u64,
+    address: GuestVirtual,
+    level: u64,
+) -> u64
+    requires { ⌜ levels < 6 ⌝ }
+    ensures { λ r. ⌜ r ≡ number (clearRefusal levels (keys (now (place .entry)) set) (address .0) level) ⌝ }
+{
+    if !address.fits(levels) {
+        return 4;
+    }
+    if !level_fits(levels, level) {
+        return 5;
+    }
+    if holds(place, set, key_of(level, address)) {
+        return 0;
+    }
+    6
+}
+
+impl Marks {
+    // No mark.
+    pub fn empty() -> Marks
+        ensures { λ r. ⌜ r ≡ tableOf [] ⌝ }
+    {
+        Marks {
+            set: 0,
+            place: [0u64; 64],
+        }
+    }
+
+    // The depth of an address.
+    pub fn depth(self, address: GuestVirtual) -> u64
+        ensures { λ r. ⌜ r ≡ depthOf (pageOf (address .0)) (keys (self .place) (self .set)) ⌝ }
+    {
+        depth(&self.place, self.set, address)
+    }
+
+    // The table with the key, in ascending order at the first places; unchanged where no place is free.
+    pub fn with_key(self, key: u64) -> Marks
+        ensures { λ r. ⌜ r ≡ withKey self key ⌝ }
+    {
+        if bits::count(self.set) < 64 {
+            return self.inserted(key);
+        }
+        self
+    }
+
+    fn inserted(self, key: u64) -> Marks
+        requires { ⌜ ones (self .set) < 64 ⌝ }
+        ensures { λ r. ⌜ r ≡ tableOf (inserted key (keys (self .place) (self .set))) ⌝ }
+    {
+        let mut place = [0u64; 64];
+        let mut count: usize = 0;
+        let mut next = key;
+        let mut rest = self.set;
+        while rest != 0 {
+            let i = bits::lowest(rest);
+            rest = bits::after_lowest(rest);
+            let old = self.place[i];
+            place[count] = smaller(old, next);
+            next = greater(old, next);
+            count += 1;
+        }
+        place[count] = next;
+        Marks {
+            set: 18446744073709551615 >> (63 - count),
+            place: place,
+        }
+    }
+
+    // The table without the key; the other marks keep their places.
+    pub fn without_key(mut self, key: u64) -> Marks
+        ensures { λ r. ⌜ r ≡ withoutKey self key ⌝ }
+    {
+        let i = place_of(&self.place, self.set, key);
+        if i < 64 {
+            self.set = self.set - bits::power(i as u64);
+        }
+        self
+    }
+}
