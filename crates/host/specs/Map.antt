@@ -1,9 +1,8 @@
 -- Mapping and unmapping over the host tables, for any memory. Document 01, "Map" and "Unmap".
 -- Assumes nothing.
-use Prim.Native.Nat.{ℕ, _+_, _*_}
+use Prim.Native.Nat.{ℕ}
 use mathlib.Core.Bool.{Bool, true, cond}
-use mathlib.Core.List.{List, [], _∷_}
-use lib.ListN.{replicate}
+use mathlib.Core.List.{List, []}
 use Rattle.spec.specs.Config.{Config}
 use Rattle.spec.specs.Entry.{indexes}
 use Rattle.spec.specs.Refusal.{frameFits, inGuestArea}
@@ -11,18 +10,15 @@ use Rattle.area.specs.declared.Area.{Area}
 use Rattle.area.specs.declared.Pool.{Pool}
 use Rattle.area.specs.declared.Way.{Way}
 use Rattle.area.specs.declared.Way.the-variants.{To, Not, Bad}
-use Rattle.area.specs.Pool.{End, onWay}
-use Rattle.area.specs.Tree.{roomOf, placeOf}
+use Rattle.area.specs.Pool.{End}
+use Rattle.area.specs.Tree.{insertOf}
 use Rattle.area.specs.Remove.{removeOf}
+use Rattle.tree.specs.Host.{hostEntry}
 use Rattle.host.specs.declared.Change.{Change}
 
 -- the host tables: frames 0 to H, the top table in frame 0
 abbrev pub hostArea : Config → Area
 hostArea c = record { base = 0; size = c .hosts; levels = c .levels }
-
--- the entry of a mapped frame: present, writable or not, the host frame
-unfoldable pub leafWord : ℕ → Bool → ℕ
-leafWord f w = f * 4096 + cond w 3 1
 
 pub record Changed : Type 0 where
   pub change : Change
@@ -43,25 +39,12 @@ changeBy before after n Bad = record { pool = before; refusal = 11 }
 abbrev pub changedBy : Pool → ℕ → End → Changed
 changedBy p n t = changes (changeBy p (t .went .pool) n (t .went .way)) (t .memory)
 
-unfoldable pub placedOf : Config → Pool → List ℕ → ℕ → List ℕ → ℕ → Changed
-placedOf c p m i is e = changedBy p 11 (placeOf (hostArea c) (replicate 8 0) p m i is e)
-
-abbrev pub placedAt : Config → Pool → List ℕ → List ℕ → ℕ → Changed
-placedAt c p m [] e = changed p 11 m
-placedAt c p m (i ∷ is) e = placedOf c p m i is e
-
--- there is room for the path, or 10
-abbrev pub mapBy : Config → Pool → List ℕ → List ℕ → ℕ → Way → Changed
-mapBy c p m is e (To n) = placedAt c p m is e
-mapBy c p m is e Not = changed p 10 m
-mapBy c p m is e Bad = changed p 11 m
-
 -- "8; then 9 if the host frame is outside the guest area; then 10"
 unfoldable pub mapOf : Config → Pool → List ℕ → ℕ → ℕ → Bool → Changed
 mapOf c p m g f w =
     cond (frameFits c g)
     (cond (inGuestArea c f)
-    (mapBy c p m (indexes (c .levels) g) (leafWord f w) (roomOf (hostArea c) p m (indexes (c .levels) g)))
+    (changedBy p 10 (insertOf (hostArea c) [] p m (indexes (c .levels) g) (hostEntry f w)))
     (changed p 9 m))
     (changed p 8 m)
 
