@@ -2,10 +2,14 @@
 -- Assumes nothing.
 use Prim.Native.Nat.{ℕ}
 use mathlib.Core.Bool.{Bool, true, cond}
-use mathlib.Core.List.{List, []}
+use mathlib.Core.List.{List, [], _∷_}
+use mathlib.Core.Option.{Option, none, some}
 use Rattle.spec.specs.Config.{Config}
 use Rattle.spec.specs.Entry.{indexes}
-use Rattle.spec.specs.Refusal.{frameFits, inGuestArea}
+use Rattle.spec.specs.Machine.{Machine, Mapping, with, without}
+use Rattle.spec.specs.Book.{Book}
+use Rattle.spec.specs.Call.{Call, map, unmap}
+use Rattle.spec.specs.Refusal.{frameFits, inGuestArea, refusal}
 use Rattle.area.specs.declared.Area.{Area}
 use Rattle.area.specs.declared.Pool.{Pool}
 use Rattle.area.specs.declared.Way.{Way}
@@ -51,3 +55,61 @@ mapOf c p m g f w =
 -- "8; then 12 if not mapped. Emptied host tables can be used again"
 unfoldable pub unmapOf : Config → Pool → List ℕ → ℕ → Changed
 unmapOf c p m g = cond (frameFits c g) (changedBy p 12 (removeOf (hostArea c) true p m (indexes (c .levels) g))) (changed p 8 m)
+
+-- ---- a list of maps and unmaps
+
+pub data Remap : Type 0 where
+  maps : ℕ → ℕ → Bool → Remap  -- guest frame, host frame, writable
+  unmaps : ℕ → Remap
+
+unfoldable pub remapOf : Config → Pool → List ℕ → Remap → Changed
+remapOf c p m (maps g f w) = mapOf c p m g f w
+remapOf c p m (unmaps g) = unmapOf c p m g
+
+-- the refusals, and the pool and the memory after them
+pub record Remapped : Type 0 where
+  pub refusals : List ℕ
+  pub pool : Pool
+  pub memory : List ℕ
+
+unfoldable pub remapsOf : Config → Pool → List ℕ → List Remap → Remapped
+remapsOf c p m [] = record { refusals = []; pool = p; memory = m }
+remapsOf c p m (x ∷ xs) =
+    let t : Changed = remapOf c p m x in
+    let r : Remapped = remapsOf c (t .change .pool) (t .memory) xs in
+    record { refusals = t .change .refusal ∷ r .refusals; pool = r .pool; memory = r .memory }
+
+-- the same on the specification's mapping, by its own tests
+abbrev pub asCall : Remap → Call
+asCall (maps g f w) = map g f w
+asCall (unmaps g) = unmap g
+
+abbrev pub mappedBy : Remap → List Mapping → List Mapping
+mappedBy (maps g f w) xs = with g f w xs
+mappedBy (unmaps g) xs = without g xs
+
+-- a machine with these mappings; a map or unmap asks for nothing else of it
+abbrev pub mappingOnly : List Mapping → Machine
+mappingOnly xs = record { area = []; mappings = xs; root = 0 }
+
+abbrev pub noBook : Book
+noBook = record { marks = []; held = [] }
+
+abbrev pub numberBy : Option ℕ → ℕ
+numberBy none = 0
+numberBy (some n) = n
+
+abbrev pub mappingBy : Option ℕ → Remap → List Mapping → List Mapping
+mappingBy none x xs = mappedBy x xs
+mappingBy (some n) x xs = xs
+
+pub record Mapped : Type 0 where
+  pub refusals : List ℕ
+  pub mapping : List Mapping
+
+unfoldable pub mapsOf : Config → List Mapping → List Remap → Mapped
+mapsOf c ms [] = record { refusals = []; mapping = ms }
+mapsOf c ms (x ∷ xs) =
+    let n : Option ℕ = refusal c (asCall x) (mappingOnly ms) noBook in
+    let r : Mapped = mapsOf c (mappingBy n x ms) xs in
+    record { refusals = numberBy n ∷ r .refusals; mapping = r .mapping }
