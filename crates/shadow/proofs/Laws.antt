@@ -1,6 +1,6 @@
 -- The steps of the loops' definitions, and what the answers of links, trails and scans always satisfy.
 -- Assumes nothing.
-use mathlib.Core.Path.{_≡_, refl, ap}
+use mathlib.Core.Path.{_≡_, refl, ap, _∙_}
 use Prim.Native.Nat.{ℕ, zero, suc, _+_, _-_, _%_, _≤_, _<_}
 use native.Mathlib.Omega.{arith}
 use mathlib.Core.Bool.{Bool, true, false, cond}
@@ -13,11 +13,12 @@ use Rattle.words.specs.Words.{wordIn}
 use Rattle.area.specs.declared.Pool.{Pool}
 use Rattle.area.specs.declared.Way.the-variants as way
 use Rattle.area.specs.Header.{entryIn, parentOf, slotOf, insideOf}
-use Rattle.area.specs.Pool.{onWay}
-use Rattle.area.proofs.Laws.{indexes-step, parent-small, Small}
+use Rattle.area.specs.Pool.{onWay, noneOf}
+use Rattle.area.specs.Tree.{topOf}
+use Rattle.area.proofs.Laws.{indexes-step, indexes-last, parent-small, Small}
 use Rattle.host.specs.declared.HostWalk.{HostWalk}
 use Rattle.host.specs.declared.HostWalk.the-variants.{Found, Absent, Damaged}
-use Rattle.host.specs.Walk.{hostWalkOf}
+use Rattle.host.specs.Walk.{page, hostWalkOf}
 use Rattle.host.proofs.Laws.{HostFits, host-fits}
 use Rattle.shadow.specs.declared.Kind.the-variants.{Gone, Leaf, Table, Outside}
 use Rattle.shadow.specs.declared.Cut.{Cut}
@@ -26,7 +27,7 @@ use Rattle.shadow.specs.declared.Above.{Above}
 use Rattle.shadow.specs.declared.Above.the-variants.{Met, To, Off}
 use Rattle.shadow.specs.Fill.{frameFound, mappedOf, belowOf, trailFrom, trailOf}
 use Rattle.shadow.specs.Cut.{isLeaf, kindOf, watchesOf, watchedFrom, cutOf, lowOf, endOf, aboveOf, upBy, upFrom}
-use Rattle.shadow.specs.Drop.{cleared, outcome, clearOne, clearFrom, visitOf, scanFrom, tableBy, tableNamed, holderFrom}
+use Rattle.shadow.specs.Drop.{cleared, outcome, clearOne, clearFrom, visitOf, scanFrom, scanOf, tableBy, tableNamed, holderFrom, dropPrefixOf}
 
 pub bit-small : (b : Bool) (v : ℕ) → cond b v 0 ≤ v
 bit-small true v = omega arith
@@ -157,3 +158,15 @@ holder-step c m e g left l = ap (holderFrom c m e (index left g)) (indexes-step 
 pub holder-none : (c : Config) (m : List ℕ) (e g : ℕ) → holderFrom c m e (index 0 g) (indexes 0 g) ≡ tableNamed c e
 unfolding holderFrom indexes
 holder-none c m e g = refl
+
+pub prefix-step : (c : Config) (p : Pool) (m : List ℕ) (g k : ℕ) → 0 < k
+    → dropPrefixOf c p m (indexes k g)
+    ≡ onWay (holderFrom c m (topOf (c .hosts) (p .fresh)) (index (k - 1) g) (indexes (k - 1) g)) (outcome p true m) (outcome p false m) (λ f. scanOf c (Slot (page f) (index 0 g)) p m)
+unfolding dropPrefixOf
+prefix-step c p m g k l =
+    ap (dropPrefixOf c p m) (indexes-step k g l)
+    ∙ ap (λ i. onWay (holderFrom c m (topOf (c .hosts) (p .fresh)) (index (k - 1) g) (indexes (k - 1) g)) (outcome p true m) (outcome p false m) (λ f. scanOf c (Slot (page f) i) p m)) (indexes-last (k - 1) g)
+
+pub prefix-none : (c : Config) (p : Pool) (m : List ℕ) (g : ℕ) → dropPrefixOf c p m (indexes 0 g) ≡ outcome noneOf true m
+unfolding dropPrefixOf indexes
+prefix-none c p m g = refl

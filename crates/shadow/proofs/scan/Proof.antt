@@ -1,55 +1,51 @@
+use mathlib.Core.Path.{_≡_, refl, sym, _∙_}
+use Prim.Native.Nat.{_+_, _-_, _≤_, _<_}
+use native.Mathlib.Omega.{arith}
+use Rattle.host.specs.Walk.{config}
+use lib.ListN.{length}
+use Rattle.shadow.specs.Drop.{scanFrom, scanOf}
+use Rattle.shadow.proofs.Laws.{scan-step, scan-none}
 use borrow.Author.Needs.{needs}
 use Rattle.shadow.proofs.scan.Statement.{statement}
 use Rattle.shadow.proofs.scan.Tie as tie
-use Rattle.shadow.proofs.scan.Reads as reads
-use Rattle.shadow.proofs.scan.Lts as lts
-use Rattle.shadow.proofs.visit.Reads as visit-reads
 
 abbrev Inv-loop : tie.InvT-loop
-Inv-loop mem₀ l cut fresh cur₀ i₀ mem cur i = ?
+Inv-loop mem₀ l cut fresh cur₀ i₀ mem cur i = (i ≤ fresh) × (length mem ≡ length mem₀) × (scanFrom (config l) cut (fresh - i) i cur mem ≡ scanFrom (config l) cut (fresh - i₀) i₀ cur₀ mem₀)
 
 abbrev μ-loop : tie.MeasureT-loop
-μ-loop mem₀ l cut fresh cur₀ i₀ mem cur i = ?
+μ-loop mem₀ l cut fresh cur₀ i₀ mem cur i = fresh - i
 
--- src/lib.rt:488:5
 loop-holds : tie.Need-loop-holds Inv-loop μ-loop
-loop-holds c = search needs
+loop-holds c = (omega arith, refl, refl)
 
--- src/lib.rt:489:44
 add-visit : tie.Need-add-visit Inv-loop μ-loop
 add-visit c = search needs
 
--- src/lib.rt:489:13
 visit-requires : tie.Need-visit-requires Inv-loop μ-loop
 visit-requires c κs = search needs
 
--- src/lib.rt:492:13
 add-i : tie.Need-add-i Inv-loop μ-loop
 add-i c = search needs
 
--- src/lib.rt:488:5
 loop-less : tie.Need-loop-less Inv-loop μ-loop
 loop-less c = search needs
 
--- src/lib.rt:488:5
 loop-again : tie.Need-loop-again Inv-loop μ-loop
-loop-again c = search needs
+loop-again c = (omega arith, c .before .before .before .before .visit .kept .0 ∙ c .before .before .before .before .before .before .before .before .loop .inv .1, rw (scan-step (config (c .before .before .before .before .before .before .before .before .before .before .args .l)) (c .before .before .before .before .before .before .before .before .before .before .args .cut) (c .before .before .before .before .before .before .before .before .before .before .args .p .fresh) (c .before .before .before .before .before .before .before .before .loop .i) (c .before .before .before .before .before .before .before .before .loop .cur) (c .before .before .before .before .before .before .before .before .loop .mem) (c .before .before .before .before .before .before .before .loop-test .taken), ← c .before .before .before .before .visit .ensures, c .if1 .taken) at (c .before .before .before .before .before .before .before .before .loop .inv .2))
 
--- src/lib.rt:494:13
 same-length : tie.Need-same-length Inv-loop μ-loop
 same-length c = search needs
 
--- src/lib.rt:494:13
 returns : tie.Need-returns Inv-loop μ-loop
-returns c = search needs
+unfolding scanOf
+returns c = let z : c .before .before .before .before .before .before .before .before .before .before .args .p .fresh - 0 ≡ c .before .before .before .before .before .before .before .before .before .before .args .p .fresh = omega arith in rw (c .if1 .left) (rw (scan-step (config (c .before .before .before .before .before .before .before .before .before .before .args .l)) (c .before .before .before .before .before .before .before .before .before .before .args .cut) (c .before .before .before .before .before .before .before .before .before .before .args .p .fresh) (c .before .before .before .before .before .before .before .before .loop .i) (c .before .before .before .before .before .before .before .before .loop .cur) (c .before .before .before .before .before .before .before .before .loop .mem) (c .before .before .before .before .before .before .before .loop-test .taken), ← c .before .before .before .before .visit .ensures, c .if1 .left, z) at (c .before .before .before .before .before .before .before .before .loop .inv .2))
 
--- src/lib.rt:481:1
 same-length-2 : tie.Need-same-length-2 Inv-loop μ-loop
 same-length-2 c = search needs
 
--- src/lib.rt:481:1
 returns-2 : tie.Need-returns-2 Inv-loop μ-loop
-returns-2 c = search needs
+unfolding scanOf
+returns-2 c = let z : c .before .before .before .args .p .fresh - 0 ≡ c .before .before .before .args .p .fresh = omega arith in rw (scan-none (config (c .before .before .before .args .l)) (c .before .before .before .args .cut) (c .before .before .before .args .p .fresh) (c .before .loop .i) (c .before .loop .cur) (c .before .loop .mem) (c .loop-test .left), z) at (c .before .loop .inv .2)
 
 pub scan-spec : {M : Type 1} → statement M
 scan-spec =

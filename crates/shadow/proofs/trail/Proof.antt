@@ -54,7 +54,7 @@ loop-again : tie.Need-loop-again Inv-loop μ-loop
 loop-again c = (omega (arith, c .before .before .before .loop .inv .0), rw (c .table-below .ensures) (below-small (config (c .before .before .before .before .before .before .args .l)) (c .before .before .before .before .before .before .args .mem .now) (c .before .before .before .loop .t) (c .before .index-at .result) (omega (arith, c .before .before .before .before .before .before .pre .0))), search needs, rw (c .table-below .ensures, c .before .index-at .ensures) (rw (trail-step (config (c .before .before .before .before .before .before .args .l)) (c .before .before .before .before .before .before .args .mem .now) (c .before .before .before .loop .tables) (c .before .before .before .loop .depth) (c .before .before .before .loop .t) (c .before .before .before .before .before .before .args .path) (c .before .before .before .loop .left) (c .before .before .loop-test .taken)) at (c .before .before .before .loop .inv .3)))
 
 returns : tie.Need-returns Inv-loop μ-loop
-returns c = let z : c .before .loop .left ≡ 0 = omega arith in rw (z, trail-last) at (c .before .loop .inv .3)
+returns c = let z : c .before .loop .left ≡ 0 = omega arith in rw (trail-start (config (c .before .before .before .before .args .l)) (c .before .before .before .before .args .mem .now) (c .before .before .before .before .args .root .0) (c .before .before .before .before .args .path) (c .before .before .before .before .args .k) (omega (arith, c .before .before .before .before .pre)), ← c .before .before .mapped .ensures) (rw (z, trail-last) at (c .before .loop .inv .3))
 
 pub trail-spec : {M : Type 1} → statement M
 trail-spec =
