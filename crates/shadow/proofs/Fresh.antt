@@ -178,17 +178,17 @@ module _ (a : Area) where
 
 -- ---- fill and drops
 module _ (c : Config) where
-  abbrev pub Held : Pool → Type 0
-  Held p = PoolFits (shadowArea c) p
+  abbrev pub Bounded : Pool → Type 0
+  Bounded p = PoolFits (shadowArea c) p
 
-  inserted-fits : (guests : List ℕ) (p : Pool) (m is : List ℕ) (e : ℕ) → Held p → Held (insertedOf (shadowArea c) guests p m is e .went .pool)
+  inserted-fits : (guests : List ℕ) (p : Pool) (m is : List ℕ) (e : ℕ) → Bounded p → Bounded (insertedOf (shadowArea c) guests p m is e .went .pool)
   unfolding insertedOf
   inserted-fits guests p m is e h = go (first .went .way)
     where
       first : End
       first = insertOf (shadowArea c) guests p m is e
 
-      go : (w : Way) → Held (againBy w first (insertOf (shadowArea c) guests noneOf (first .memory) is e) .went .pool)
+      go : (w : Way) → Bounded (againBy w first (insertOf (shadowArea c) guests noneOf (first .memory) is e) .went .pool)
       go (way.To f) = insert-fits (shadowArea c) guests p m is e h
       go way.Not = insert-fits (shadowArea c) guests noneOf (first .memory) is e (none-fits (shadowArea c))
       go way.Bad = insert-fits (shadowArea c) guests p m is e h
@@ -197,51 +197,51 @@ module _ (c : Config) where
   unfolding fillOf
   fill-fits p m root is e h = inserted-fits (trailOf c m root is) p m is e h
 
-  settle-fits : (p : Pool) (m : List ℕ) (n f : ℕ) → Held p → Held (settleOf c p m n f .left .pool)
+  settle-fits : (p : Pool) (m : List ℕ) (n f : ℕ) → Bounded p → Bounded (settleOf c p m n f .left .pool)
   unfolding settleOf
   settle-fits p m n f h = go (t .went .way)
     where
       t : End
       t = releaseOf (shadowArea c) false p m (c .levels - n) f
 
-      fits : Held (t .went .pool)
+      fits : Bounded (t .went .pool)
       fits = release-fits (shadowArea c) (c .levels - n) false p m f h
 
-      go : (w : Way) → Held (settledBy w (t .went .pool) (t .memory) .left .pool)
+      go : (w : Way) → Bounded (settledBy w (t .went .pool) (t .memory) .left .pool)
       go (way.To g) = fits
       go way.Not = fits
       go way.Bad = fits
 
   module _ (x : Cut) where
-    sweep-fits : (all : Bool) (n f k i : ℕ) (p : Pool) (m : List ℕ) → Held p → Held (sweepOf c x all n f k i p m .left .pool)
+    sweep-fits : (all : Bool) (n f k i : ℕ) (p : Pool) (m : List ℕ) → Bounded p → Bounded (sweepOf c x all n f k i p m .left .pool)
     unfolding sweepOf
     sweep-fits all n f k i p m h = go (t .ok)
       where
         t : Cleared
         t = clearFrom c x all (eqb n 1) f k i m
 
-        go : (b : Bool) → Held (cond b (settleOf c p (t .memory) n f) (outcome p false (t .memory)) .left .pool)
+        go : (b : Bool) → Bounded (cond b (settleOf c p (t .memory) n f) (outcome p false (t .memory)) .left .pool)
         go true = settle-fits p (t .memory) n f h
         go false = h
 
-    visit-fits : (p : Pool) (m : List ℕ) (f : ℕ) → Held p → Held (visitOf c x p m f .left .pool)
+    visit-fits : (p : Pool) (m : List ℕ) (f : ℕ) → Bounded p → Bounded (visitOf c x p m f .left .pool)
     unfolding visitOf
     visit-fits p m f h = go (eqb (levelOf m f) 0)
       where
-        touched : (b : Bool) → Held (cond b (sweepOf c x false (levelOf m f) f (endOf x - lowOf x) (lowOf x) p m) (outcome p true m) .left .pool)
+        touched : (b : Bool) → Bounded (cond b (sweepOf c x false (levelOf m f) f (endOf x - lowOf x) (lowOf x) p m) (outcome p true m) .left .pool)
         touched true = sweep-fits false (levelOf m f) f (endOf x - lowOf x) (lowOf x) p m h
         touched false = h
 
-        by : (w : Above) → Held (visitBy w c x (levelOf m f) f p m .left .pool)
+        by : (w : Above) → Bounded (visitBy w c x (levelOf m f) f p m .left .pool)
         by Met = sweep-fits true (levelOf m f) f 512 0 p m h
         by (To t) = touched (touchOf m x f)
         by Off = h
 
-        go : (b : Bool) → Held (cond b (outcome p true m) (visitBy (upFrom c x m (c .levels - levelOf m f) f) c x (levelOf m f) f p m) .left .pool)
+        go : (b : Bool) → Bounded (cond b (outcome p true m) (visitBy (upFrom c x m (c .levels - levelOf m f) f) c x (levelOf m f) f p m) .left .pool)
         go true = h
         go false = by (upFrom c x m (c .levels - levelOf m f) f)
 
-    from-fits : (k i : ℕ) (p : Pool) (m : List ℕ) → Held p → Held (scanFrom c x k i p m .left .pool)
+    from-fits : (k i : ℕ) (p : Pool) (m : List ℕ) → Bounded p → Bounded (scanFrom c x k i p m .left .pool)
     unfolding scanFrom
     from-fits zero i p m h = h
     from-fits (suc k) i p m h = go (one .left .ok) (from-fits k (suc i) (one .left .pool) (one .memory) visited)
@@ -252,10 +252,10 @@ module _ (c : Config) where
         rest : Outcome
         rest = scanFrom c x k (suc i) (one .left .pool) (one .memory)
 
-        visited : Held (one .left .pool)
+        visited : Bounded (one .left .pool)
         visited = visit-fits p m (c .hosts + i) h
 
-        go : (b : Bool) → Held (rest .left .pool) → Held (cond b rest one .left .pool)
+        go : (b : Bool) → Bounded (rest .left .pool) → Bounded (cond b rest one .left .pool)
         go true r = r
         go false r = visited
 
@@ -268,7 +268,7 @@ module _ (c : Config) where
   prefix-fits p m [] h = none-fits (shadowArea c)
   prefix-fits p m (i ∷ is) h = go (holderFrom c m (topOf (c .hosts) (p .fresh)) i is)
     where
-      go : (w : Way) → Held (onWay w (outcome p true m) (outcome p false m) (λ f. scanOf c (Slot (page f) (lastIndex i is)) p m) .left .pool)
+      go : (w : Way) → Bounded (onWay w (outcome p true m) (outcome p false m) (λ f. scanOf c (Slot (page f) (lastIndex i is)) p m) .left .pool)
       go (way.To f) = scan-fits (Slot (page f) (lastIndex i is)) p m h
       go way.Not = h
       go way.Bad = h
