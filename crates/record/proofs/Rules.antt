@@ -3,13 +3,14 @@
 use mathlib.Core.Path.{_≡_, refl, sym, ap, _∙_}
 use mathlib.Core.Logic.{_⊎_, inl, inr}
 use mathlib.Core.Bool.{Bool, true, false, _&&_, cond, and-eq-true-iff}
+use mathlib.Core.List.{[], _∷_}
 use mathlib.Core.Option.{none, some}
 use Prim.Native.Nat.{ℕ, _+_, _-_, _*_, _/_, _%_, _^_, _<_, _≤_}
 use native.Mathlib.Omega.{arith}
 use borrow.Author.Tests.{eqb-true, leb-true, ltb-true, ltb-false, lt-ltb, le-ltb}
 use lib.Dec.{eqb, leb, ltb}
 use Rattle.spec.specs.Config.{Config, guestBase, frameBits}
-use Rattle.spec.specs.Refusal.{wordsFit, areasFit, frameFits, inGuestArea, marksFit, topFits, recordFits}
+use Rattle.spec.specs.Refusal.{wordsFit, areasFit, frameFits, inGuestArea, marksFit, topFits, recordFits, openRefusal}
 use Rattle.area.specs.declared.Pool.{Pool}
 use Rattle.area.specs.Pool.{noneOf}
 use Rattle.host.specs.Walk.{LayoutFits, config}
@@ -17,9 +18,10 @@ use Rattle.host.proofs.Laws.{InGuestArea}
 use Rattle.marks.specs.Key.{keysFit}
 use Rattle.marks.specs.Table.{room}
 use Rattle.marks.specs.Reading.{marksOf}
-use Rattle.marks.proofs.Book.{keysOf, marks-fit}
+use Rattle.marks.proofs.Book.{keysOf, marks-fit, all-held}
 use Rattle.record.specs.declared.Record.{Record}
 use Rattle.record.specs.Record.{levels, layoutOf, configBy, configOf, topOf, poolFits, fitsOf, sizesFit, zeros}
+use Rattle.record.specs.Open.{refusalOf}
 
 both : (a b : Bool) → a && b ≡ true → (a ≡ true) × (b ≡ true)
 both a b e = and-eq-true-iff a b .0 e
@@ -60,6 +62,16 @@ sizes-fit words h s len e =
     let x = both (eqb len words && wordsFit words) (areasFit (configBy words h s)) e in
     let y = both (eqb len words) (wordsFit words) (x .0) in
     (eqb-true len words (y .0), sized words h s (y .1) (x .1))
+
+-- a granted opening
+pub granted-tests : (words h s : ℕ) → refusalOf words h s ≡ 0 → (wordsFit words ≡ true) × (areasFit (configBy words h s) ≡ true)
+unfolding refusalOf openRefusal
+granted-tests words h s e =
+    let t = all-held ((wordsFit words, 1) ∷ (areasFit (configBy words h s), 2) ∷ []) (omega arith, (omega arith, tt)) e in
+    (t .0, t .1 .0)
+
+pub granted-sized : (words h s : ℕ) → refusalOf words h s ≡ 0 → Sized words h s
+granted-sized words h s e = let t = granted-tests words h s e in sized words h s (t .0) (t .1)
 
 -- the ranges of a layout
 pub sized-layout : {words h s : ℕ} → Sized words h s → LayoutFits (layoutOf words h s)

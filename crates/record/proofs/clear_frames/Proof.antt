@@ -1,3 +1,4 @@
+use Prim.Native.Nat.{_+_}
 use mathlib.Core.Path.{_≡_, sym}
 use Prim.Native.Nat.{_*_, _-_, _≤_}
 use lib.ListN.{length}
@@ -31,7 +32,9 @@ loop-less : tie.Need-loop-less Inv-loop μ-loop
 loop-less c = search needs
 
 loop-again : tie.Need-loop-again Inv-loop μ-loop
-loop-again c = (omega arith, search needs, search needs, rw (c .before .before .set-word .ensures, c .before .before .before .before .before .loop .inv .3) (zeroed-more _ 0 _))
+loop-again c =
+    let z : 0 + c .before .before .before .before .before .loop .i ≡ c .before .before .before .before .before .loop .i = omega arith in
+    (omega arith, search needs, search needs, rw (c .before .before .set-word .ensures, c .before .before .before .before .before .loop .inv .3) (rw z at (zeroed-more (c .before .before .before .before .before .before .before .args .mem .now) 0 (c .before .before .before .before .before .loop .i))))
 
 same-length : tie.Need-same-length Inv-loop μ-loop
 same-length c = search needs

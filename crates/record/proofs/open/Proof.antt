@@ -1,35 +1,32 @@
+use borrow.Author.Tests.{eq-eqb, ne-eqb}
+use mathlib.Core.Path.{sym, _∙_}
+use lib.ListN.{length}
+use native.Mathlib.Omega.{arith}
+use Rattle.record.specs.Open.{openOf}
+use Rattle.record.proofs.Rules.{granted-sized}
 use borrow.Author.Needs.{needs}
 use Rattle.record.proofs.open.Statement.{statement}
 use Rattle.record.proofs.open.Tie as tie
-use Rattle.record.proofs.open.Reads as reads
-use Rattle.record.proofs.open.Lts as lts
-use Rattle.record.proofs.Record.zeros.Reads as zeros-reads
-use Rattle.record.proofs.open_granted.Reads as open-granted-reads
-use Rattle.record.proofs.open_refusal.Reads as open-refusal-reads
 
--- src/lib.rt:288:9
 open-refusal-requires : tie.Need-open-refusal-requires
 open-refusal-requires c κs = search needs
 
--- src/lib.rt:290:13
 open-granted-requires : tie.Need-open-granted-requires
-open-granted-requires c κs = ?
+open-granted-requires c κs = let z = granted-sized (length (c .before .before .before .before .args .mem .now)) (c .before .before .before .before .args .hosts) (c .before .before .before .before .args .shadows) (sym (c .before .before .open-refusal .ensures) ∙ c .before .if1 .taken) in omega (arith, z .guest, z .frames)
 
--- src/lib.rt:297:19
 zeros-requires : tie.Need-zeros-requires
 zeros-requires c κs = search needs
 
--- src/lib.rt:285:1
 same-length : tie.Need-same-length
 same-length c = search needs
 
--- src/lib.rt:285:1
 returns : tie.Need-returns
-returns c = ?
+unfolding openOf
+returns c = rw (← c .before .before .before .before .before .open-refusal .ensures, eq-eqb _ _ (c .before .before .before .before .if1 .taken), ← c .before .before .open-granted .ensures)
 
--- src/lib.rt:285:1
 returns-2 : tie.Need-returns-2
-returns-2 c = ?
+unfolding openOf
+returns-2 c = rw (← c .before .before .open-refusal .ensures, ne-eqb _ _ (c .before .if1 .left), c .zeros .ensures)
 
 pub open-spec : {M : Type 1} → statement M
 open-spec =
