@@ -1,0 +1,37 @@
+use borrow.Author.Tests.{not-true, not-false}
+use Rattle.record.specs.Record.{tablesFit}
+use borrow.Author.Needs.{needs}
+use Rattle.record.proofs.tables_fit.Statement.{statement}
+use Rattle.record.proofs.tables_fit.Tie as tie
+
+top-fits-requires : tie.Need-top-fits-requires
+top-fits-requires c κs = search needs
+
+returns : tie.Need-returns
+unfolding tablesFit
+returns c = rw (← c .before .top-fits .ensures, not-true (c .before .top-fits .result) (c .if1 .taken))
+
+pool-fits-requires : tie.Need-pool-fits-requires
+pool-fits-requires c κs = search needs
+
+returns-2 : tie.Need-returns-2
+unfolding tablesFit
+returns-2 c = rw (← c .before .before .before .top-fits .ensures, not-false (c .before .before .before .top-fits .result) (c .before .before .if1 .left), ← c .before .pool-fits .ensures, not-true (c .before .pool-fits .result) (c .if2 .taken))
+
+pool-fits-requires-2 : tie.Need-pool-fits-requires-2
+pool-fits-requires-2 c κs = search needs
+
+returns-3 : tie.Need-returns-3
+unfolding tablesFit
+returns-3 c = rw (← c .before .before .before .before .top-fits .ensures, not-false (c .before .before .before .before .top-fits .result) (c .before .before .before .if1 .left), ← c .before .before .pool-fits .ensures, not-false (c .before .before .pool-fits .result) (c .before .if2 .left)) (c .pool-fits2 .ensures)
+
+pub tables-fit-spec : {M : Type 1} → statement M
+tables-fit-spec =
+    tie.close
+    (tie.spec
+    top-fits-requires
+    returns
+    pool-fits-requires
+    returns-2
+    pool-fits-requires-2
+    returns-3)
