@@ -22,7 +22,7 @@ use Rattle.walk.specs.declared.Walked.the-variants as walked
 use Rattle.walk.specs.Memory.{walkedOf}
 use Rattle.shadow.specs.Held.{heldOf, entryFor}
 use Rattle.shadow.specs.Fill.{fillOf}
-use Rattle.unit.specs.declared.Translated.{Translated}
+use Rattle.request.specs.declared.Translated.{Translated}
 
 -- "1 for H or W"
 abbrev pub exitBy : Walked → ℕ
