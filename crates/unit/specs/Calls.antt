@@ -1,0 +1,192 @@
+-- The calls of the unit, as total definitions over any record, any memory and any numbers.
+-- Assumes nothing.
+use Prim.Native.Nat.{ℕ, _+_, _-_, _*_, _/_, _^_}
+use mathlib.Core.Bool.{Bool, true, false, _&&_, cond}
+use mathlib.Core.List.{List}
+use lib.Dec.{eqb, ltb}
+use lib.ListN.{length}
+use Rattle.spec.specs.declared.Answer.{Answer}
+use Rattle.spec.specs.declared.Answer.the-variants as answer
+use Rattle.spec.specs.Config.{Config}
+use Rattle.spec.specs.Entry.{pageOf, wordOf, indexes}
+use Rattle.spec.specs.Plain.{next}
+use Rattle.spec.specs.Refusal.{addressFits, deviceFits, wordAligned, frameFits}
+use Rattle.words.specs.Words.{wordIn}
+use Rattle.area.specs.declared.Pool.{Pool}
+use Rattle.area.specs.Pool.{noneOf}
+use Rattle.host.specs.declared.HostWalk.{HostWalk}
+use Rattle.host.specs.declared.HostWalk.the-variants as host
+use Rattle.host.specs.Walk.{hostWalkOf}
+use Rattle.host.specs.Map.{Changed, mapOf, unmapOf}
+use Rattle.walk.specs.declared.Walked.{Walked}
+use Rattle.walk.specs.declared.Walked.the-variants as walked
+use Rattle.walk.specs.Memory.{walkedOf}
+use Rattle.marks.specs.declared.Marks.{Marks}
+use Rattle.marks.specs.Key.{keyOf, depthOf}
+use Rattle.marks.specs.Table.{keys, withKey, withoutKey, setRefusal, clearRefusal, number}
+use Rattle.shadow.specs.declared.Cut.the-variants.{Names}
+use Rattle.shadow.specs.Drop.{Outcome, scanOf, dropPrefixOf}
+use Rattle.record.specs.declared.Record.{Record}
+use Rattle.record.specs.Record.{levels, configOf, fitsOf, withRoot, withMarks}
+use Rattle.record.specs.Open.{Opening, openOf}
+use Rattle.request.specs.Translate.{Out, translateOf, exitBy}
+use Rattle.request.specs.Store.{Stored, storeOf}
+use Rattle.unit.specs.declared.Reply.{Reply}
+
+-- everything that a call leaves
+pub record Ended : Type 0 where
+  pub reply : Reply
+  pub memory : List ℕ
+
+abbrev pub ends : Reply → List ℕ → Ended
+ends r m = record { reply = r; memory = m }
+
+abbrev pub ended : Record → Answer → List ℕ → Ended
+ended r x m = ends (record { unit = r; answer = x }) m
+
+-- "A refusal returns its number with the record given"
+abbrev pub refused : Record → ℕ → List ℕ → Ended
+refused r n m = ended r (answer.Refused n) m
+
+-- the record with another pool of the shadow tables and another frame held at depth N
+unfoldable pub withHeld : Record → Pool → ℕ → Record
+withHeld r p top = record {
+  words = r .words;
+  hosts = r .hosts;
+  shadows = r .shadows;
+  root = r .root;
+  top = top;
+  host = r .host;
+  shadow = p;
+  marks = r .marks;
+}
+
+-- with another pool of the host tables
+unfoldable pub withHost : Record → Pool → Record
+withHost r p = record {
+  words = r .words;
+  hosts = r .hosts;
+  shadows = r .shadows;
+  root = r .root;
+  top = r .top;
+  host = p;
+  shadow = r .shadow;
+  marks = r .marks;
+}
+
+-- "3 first, if the memory's length is another or the record breaks a rule"
+abbrev pub judged : Record → List ℕ → Ended → Ended
+judged r m next = cond (fitsOf r (length m)) next (refused r 3 m)
+
+-- ---- open
+
+abbrev pub openedBy : Record → ℕ → List ℕ → Ended
+openedBy r n m = ended r (cond (eqb n 0) answer.Ok (answer.Refused n)) m
+
+unfoldable pub openCall : List ℕ → ℕ → ℕ → Ended
+openCall m h s = let t = openOf m h s in openedBy (t .opened .unit) (t .opened .refusal) (t .memory)
+
+-- ---- load, store, device store
+
+abbrev pub depthAt : Record → ℕ → ℕ
+depthAt r a = depthOf (pageOf a) (keys (r .marks .place) (r .marks .set))
+
+unfoldable pub translatedOf : Record → List ℕ → Bool → ℕ → Out
+translatedOf r m st a = translateOf (configOf r) m (r .shadow) (r .top) (r .root) st a (depthAt r a)
+
+abbrev pub addressOk : Record → ℕ → Bool
+addressOk r a = addressFits (configOf r) a && wordAligned a
+
+-- the record after a translation
+abbrev pub heldAfter : Record → Out → Record
+heldAfter r o = withHeld r (o .translated .pool) (o .translated .top)
+
+abbrev pub loadBy : Record → ℕ → Out → Walked → Ended
+loadBy r a o (walked.Arrived t w n) = ended (heldAfter r o) (answer.Value (wordIn (o .memory) (t .0) (wordOf a)) n (o .translated .exits)) (o .memory)
+loadBy r a o (walked.Faulted x n) = ended (heldAfter r o) (answer.Faulted x n (o .translated .exits)) (o .memory)
+loadBy r a o walked.Damaged = refused r 11 (o .memory)
+
+unfoldable pub loadOf : Record → List ℕ → ℕ → Ended
+loadOf r m a =
+    let o = translatedOf r m false a in
+    judged r m (cond (addressOk r a) (loadBy r a o (o .translated .walked)) (refused r 4 m))
+
+-- a store that came to its word: n references, e exits so far
+abbrev pub writtenBy : Record → ℕ → ℕ → ℕ → Stored → Ended
+writtenBy r top n e s = cond (s .put .ok) (ended (withHeld r (s .put .pool) top) (answer.Done n (e + s .put .exits)) (s .memory)) (refused r 11 (s .memory))
+
+abbrev pub storeBy : Record → ℕ → ℕ → Out → Walked → Ended
+storeBy r a v o (walked.Arrived t w n) =
+    writtenBy r (o .translated .top) n (o .translated .exits) (storeOf (configOf r) (o .memory) (o .translated .pool) (t .0) (wordOf a) v)
+storeBy r a v o (walked.Faulted x n) = ended (heldAfter r o) (answer.Faulted x n (o .translated .exits)) (o .memory)
+storeBy r a v o walked.Damaged = refused r 11 (o .memory)
+
+unfoldable pub storeCall : Record → List ℕ → ℕ → ℕ → Ended
+storeCall r m a v =
+    let o = translatedOf r m true a in
+    judged r m (cond (addressOk r a) (storeBy r a v o (o .translated .walked)) (refused r 4 m))
+
+abbrev pub deviceOk : Record → ℕ → Bool
+deviceOk r a = deviceFits (configOf r) a && wordAligned a
+
+-- "For a device store: the host walk's words, 1 exit for H or W, 1, if granted, for a watched frame"
+abbrev pub deviceBy : Record → List ℕ → ℕ → ℕ → Walked → Ended
+deviceBy r m a v (walked.Arrived t w n) = writtenBy r (r .top) n 0 (storeOf (configOf r) m (r .shadow) (t .0) (wordOf a) v)
+deviceBy r m a v (walked.Faulted x n) = ended r (answer.Faulted x n (exitBy (walked.Faulted x n))) m
+deviceBy r m a v walked.Damaged = refused r 11 m
+
+unfoldable pub deviceCall : Record → List ℕ → ℕ → ℕ → Ended
+deviceCall r m a v =
+    judged r m (cond (deviceOk r a) (deviceBy r m a v (walkedOf (configOf r) m 0 (next true true (pageOf a) true))) (refused r 4 m))
+
+-- ---- root, map, unmap
+
+-- "A root load drops all"
+unfoldable pub rootCall : Record → List ℕ → ℕ → Ended
+rootCall r m g = judged r m (cond (frameFits (configOf r) g) (ended (withRoot (withHeld r noneOf 0) g) answer.Ok m) (refused r 8 m))
+
+-- what a drop left; r is the record given, next the one after the drop
+abbrev pub droppedBy : Record → Record → ℕ → Outcome → Ended
+droppedBy r next top o = cond (o .left .ok) (ended (withHeld next (o .left .pool) top) answer.Ok (o .memory)) (refused r 11 (o .memory))
+
+-- "drops every held path whose shadow part used its mapping": every one if the frame is the root's
+unfoldable pub unmappedOf : Record → Record → List ℕ → ℕ → Ended
+unmappedOf r next m g =
+    cond (eqb g (r .root)) (ended (withHeld next noneOf 0) answer.Ok m)
+    (droppedBy r next (r .top) (scanOf (configOf r) (Names (record { 0 = g })) (r .shadow) m))
+
+-- a frame that was not mapped before has no path to drop
+abbrev pub mappedBy : Record → Changed → ℕ → HostWalk → Ended
+mappedBy r t g (host.Found f w) = unmappedOf r (withHost r (t .change .pool)) (t .memory) g
+mappedBy r t g (host.Absent n) = ended (withHost r (t .change .pool)) answer.Ok (t .memory)
+mappedBy r t g host.Damaged = refused r 11 (t .memory)
+
+unfoldable pub mapCall : Record → List ℕ → ℕ → ℕ → Bool → Ended
+mapCall r m g f w =
+    let t = mapOf (configOf r) (r .host) m g f w in
+    judged r m (cond (eqb (t .change .refusal) 0) (mappedBy r t g (hostWalkOf (configOf r) m g)) (refused r (t .change .refusal) (t .memory)))
+
+unfoldable pub unmapCall : Record → List ℕ → ℕ → Ended
+unmapCall r m g =
+    let t = unmapOf (configOf r) (r .host) m g in
+    judged r m (cond (eqb (t .change .refusal) 0) (unmappedOf r (withHost r (t .change .pool)) (t .memory) g) (refused r (t .change .refusal) (t .memory)))
+
+-- ---- marks
+
+-- "A mark set or cleared drops the paths that begin with its prefix": the frame held at depth N too where it keeps no index
+unfoldable pub markedOf : Record → List ℕ → ℕ → ℕ → Marks → Ended
+markedOf r m a n t =
+    droppedBy r (withMarks r t) (cond (ltb n levels) (r .top) 0) (dropPrefixOf (configOf r) (r .shadow) m (indexes (levels - n) (pageOf a / 2 ^ (9 * n))))
+
+abbrev pub keysOf : Record → List ℕ
+keysOf r = keys (r .marks .place) (r .marks .set)
+
+unfoldable pub setMarkCall : Record → List ℕ → ℕ → ℕ → Ended
+setMarkCall r m a n =
+    let x = number (setRefusal levels (keysOf r) a n) in
+    judged r m (cond (eqb x 0) (markedOf r m a n (withKey (r .marks) (keyOf n (pageOf a)))) (refused r x m))
+
+unfoldable pub clearMarkCall : Record → List ℕ → ℕ → ℕ → Ended
+clearMarkCall r m a n =
+    let x = number (clearRefusal levels (keysOf r) a n) in
+    judged r m (cond (eqb x 0) (markedOf r m a n (withoutKey (r .marks) (keyOf n (pageOf a)))) (refused r x m))
