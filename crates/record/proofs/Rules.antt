@@ -7,7 +7,7 @@ use mathlib.Core.List.{[], _∷_}
 use mathlib.Core.Option.{none, some}
 use Prim.Native.Nat.{ℕ, _+_, _-_, _*_, _/_, _%_, _^_, _<_, _≤_}
 use native.Mathlib.Omega.{arith}
-use borrow.Author.Tests.{eqb-true, leb-true, ltb-true, ltb-false, lt-ltb, le-ltb}
+use borrow.Author.Tests.{eqb-true, leb-true, ltb-true, ltb-false, lt-ltb, le-ltb, eq-eqb}
 use lib.Dec.{eqb, leb, ltb}
 use Rattle.spec.specs.Config.{Config, guestBase, frameBits}
 use Rattle.spec.specs.Refusal.{wordsFit, areasFit, frameFits, inGuestArea, marksFit, topFits, recordFits, openRefusal}
@@ -20,7 +20,7 @@ use Rattle.marks.specs.Table.{room}
 use Rattle.marks.specs.Reading.{marksOf}
 use Rattle.marks.proofs.Book.{keysOf, marks-fit, all-held}
 use Rattle.record.specs.declared.Record.{Record}
-use Rattle.record.specs.Record.{levels, layoutOf, configBy, configOf, topOf, poolFits, fitsOf, sizesFit, zeros}
+use Rattle.record.specs.Record.{levels, layoutOf, configBy, configOf, topOf, poolFits, fitsOf, sizesFit, tablesFit, zeros}
 use Rattle.record.specs.Open.{refusalOf}
 
 both : (a b : Bool) → a && b ≡ true → (a ≡ true) × (b ≡ true)
@@ -142,6 +142,27 @@ fits-layout r len e =
 -- what the depth search and the table of marks ask
 pub fits-keys : {r : Record} {len : ℕ} → r .marks .set < 2 ^ 64 → Fits r len → keysFit levels (keysOf (r .marks)) ≡ true
 fits-keys {r} l f = sym (marks-fit (configOf r) (r .marks) l (omega arith)) ∙ f .marks
+
+-- the rule in the order in which it is tested, the marks by their keys
+parts : (a g h i j k : Bool) → a && true && g && h && i && j && k ≡ (a && g && h && (i && j && k))
+parts true true true i j k = refl
+parts true true false i j k = refl
+parts true false h i j k = refl
+parts false g h i j k = refl
+
+pub fits-by : (r : Record) (len : ℕ) (b : Bool) → r .marks .set < 2 ^ 64
+    → b
+    ≡ (sizesFit (r .words) (r .hosts) (r .shadows) len && frameFits (configOf r) (r .root) && keysFit levels (keysOf (r .marks))
+    && tablesFit (layoutOf (r .words) (r .hosts) (r .shadows)) (r .top) (r .host) (r .shadow))
+    → b ≡ fitsOf r len
+unfolding fitsOf recordFits sizesFit tablesFit
+fits-by r len b l e =
+    let c = configOf r in
+    let sizes = eqb len (r .words) && wordsFit (r .words) && areasFit c in
+    let host = poolFits (r .hosts) (r .host) in
+    let shadow = poolFits (r .shadows) (r .shadow) in
+    rw (eq-eqb (r .words / 512) (r .words / 512) refl, marks-fit c (r .marks) l (omega arith))
+    (e ∙ sym (parts sizes (frameFits c (r .root)) (keysFit levels (keysOf (r .marks))) (topFits c (topOf (r .top))) host shadow))
 
 -- ---- a record of zeros breaks a rule on every memory
 pub zeros-refused : (len : ℕ) → fitsOf zeros len ≡ false
