@@ -21,9 +21,10 @@ use Rattle.area.specs.Pool.{noneOf}
 use Rattle.tree.proofs.Stores.{Beside, beside-drop}
 use Rattle.tree.proofs.Whole.{Holds, Opened, holds-none, holds-top}
 use Rattle.host.specs.Map.{hostArea}
+use Rattle.marks.specs.Key.{ascending}
 use Rattle.marks.specs.Table.{tableOf, number}
 use Rattle.marks.specs.Reading.{marksOf}
-use Rattle.marks.proofs.Book.{no-marks}
+use Rattle.marks.proofs.Book.{keysOf, no-marks, none-ascend}
 use Rattle.record.specs.Record.{levels, configBy, poolFits, fitsOf, zeros}
 use Rattle.record.specs.Open.{refusalOf, clearedOf, enteredOf, firstOf, Kept, kept, grantedOf, opens, granted, openOf}
 use Rattle.record.proofs.Rules.{Sized, granted-tests, granted-sized, zeros-refused}
@@ -129,6 +130,11 @@ module _ (m : List ℕ) (h s : ℕ) (grant : refusalOf (length m) h s ≡ 0) whe
       let e = ap (λ (n : ℕ). fitsOf (firstOf (length m) h s (top .pool)) n) granted-long in
       ap (λ (k : Kept). fitsOf (k .unit) (length (grantedOf m h s .memory))) granted-is ∙ e
       ∙ rw (eq-eqb (length m) (length m) refl, eq-eqb (length m / 512) (length m / 512) refl, t .0, t .1, no-mark, pool-fits, none-fits)
+
+  -- its keys ascend, so the rule of marks is one pass
+  pub granted-ascend : ascending levels 0 (keysOf (grantedOf m h s .unit .marks)) ≡ true
+  unfolding grantedOf firstOf tableOf
+  granted-ascend = none-ascend levels (tableOf []) refl
 
   -- ---- the tables: nothing is mapped, no path is held
   pub granted-host : Holds (hostArea c) true (grantedOf m h s .unit .host) (grantedOf m h s .memory) (λ x. 0) (λ x. 0)

@@ -7,7 +7,7 @@ use mathlib.Core.List.{[], _∷_}
 use mathlib.Core.Option.{none, some}
 use Prim.Native.Nat.{ℕ, _+_, _-_, _*_, _/_, _%_, _^_, _<_, _≤_}
 use native.Mathlib.Omega.{arith}
-use borrow.Author.Tests.{eqb-true, leb-true, ltb-true, ltb-false, lt-ltb, le-ltb}
+use borrow.Author.Tests.{eqb-true, eqb-false, leb-true, ltb-true, ltb-false, lt-ltb, le-ltb, le-leb, eq-eqb}
 use lib.Dec.{eqb, leb, ltb}
 use Rattle.spec.specs.Config.{Config, guestBase, frameBits}
 use Rattle.spec.specs.Refusal.{wordsFit, areasFit, frameFits, inGuestArea, marksFit, topFits, recordFits, openRefusal}
@@ -15,12 +15,13 @@ use Rattle.area.specs.declared.Pool.{Pool}
 use Rattle.area.specs.Pool.{noneOf}
 use Rattle.host.specs.Walk.{LayoutFits, config}
 use Rattle.host.proofs.Laws.{InGuestArea}
+use Rattle.marks.specs.declared.Marks.{Marks}
 use Rattle.marks.specs.Key.{keysFit}
 use Rattle.marks.specs.Table.{room}
 use Rattle.marks.specs.Reading.{marksOf}
 use Rattle.marks.proofs.Book.{keysOf, marks-fit, all-held}
 use Rattle.record.specs.declared.Record.{Record}
-use Rattle.record.specs.Record.{levels, layoutOf, configBy, configOf, topOf, poolFits, fitsOf, sizesFit, zeros}
+use Rattle.record.specs.Record.{levels, layoutOf, configBy, configOf, topOf, poolFits, fitsOf, sizesFit, tablesFit, zeros, withRoot, withMarks}
 use Rattle.record.specs.Open.{refusalOf}
 
 both : (a b : Bool) → a && b ≡ true → (a ≡ true) × (b ≡ true)
@@ -139,9 +140,95 @@ fits-layout r len e =
       shadow = pool-fits (r .shadows) (r .shadow) (xk .1);
     }
 
+-- and the other way round
+sized-tests : {words h s : ℕ} → Sized words h s → (wordsFit words ≡ true) × (areasFit (configBy words h s) ≡ true)
+sized-tests {words} {h} {s} z =
+    let even : words % 512 ≡ 0 = omega (arith, z .whole) in
+    let some : 0 < words / 512 = omega (arith, z .guest) in
+    (rw (eq-eqb _ _ even, lt-ltb _ _ some, le-leb _ _ (z .frames)), rw (le-leb _ _ (z .hosts), le-leb _ _ (z .shadows), lt-ltb _ _ (z .guest)))
+
+fits-top : (c : Config) (f : ℕ) → (f ≡ 0) ⊎ InGuestArea c f → topFits c (topOf f) ≡ true
+fits-top c f o = go (eqb f 0) refl
+  where
+    go : (t : Bool) → eqb f 0 ≡ t → topFits c (cond t none (some f)) ≡ true
+    go true q = refl
+    go false q = elim o [
+      | inl e ↦ absurd (eqb-false f 0 q e)
+      | inr k ↦ rw (le-leb _ _ (k .0), lt-ltb _ _ (k .1))
+    ]
+
+fits-pool : (size : ℕ) (p : Pool) → PoolFits size p → poolFits size p ≡ true
+unfolding poolFits
+fits-pool size p f = rw (le-leb _ _ (f .0), le-leb _ _ (f .1))
+
+pub fits-true : (r : Record) (len : ℕ) → Fits r len → fitsOf r len ≡ true
+unfolding fitsOf recordFits
+fits-true r len f =
+    let z = sized-tests (f .sizes) in
+    rw (
+      eq-eqb _ _ (f .long),
+      z .0,
+      z .1,
+      eq-eqb (r .words / 512) (r .words / 512) refl,
+      lt-ltb _ _ (f .root),
+      f .marks,
+      fits-top (configOf r) (r .top) (f .top),
+      fits-pool (r .hosts) (r .host) (f .host),
+      fits-pool (r .shadows) (r .shadow) (f .shadow),
+    )
+
+-- with another root, with other marks
+module _ {r : Record} {len : ℕ} (f : Fits r len) where
+  pub fits-root : (g : ℕ) → g < 2 ^ frameBits (configOf r) → Fits (withRoot r g) len
+  unfolding withRoot
+  fits-root g l = record {
+    long = f .long;
+    sizes = f .sizes;
+    layout = f .layout;
+    root = l;
+    marks = f .marks;
+    top = f .top;
+    host = f .host;
+    shadow = f .shadow;
+  }
+
+  pub fits-marks : (t : Marks) → marksFit (configOf r) (marksOf levels t) ≡ true → Fits (withMarks r t) len
+  unfolding withMarks
+  fits-marks t e = record {
+    long = f .long;
+    sizes = f .sizes;
+    layout = f .layout;
+    root = f .root;
+    marks = e;
+    top = f .top;
+    host = f .host;
+    shadow = f .shadow;
+  }
+
 -- what the depth search and the table of marks ask
 pub fits-keys : {r : Record} {len : ℕ} → r .marks .set < 2 ^ 64 → Fits r len → keysFit levels (keysOf (r .marks)) ≡ true
 fits-keys {r} l f = sym (marks-fit (configOf r) (r .marks) l (omega arith)) ∙ f .marks
+
+-- the rule in the order in which it is tested, the marks by their keys
+parts : (a g h i j k : Bool) → a && true && g && h && i && j && k ≡ (a && g && h && (i && j && k))
+parts true true true i j k = refl
+parts true true false i j k = refl
+parts true false h i j k = refl
+parts false g h i j k = refl
+
+pub fits-by : (r : Record) (len : ℕ) (b : Bool) → r .marks .set < 2 ^ 64
+    → b
+    ≡ (sizesFit (r .words) (r .hosts) (r .shadows) len && frameFits (configOf r) (r .root) && keysFit levels (keysOf (r .marks))
+    && tablesFit (layoutOf (r .words) (r .hosts) (r .shadows)) (r .top) (r .host) (r .shadow))
+    → b ≡ fitsOf r len
+unfolding fitsOf recordFits sizesFit tablesFit
+fits-by r len b l e =
+    let c = configOf r in
+    let sizes = eqb len (r .words) && wordsFit (r .words) && areasFit c in
+    let host = poolFits (r .hosts) (r .host) in
+    let shadow = poolFits (r .shadows) (r .shadow) in
+    rw (eq-eqb (r .words / 512) (r .words / 512) refl, marks-fit c (r .marks) l (omega arith))
+    (e ∙ sym (parts sizes (frameFits c (r .root)) (keysFit levels (keysOf (r .marks))) (topFits c (topOf (r .top))) host shadow))
 
 -- ---- a record of zeros breaks a rule on every memory
 pub zeros-refused : (len : ℕ) → fitsOf zeros len ≡ false
