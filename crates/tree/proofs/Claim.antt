@@ -2,32 +2,27 @@
 -- Assumes nothing.
 use mathlib.Core.Path.{_≡_, refl, sym, ap, ap₂, _∙_, subst}
 use mathlib.Core.Logic.{_≢_, _⊎_, inl, inr}
-use Prim.Native.Nat.{ℕ, zero, suc, _+_, _*_, _-_, _<_, _≤_}
-use native.Mathlib.Omega.{arith}
+use Prim.Native.Nat.{ℕ, _<_}
 use mathlib.Core.Bool.{Bool, true, false, _||_, cond}
 use mathlib.Core.List.{List, [], _∷_}
 use lib.Dec.{T, leb}
-use lib.ListN.{length}
 use borrow.Author.Tests.{leb-true, leb-false}
 use Rattle.spec.specs.Entry.{present}
 use Rattle.spec.specs.Prefix.{same, any, tablesOf}
 use Rattle.area.specs.declared.Area.{Area}
-use Rattle.area.specs.declared.Pool.{Pool}
-use Rattle.area.specs.declared.Way.the-variants.{To, Not, Bad}
-use Rattle.area.specs.declared.Look.the-variants.{Seen, Broken}
-use Rattle.area.specs.Pool.{End, end, noneOf}
-use Rattle.area.specs.Tree.{topOf, lookOf, enterOf, insertOf}
+use Rattle.area.specs.declared.Way.the-variants.{Not}
+use Rattle.area.specs.Pool.{End, end}
+use Rattle.area.specs.Tree.{topOf, lookOf, insertOf}
 use Rattle.area.specs.Remove.{removeOf}
-use Rattle.tree.specs.Run.{Op, put, cut, see, Reply, did, saw, broke, State, told, seen, left, answers, after, Map, get, without, paths, wordsRead, specified}
+use Rattle.tree.specs.Run.{Op, put, cut, see, did, saw, State, told, seen, left, answers, after, Map, get, without, paths, wordsRead, specified}
 use Rattle.laws.proofs.Lists.{same-is, same-refl, or-cases, or-left, or-right, is-true}
 use Rattle.laws.proofs.Distinct.{In}
 use Rattle.tree.proofs.Change.{differ, eq?, upd, upd-on, upd-other}
 use Rattle.tree.proofs.Stores.{Beside, beside-refl, beside-trans}
-use Rattle.tree.proofs.Paths.{onto, onto-long, turn-turn, Small, Ext, ext-long, Guests}
-use Rattle.tree.proofs.Invariant.{present-zero, present-set}
-use Rattle.tree.proofs.Find.{lacks}
-use Rattle.tree.proofs.Whole.{Holds, Fits, holds-none, Opened, holds-top, holds-leaves, holds-look, Next, holds-insert, holds-full, holds-remove, holds-absent}
-use Rattle.tree.proofs.Count.{Lists, room-is, reads-is}
+use Rattle.tree.proofs.Paths.{onto, turn-turn, Guests}
+use Rattle.tree.proofs.Invariant.{present-set}
+use Rattle.tree.proofs.Whole.{Holds, Fits, holds-look, Next, next-leaves, holds-remove, holds-absent}
+use Rattle.tree.proofs.Count.{Lists, insert-next, insert-not, reads-is}
 
 -- ---- the map as leaves
 abbrev pub leaves : Map → List ℕ → ℕ
@@ -38,7 +33,7 @@ unfoldable pub Solid : Map → Type 0
 Solid [] = Unit {0}
 Solid (x ∷ es) = (present (x .1) ≡ true) × Solid es
 
-same-true : (p q : List ℕ) → p ≡ q → same p q ≡ true
+pub same-true : (p q : List ℕ) → p ≡ q → same p q ≡ true
 same-true p q e = is-true (same p q) (subst (λ z. T (same p z)) e (same-refl p))
 
 get-listed : (es : Map) (is : List ℕ) → get es is ≢ 0 → In is (paths es)
@@ -95,7 +90,7 @@ without-self (x ∷ es) is = go (same (x .0) is) refl (without-self es is)
     go true q ih = ih
     go false q ih = ap (λ t. cond t (x .1) (get (without is es) is)) q ∙ ih
 
-without-other : (es : Map) (is js : List ℕ) → is ≢ js → get (without is es) js ≡ get es js
+pub without-other : (es : Map) (is js : List ℕ) → is ≢ js → get (without is es) js ≡ get es js
 unfolding get without
 without-other [] is js n = refl
 without-other (x ∷ es) is js n = go (same (x .0) is) refl (same (x .0) js) refl (without-other es is js n)
@@ -139,33 +134,29 @@ module _ {a : Area} {stays : Bool} {guest : List ℕ → ℕ} {t : State} {es : 
   pub see-is : seen (lookOf (a .base) (a .size) (t .memory) (topOf (a .base) (t .pool .fresh)) is 0) ≡ saw (get es is) (wordsRead stays (paths es) is)
   see-is = ap seen (holds-look (v .holds) is f) ∙ ap₂ saw there (reads-is (v .holds) is f (paths es) (map-lists es (v .solid)))
 
-  made : (lw : List ℕ → ℕ) (fs : Map) (r : End) → ((y : List ℕ) → lw y ≡ leaves fs y) → Solid fs → Next a stays (t .pool) (t .memory) lw guest r → Done a stays guest t r fs
-  made lw fs r e s d = record {
+  made : (fs : Map) (r : End) → Solid fs → Next a stays (t .pool) (t .memory) (leaves fs) guest r → Done a stays guest t r fs
+  made fs r s d = record {
     yes = ap (λ z. told (z .went .way)) (d .done);
-    tied = record {
-      holds = subst (λ z. Holds a stays (z .went .pool) (z .memory) (leaves fs) guest) (sym (d .done)) (holds-leaves (d .holds) (leaves fs) e);
-      solid = s;
-    };
+    tied = record { holds = subst (λ z. Holds a stays (z .went .pool) (z .memory) (leaves fs) guest) (sym (d .done)) (d .holds); solid = s };
     beside = subst (λ z. Beside a (t .memory) (z .memory)) (sym (d .done)) (d .beside);
   }
 
   module _ (gs : List ℕ) (e : ℕ) (gg : Guests guest gs 0 [] is) (thin : e < 4503599627370496) (set : present e ≡ true) where
-    room : tablesOf (is ∷ paths es) ≡ t .pool .used + lacks (v .holds .tabs) [] is
+    listed : Lists (upd (leaves es) (onto [] is) e) (is ∷ paths es)
     unfolding paths Solid
-    room = room-is (v .holds) is e (is ∷ paths es) (f .nonempty) (present-set e set)
-        (subst (λ lw. Lists lw (is ∷ paths es)) (λ i y. sym (leaves-put es is e y) i) (map-lists ((is, e) ∷ es) (set, v .solid)))
+    listed = subst (λ lw. Lists lw (is ∷ paths es)) (λ i y. sym (leaves-put es is e y) i) (map-lists ((is, e) ∷ es) (set, v .solid))
 
     pub put-next : leb (tablesOf (is ∷ paths es)) (a .size) ≡ true → Done a stays guest t (insertOf a gs (t .pool) (t .memory) is e) ((is, e) ∷ es)
     unfolding Solid
-    put-next q = made (upd (leaves es) (onto [] is) e) ((is, e) ∷ es) _ (leaves-put es is e) (set, v .solid)
-        (holds-insert (v .holds) gs is e f gg thin set (let k = leb-true (tablesOf (is ∷ paths es)) (a .size) q in let n = room in omega arith))
+    put-next q = made ((is, e) ∷ es) _ (set, v .solid) (next-leaves (leaves ((is, e) ∷ es)) (leaves-put es is e)
+        (insert-next (v .holds) gs is e f gg set (is ∷ paths es) listed thin (leb-true (tablesOf (is ∷ paths es)) (a .size) q)))
 
     pub put-full : leb (tablesOf (is ∷ paths es)) (a .size) ≡ false → insertOf a gs (t .pool) (t .memory) is e ≡ end (t .pool) Not (t .memory)
-    put-full q = holds-full (v .holds) gs is e f gg (let k = leb-false (tablesOf (is ∷ paths es)) (a .size) q in let n = room in omega arith)
+    put-full q = insert-not (v .holds) gs is e f gg set (is ∷ paths es) listed (leb-false (tablesOf (is ∷ paths es)) (a .size) q)
 
   pub cut-next : present (get es is) ≡ true → Done a stays guest t (removeOf a stays (t .pool) (t .memory) is) (without is es)
-  cut-next q = made (upd (leaves es) (onto [] is) 0) (without is es) _ (leaves-cut es is) (solid-without es is (v .solid))
-      (holds-remove (v .holds) is f (λ z. present-set (get es is) q (sym there ∙ z)))
+  cut-next q = made (without is es) _ (solid-without es is (v .solid))
+      (next-leaves (leaves (without is es)) (leaves-cut es is) (holds-remove (v .holds) is f (λ z. present-set (get es is) q (sym there ∙ z))))
 
   pub cut-none : present (get es is) ≡ false → removeOf a stays (t .pool) (t .memory) is ≡ end (t .pool) Not (t .memory)
   cut-none q = holds-absent (v .holds) is f (there ∙ get-solid es is (v .solid) q)

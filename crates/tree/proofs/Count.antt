@@ -2,25 +2,29 @@
 -- Assumes nothing.
 use mathlib.Core.Path.{_≡_, refl, sym, ap, ap₂, _∙_, subst}
 use mathlib.Core.Logic.{_≢_, _⊎_, inl, inr}
-use Prim.Native.Nat.{ℕ, zero, suc, _+_, _-_, _<_, _≤_}
+use Prim.Native.Nat.{ℕ, suc, _+_, _<_, _≤_}
 use native.Mathlib.Omega.{arith}
-use mathlib.Core.Bool.{Bool, true, false, _||_, _&&_, cond}
-use mathlib.Core.List.{List, [], _∷_, _++_, tail}
+use mathlib.Core.Bool.{Bool, true, false, cond}
+use mathlib.Core.List.{List, [], _∷_}
 use mathlib.Core.Option.{Option, none, some, IsSome}
 use lib.Dec.{T, eqb, not-T, T-not, eqb→eq, eqb-refl}
 use lib.ListN.{length}
+use Rattle.spec.specs.Entry.{present}
 use Rattle.spec.specs.Prefix.{begins, same, any, consAll, propers, allPropers, distinct, tablesOf}
 use Rattle.spec.specs.Machine.{standing}
 use Rattle.area.specs.declared.Area.{Area}
 use Rattle.area.specs.declared.Pool.{Pool}
-use Rattle.laws.proofs.Lists.{same-is, same-refl, or-cases, or-left, or-right, and-left, and-right, both, begins-refl, is-true}
+use Rattle.area.specs.declared.Way.the-variants.{Not}
+use Rattle.area.specs.Pool.{end}
+use Rattle.area.specs.Tree.{insertOf}
+use Rattle.laws.proofs.Lists.{same-is, or-cases, or-left, or-right, and-left, and-right, both, is-true}
 use Rattle.laws.proofs.Distinct.{In, Once, distinct-is, in-head, in-left, in-right, in-split}
 use Rattle.tree.specs.Run.{wordsRead}
 use Rattle.tree.proofs.Change.{eq?, upd, upd-on, upd-at, upd-other, no-empty, is-some}
-use Rattle.tree.proofs.Paths.{onto, onto-long, turn-turn, turn-empty, turn-none, Pre, Ext, ext-empty, ext-pre, pre-ext, pre-long, ext-long}
-use Rattle.tree.proofs.Invariant.{Tables, Leaf, Exact, none-below}
-use Rattle.tree.proofs.Find.{onTable, steps, lacks, steps-lacks, lacks-leaf}
-use Rattle.tree.proofs.Whole.{Holds, above-leaf, Fits}
+use Rattle.tree.proofs.Paths.{onto, onto-long, turn-turn, turn-empty, turn-none, Pre, Ext, ext-empty, ext-pre, pre-ext, pre-long, Guests}
+use Rattle.tree.proofs.Invariant.{present-set, Tables, Leaf, none-below}
+use Rattle.tree.proofs.Find.{onTable, steps, lacks, steps-none, steps-lacks, lacks-leaf}
+use Rattle.tree.proofs.Whole.{Holds, above-leaf, Fits, Next, holds-insert, holds-full}
 
 -- the list has the paths with a leaf, from the top
 abbrev pub Lists : (List ℕ → ℕ) → List (List ℕ) → Type 0
@@ -318,6 +322,14 @@ module _ {a : Area} {stays : Bool} {p : Pool} {m : List ℕ} {lv guest : List �
             set = λ v. leaf (upd-other lv z e w c ∙ v);
           }))))
 
+  -- ---- an insert by the list of the paths with the new one: done exactly if their different proper prefixes are no more than the frames
+  module _ (gs is : List ℕ) (e : ℕ) (f : Fits a lv is) (gg : Guests guest gs 0 [] is) (set : present e ≡ true) (ys : List (List ℕ)) (l : Lists (upd lv (onto [] is) e) ys) where
+    pub insert-next : e < 4503599627370496 → tablesOf ys ≤ a .size → Next a stays p m (upd lv (onto [] is) e) guest (insertOf a gs p m is e)
+    insert-next thin r = holds-insert h gs is e f gg thin set (rw (room-is is e ys (f .nonempty) (present-set e set) l) at r)
+
+    pub insert-not : a .size < tablesOf ys → insertOf a gs p m is e ≡ end p Not m
+    insert-not r = holds-full h gs is e f gg (rw (room-is is e ys (f .nonempty) (present-set e set) l) at r)
+
 -- ---- words read: one for each table on the way
 -- how many of the prefixes pass the test
 unfoldable pub tally : (List ℕ → Bool) → List (List ℕ) → ℕ
@@ -351,11 +363,6 @@ stands (some f) = true
 
 module _ {a : Area} {p : Pool} {ts : List ℕ → Option ℕ} {lv guest : List ℕ → ℕ} {fl : List ℕ} {ps : List (List ℕ)} {m : List ℕ}
     (g : Tables a p ts lv guest fl ps m) where
-  steps-none : (x is : List ℕ) → ts x ≡ none → steps ts x is ≡ 0
-  unfolding steps
-  steps-none x [] e = refl
-  steps-none x (i ∷ is) e = ap (λ o. onTable o 0 (1 + steps ts (i ∷ x) is)) e
-
   steps-tally : (x is : List ℕ) → steps ts x is ≡ tally (λ q. stands (ts (onto x q))) (propers is)
   unfolding steps tally onto
   steps-tally x [] = refl
@@ -363,7 +370,7 @@ module _ {a : Area} {p : Pool} {ts : List ℕ → Option ℕ} {lv guest : List �
     where
       go : (o : Option ℕ) → ts x ≡ o → tally (λ q. stands (ts (onto x q))) (consAll i (propers is)) ≡ steps ts (i ∷ x) is
           → onTable o 0 (1 + steps ts (i ∷ x) is) ≡ cond (stands o) 1 0 + tally (λ q. stands (ts (onto x q))) (consAll i (propers is))
-      go none e rest = let k = steps-none (i ∷ x) is (none-below g i x e) in omega arith
+      go none e rest = let k = steps-none ts (i ∷ x) is (none-below g i x e) in omega arith
       go (some f) e rest = omega arith
 
 -- a prefix of a path, as the specification tests it

@@ -1,17 +1,15 @@
 -- A lookup by paths: the leaf at the path, and one word read for each table on the way.
 -- Assumes nothing.
-use mathlib.Core.Path.{_≡_, refl, sym, ap, ap₂, _∙_, subst}
-use mathlib.Core.Logic.{_≢_, _⊎_, inl, inr}
-use Prim.Native.Nat.{ℕ, zero, suc, _+_, _-_, _<_, _≤_}
+use mathlib.Core.Path.{_≡_, refl, sym, ap, ap₂, _∙_}
+use mathlib.Core.Logic.{_≢_}
+use Prim.Native.Nat.{ℕ, suc, _+_, _<_}
 use native.Mathlib.Omega.{arith}
 use mathlib.Core.List.{List, [], _∷_}
-use mathlib.Core.Option.{Option, none, some, IsSome}
+use mathlib.Core.Option.{Option, none, some}
 use lib.ListN.{length}
 use Rattle.area.specs.declared.Area.{Area}
 use Rattle.area.specs.declared.Pool.{Pool}
-use Rattle.area.specs.declared.Way.{Way}
-use Rattle.area.specs.declared.Way.the-variants.{To, Not, Bad}
-use Rattle.area.specs.declared.Look.{Look}
+use Rattle.area.specs.declared.Way.the-variants.{To, Not}
 use Rattle.area.specs.declared.Look.the-variants.{Seen, Broken}
 use Rattle.area.specs.Header.{entryIn}
 use Rattle.area.specs.Pool.{hopOf, onWay}
@@ -32,6 +30,11 @@ steps ts x (i ∷ is) = onTable (ts x) 0 (1 + steps ts (i ∷ x) is)
 unfoldable pub lacks : (List ℕ → Option ℕ) → List ℕ → List ℕ → ℕ
 lacks ts x [] = 0
 lacks ts x (i ∷ is) = onTable (ts x) 1 0 + lacks ts (i ∷ x) is
+
+pub steps-none : (ts : List ℕ → Option ℕ) (x is : List ℕ) → ts x ≡ none → steps ts x is ≡ 0
+unfolding steps
+steps-none ts x [] e = refl
+steps-none ts x (i ∷ is) e = ap (λ o. onTable o 0 (1 + steps ts (i ∷ x) is)) e
 
 pub lacks-upd : (ts : List ℕ → Option ℕ) (y : List ℕ) (o : Option ℕ) (x is : List ℕ) → length y < length x → lacks (upd ts y o) x is ≡ lacks ts x is
 unfolding lacks

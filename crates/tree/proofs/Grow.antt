@@ -2,30 +2,29 @@
 -- Assumes nothing.
 use mathlib.Core.Path.{_≡_, refl, sym, ap, ap₂, _∙_, subst}
 use mathlib.Core.Logic.{_≢_, _⊎_, inl, inr}
-use Prim.Native.Nat.{ℕ, zero, suc, _+_, _*_, _-_, _<_, _≤_}
+use Prim.Native.Nat.{ℕ, _+_, _*_, _-_, _<_, _≤_}
 use native.Mathlib.Omega.{arith}
 use native.Mathlib.Decide.{ℕ-discrete}
-use mathlib.Core.Bool.{Bool, true, false, _||_, cond}
+use mathlib.Core.Bool.{true}
 use mathlib.Core.List.{List, [], _∷_, head-eq-of-cons-eq, tail-eq-of-cons-eq}
 use mathlib.Core.Option.{Option, none, some, IsSome}
-use lib.Dec.{T, eqb, ltb, not-T}
+use lib.Dec.{not-T}
 use lib.ListN.{length}
-use borrow.Author.Tests.{lt-ltb, eq-eqb, ne-eqb}
+use borrow.Author.Tests.{lt-ltb, eq-eqb}
 use Rattle.spec.specs.Entry.{present}
 use Rattle.spec.specs.Prefix.{same, any}
 use Rattle.words.specs.Words.{at, wordIn, zeroed}
 use Rattle.area.specs.declared.Area.{Area}
 use Rattle.area.specs.declared.Pool.{Pool}
-use Rattle.area.specs.declared.Way.{Way}
-use Rattle.area.specs.declared.Way.the-variants.{To, Not, Bad}
+use Rattle.area.specs.declared.Way.the-variants.{To, Not}
 use Rattle.area.specs.Header.{entryIn, putOf, guestOf, levelOf, parentOf, slotOf, headOf}
-use Rattle.area.specs.Pool.{link, hopOf, onWay, End, ends, end, poolOf, freshOf, freedOf, takeOf}
-use Rattle.area.specs.Tree.{topOf, headed, tableOf, enterOf, hung, hangOf}
-use Rattle.laws.proofs.Lists.{same-is, same-refl, or-cases, or-left, or-right}
-use Rattle.laws.proofs.Distinct.{In, Once, in-head}
+use Rattle.area.specs.Pool.{link, hopOf, end, poolOf, freshOf, freedOf, takeOf}
+use Rattle.area.specs.Tree.{topOf, tableOf, enterOf, hangOf}
+use Rattle.laws.proofs.Lists.{same-is, or-cases, or-right}
+use Rattle.laws.proofs.Distinct.{In, in-head}
 use Rattle.tree.proofs.Change.{eq?, upd, upd-on, upd-at, upd-other, longer, no-empty, some-inj, not-some, is-some}
-use Rattle.tree.proofs.Stores.{SameFrame, SameHead, frame-head, frame-entry, trans-head, at-inj, Beside, beside-one, beside-trans, put-length, put-here, put-other, put-else, put-head, Empty, empty-is}
-use Rattle.tree.proofs.Invariant.{slot, present-zero, link-small, hop-link, hop-zero, Mem, NoDup, Chain, chain-keep, Tables, top-some, none-below, fresh-none, frame-small, frame-fits, place-fits, place-inj}
+use Rattle.tree.proofs.Stores.{SameHead, frame-head, frame-entry, trans-head, at-inj, Beside, beside-one, beside-trans, put-length, put-here, put-other, put-else, put-head, Empty, empty-is}
+use Rattle.tree.proofs.Invariant.{slot, link-small, hop-link, hop-zero, Mem, NoDup, Chain, chain-keep, Tables, top-some, none-below, fresh-none, frame-small, place-fits, place-inj}
 
 -- ---- a frame is taken: what is known of it and of the next pool, over the old memory
 pub record Took (a : Area) (p : Pool) (ts : List ℕ → Option ℕ) (fl : List ℕ) (m : List ℕ) (q : Pool) (kl : List ℕ) (f : ℕ) : Type 0 where

@@ -2,9 +2,9 @@
 -- Assumes nothing.
 use mathlib.Core.Path.{_≡_, refl, sym, ap, ap₂, _∙_, subst}
 use mathlib.Core.Logic.{_≢_, _⊎_, inl, inr}
-use Prim.Native.Nat.{ℕ, zero, suc, _+_, _-_, _<_, _≤_}
+use Prim.Native.Nat.{ℕ, suc, _+_, _-_, _<_, _≤_}
 use native.Mathlib.Omega.{arith}
-use mathlib.Core.Bool.{Bool, true, false, cond}
+use mathlib.Core.Bool.{true}
 use mathlib.Core.List.{List, [], _∷_}
 use mathlib.Core.Option.{Option, none, some, IsSome}
 use lib.ListN.{length, getD}
@@ -12,17 +12,15 @@ use borrow.Author.Tests.{ne-eqb, le-leb, lt-leb}
 use Rattle.spec.specs.Entry.{present}
 use Rattle.area.specs.declared.Area.{Area}
 use Rattle.area.specs.declared.Pool.{Pool}
-use Rattle.area.specs.declared.Way.{Way}
-use Rattle.area.specs.declared.Way.the-variants.{To, Not, Bad}
-use Rattle.area.specs.declared.Look.the-variants.{Seen, Broken}
+use Rattle.area.specs.declared.Way.the-variants.{To, Not}
 use Rattle.area.specs.Header.{entryIn, putOf}
-use Rattle.area.specs.Pool.{hopOf, onWay, End, ends, end}
-use Rattle.area.specs.Tree.{topOf, lookOf, roomBy, roomOf, enterOf, hangOf, descendOf, onward, downOf, placeOf, insertOf}
+use Rattle.area.specs.Pool.{hopOf, End, end}
+use Rattle.area.specs.Tree.{roomOf, enterOf, hangOf, descendOf, downOf, placeOf, insertOf}
 use Rattle.tree.proofs.Change.{eq?, upd, upd-on, upd-at, upd-other, not-some, is-some}
-use Rattle.tree.proofs.Stores.{Beside, beside-refl, beside-trans}
-use Rattle.tree.proofs.Invariant.{slot, hop-zero, Tables, hop-table, fresh-none, fresh-some}
-use Rattle.tree.proofs.Grow.{Hung, hang-is, Entered, enter-is, set-leaf, put-beside}
-use Rattle.tree.proofs.Paths.{onto, onto-long, onto-other, Small, Pre, Clear, Guests}
+use Rattle.tree.proofs.Stores.{Beside, beside-trans}
+use Rattle.tree.proofs.Invariant.{slot, hop-zero, Tables, hop-table, fresh-some}
+use Rattle.tree.proofs.Grow.{Hung, hang-is, enter-is, set-leaf, put-beside}
+use Rattle.tree.proofs.Paths.{onto, onto-other, Small, Pre, Clear, Guests}
 use Rattle.tree.proofs.Find.{steps, lacks, lacks-upd, lacks-some, lacks-none, steps-lacks, lacks-leaf, look-top}
 
 -- a path that may be inserted: from the prefix x on by the indexes; its tables are named by the list of guest frames

@@ -3,26 +3,24 @@
 -- Assumes nothing.
 use mathlib.Core.Path.{_≡_, refl, sym, ap, _∙_, subst}
 use mathlib.Core.Logic.{_≢_, _⊎_, inl, inr}
-use Prim.Native.Nat.{ℕ, zero, suc, _+_, _*_, _-_, _/_, _%_, _^_, _<_, _≤_}
+use Prim.Native.Nat.{ℕ, _+_, _*_, _-_, _/_, _%_, _^_, _<_, _≤_}
 use native.Mathlib.Omega.{arith}
-use native.Mathlib.Decide.{ℕ-discrete}
-use mathlib.Core.Bool.{Bool, true, false, cond}
+use mathlib.Core.Bool.{Bool, true, false}
 use mathlib.Core.List.{List, [], _∷_}
 use mathlib.Core.Option.{Option, none, some, IsSome}
-use lib.Dec.{T, eqb, ltb}
+use lib.Dec.{T, eqb}
 use lib.ListN.{length}
-use borrow.Author.Tests.{eqb-true, eqb-false, ltb-true, ltb-false, lt-ltb, le-ltb, eq-eqb, ne-eqb}
-use Rattle.spec.specs.Entry.{bitSet, present, frameOf}
+use borrow.Author.Tests.{eqb-true, eqb-false, lt-ltb, le-ltb, eq-eqb, ne-eqb}
+use Rattle.spec.specs.Entry.{bitSet, present, switch, frameOf}
 use Rattle.words.specs.Words.{at, wordIn}
 use Rattle.area.specs.declared.Area.{Area}
 use Rattle.area.specs.declared.Pool.{Pool}
-use Rattle.area.specs.declared.Way.{Way}
-use Rattle.area.specs.declared.Way.the-variants.{To, Not, Bad}
-use Rattle.area.specs.Header.{entryIn, guestOf, levelOf, parentOf, slotOf, insideOf, bareOf}
+use Rattle.area.specs.declared.Way.the-variants.{To, Not}
+use Rattle.area.specs.Header.{entryIn, guestOf, levelOf, parentOf, slotOf, insideOf}
 use Rattle.area.specs.Pool.{link, hopOf}
 use Rattle.area.specs.Tree.{topOf}
 use Rattle.laws.proofs.Distinct.{In, Once}
-use Rattle.tree.proofs.Change.{no-empty, some-inj, not-some, is-some}
+use Rattle.tree.proofs.Change.{not-some, is-some}
 use Rattle.tree.proofs.Paths.{Ext}
 
 -- ---- entries
@@ -38,6 +36,11 @@ inside-is b s f l h = let k : f - b < s = omega arith in rw (le-ltb _ _ l, lt-lt
 pub present-link : (f : ℕ) → present (link f) ≡ true
 unfolding present bitSet link
 present-link f = let o : (f * 4096 + 1) / 2 ^ 0 % 2 ≡ 1 = omega arith in rw (eq-eqb _ _ o)
+
+-- "Bit 9 is the switch bit": no entry that names a table has it
+pub switch-link : (f : ℕ) → switch (link f) ≡ false
+unfolding switch bitSet link
+switch-link f = let o : (f * 4096 + 1) / 2 ^ 9 % 2 ≡ 0 = omega arith in rw o
 
 pub present-zero : present 0 ≡ false
 unfolding present bitSet
@@ -169,6 +172,14 @@ module _ {a : Area} {p : Pool} {ts : List ℕ → Option ℕ} {lv guest : List �
       go : (o : Option ℕ) → ts (i ∷ x) ≡ o → o ≡ none
       go none q = refl
       go (some f) q = let k = above i x f q .index in absurd (omega arith)
+
+  -- none in a table of level 1
+  pub none-last : (i : ℕ) (x : List ℕ) (f : ℕ) → ts x ≡ some f → levelOf m f ≡ 1 → ts (i ∷ x) ≡ none
+  none-last i x f e l = go (ts (i ∷ x)) refl
+    where
+      go : (o : Option ℕ) → ts (i ∷ x) ≡ o → o ≡ none
+      go none q = refl
+      go (some h) q = let k = g .level x f e in let n = g .level (i ∷ x) h q in absurd (omega arith)
 
   pub rooted : (x : List ℕ) (f : ℕ) → ts x ≡ some f → IsSome (ts [])
   rooted [] f e = is-some e

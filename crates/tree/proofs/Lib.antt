@@ -13,3 +13,4 @@ pub mod Count
 pub mod Claim
 pub mod Starts
 pub mod Local
+pub mod Hosts

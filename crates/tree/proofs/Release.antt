@@ -1,10 +1,10 @@
 -- Tables that are empty are given back, from one table up: every table left has a leaf below it.
 -- Assumes nothing.
-use mathlib.Core.Path.{_≡_, refl, sym, ap, ap₂, _∙_, subst}
-use mathlib.Core.Logic.{_≢_, _⊎_, inl, inr}
-use Prim.Native.Nat.{ℕ, zero, suc, _+_, _-_, _<_, _≤_}
+use mathlib.Core.Path.{_≡_, refl, sym, ap, _∙_, subst}
+use mathlib.Core.Logic.{_⊎_, inl, inr}
+use Prim.Native.Nat.{ℕ, suc, _+_, _<_, _≤_}
 use native.Mathlib.Omega.{arith}
-use mathlib.Core.Bool.{Bool, true, false, cond}
+use mathlib.Core.Bool.{Bool, true, false}
 use mathlib.Core.List.{List, [], _∷_}
 use mathlib.Core.Option.{Option, none, some, IsSome}
 use lib.Dec.{T}
@@ -13,20 +13,38 @@ use Rattle.spec.specs.Entry.{present}
 use Rattle.words.specs.Words.{setIn}
 use Rattle.area.specs.declared.Area.{Area}
 use Rattle.area.specs.declared.Pool.{Pool}
-use Rattle.area.specs.declared.Way.{Way}
-use Rattle.area.specs.declared.Way.the-variants.{To, Not, Bad}
-use Rattle.area.specs.Header.{entryIn, levelOf, parentOf, bareOf}
-use Rattle.area.specs.Pool.{onWay, End, ends, end, noneOf, giveOf}
+use Rattle.area.specs.declared.Way.the-variants.{To, Not}
+use Rattle.area.specs.Header.{levelOf, parentOf, bareOf}
+use Rattle.area.specs.Pool.{End, end, noneOf, giveOf}
 use Rattle.area.specs.Remove.{unhangOf, shutOf, releaseOf}
 use Rattle.tree.proofs.Change.{differ, eq?, upd, upd-on, upd-other, longer, not-some, is-some}
 use Rattle.tree.proofs.Stores.{Beside, beside-refl, beside-trans}
 use Rattle.tree.proofs.Invariant.{slot, present-zero, Tables, Leaf, Exact, rooted, fresh-some}
-use Rattle.tree.proofs.Shrink.{Busy, bare-false, Unhung, unhung, unhang-is, unhang-not, Shut, shut-is, shut-not}
-use Rattle.tree.proofs.Paths.{Ext, ext-trans, ext-long}
+use Rattle.tree.proofs.Shrink.{Busy, bare-false, Unhung, unhung, unhang-is, unhang-not, shut-is, shut-not}
+use Rattle.tree.proofs.Paths.{Ext, ext-empty, ext-trans, ext-long}
 
 -- every table but x and its prefixes has a leaf below it
 abbrev pub ButAbove : (List ℕ → Option ℕ) → (List ℕ → ℕ) → List ℕ → Type 0
 ButAbove ts lv x = (y : List ℕ) → IsSome (ts y) → (y ≡ x) ⊎ Ext y x ⊎ Leaf lv y
+
+-- all have one, or all but the top table
+pub exact-but : (stays : Bool) (ts : List ℕ → Option ℕ) (lv : List ℕ → ℕ) (x : List ℕ) → Exact stays ts lv → ButAbove ts lv x
+exact-but stays ts lv x ex y k = elim (ex y k) [ inl r ↦ inr (inr r) | inr r ↦ root (ext-empty x) (r .0) ]
+  where
+    root : (x ≡ []) ⊎ Ext [] x → y ≡ [] → (y ≡ x) ⊎ Ext y x ⊎ Leaf lv y
+    root (inl u) v = inl (v ∙ sym u)
+    root (inr u) v = inr (inl (subst (λ w. Ext w x) (sym v) u))
+
+-- a leaf of the table x is cleared
+pub but-clear : (ts : List ℕ → Option ℕ) (lv : List ℕ → ℕ) (x : List ℕ) (i : ℕ) → ButAbove ts lv x → ButAbove ts (upd lv (i ∷ x) 0) x
+but-clear ts lv x i all y k = elim (all y k) [
+  | inl c ↦ inl c
+  | inr c ↦ elim c [ inl r ↦ inr (inl r) | inr r ↦ leaf r (eq? (i ∷ x) (r .path)) ]
+]
+  where
+    leaf : (r : Leaf lv y) → Dec (i ∷ x ≡ r .path) → (y ≡ x) ⊎ Ext y x ⊎ Leaf (upd lv (i ∷ x) 0) y
+    leaf r (yes q) = elim (subst (Ext y) (sym q) (r .under)) [ inl u ↦ inl u | inr u ↦ inr (inl u) ]
+    leaf r (no q) = inr (inr (record { path = r .path; under = r .under; set = λ v. r .set (sym (upd-other lv (i ∷ x) 0 (r .path) q) ∙ v) }))
 
 -- what a release leaves of the tables ts in the memory m; t is the step
 pub record Released (a : Area) (stays : Bool) (p : Pool) (m : List ℕ) (ts : List ℕ → Option ℕ) (lv guest : List ℕ → ℕ) (t : End) : Type 0 where

@@ -1,30 +1,27 @@
 -- A remove by paths: that leaf is cleared, and every table left has a leaf below it.
 -- Assumes nothing.
-use mathlib.Core.Path.{_≡_, refl, sym, ap, ap₂, _∙_, subst}
-use mathlib.Core.Logic.{_≢_, _⊎_, inl, inr}
-use Prim.Native.Nat.{ℕ, zero, suc, _+_, _-_, _<_, _≤_}
+use mathlib.Core.Path.{_≡_, refl, sym, ap, _∙_, subst}
+use mathlib.Core.Logic.{_≢_}
+use Prim.Native.Nat.{ℕ, _+_, _<_}
 use native.Mathlib.Omega.{arith}
-use mathlib.Core.Bool.{Bool, true, false, cond}
+use mathlib.Core.Bool.{Bool}
 use mathlib.Core.List.{List, [], _∷_}
-use mathlib.Core.Option.{Option, none, some, IsSome}
-use lib.Dec.{T, ltb}
+use mathlib.Core.Option.{Option, none, some}
 use lib.ListN.{length}
-use borrow.Author.Tests.{ltb-true, ltb-false}
-use Rattle.spec.specs.Entry.{present}
 use Rattle.area.specs.declared.Area.{Area}
 use Rattle.area.specs.declared.Pool.{Pool}
 use Rattle.area.specs.declared.Way.{Way}
 use Rattle.area.specs.declared.Way.the-variants.{To, Not, Bad}
 use Rattle.area.specs.Header.{entryIn, putOf}
-use Rattle.area.specs.Pool.{hopOf, onWay, End, ends, end}
+use Rattle.area.specs.Pool.{hopOf, onWay, end}
 use Rattle.area.specs.Tree.{topOf}
 use Rattle.area.specs.Remove.{releaseOf, lastOf, lastIndex, clearOf, removeOf}
-use Rattle.tree.proofs.Change.{differ, eq?, upd, upd-other, not-some}
-use Rattle.tree.proofs.Stores.{Beside, beside-trans}
-use Rattle.tree.proofs.Paths.{onto, Small, Clear, Ext, ext-empty}
-use Rattle.tree.proofs.Invariant.{slot, present-zero, hop-zero, Tables, Leaf, Exact, none-below, hop-table}
+use Rattle.tree.proofs.Change.{upd}
+use Rattle.tree.proofs.Stores.{beside-trans}
+use Rattle.tree.proofs.Paths.{onto, Small, Clear}
+use Rattle.tree.proofs.Invariant.{slot, present-zero, hop-zero, Tables, Exact, none-below, hop-table}
 use Rattle.tree.proofs.Grow.{clear-leaf, put-beside}
-use Rattle.tree.proofs.Release.{ButAbove, Released, release-is}
+use Rattle.tree.proofs.Release.{Released, release-is, exact-but, but-clear}
 
 -- the path without its last index, as a prefix
 unfoldable front : List ℕ → ℕ → List ℕ → List ℕ
@@ -111,26 +108,14 @@ module _ {a : Area} {p : Pool} {ts : List ℕ → Option ℕ} {lv guest : List �
         go (some f) e = rw (last-top, e, entry f e, z, present-zero)
 
     -- the leaf is cleared, and then tables are given back
-    cleared : Exact stays ts lv → (f : ℕ) → ts x ≡ some f → Released a stays p (putOf m f i 0) ts (upd lv (onto [] (j ∷ js)) 0) guest (releaseOf a stays p (putOf m f i 0) (length js) f)
+    cleared : Exact stays ts lv → (f : ℕ) → ts x ≡ some f
+        → Released a stays p (putOf m f i 0) ts (upd lv (onto [] (j ∷ js)) 0) guest (releaseOf a stays p (putOf m f i 0) (length js) f)
     unfolding i x
     cleared ex f e =
         let k : length x ≡ length js = front-long [] j js ∙ omega arith in
-        subst (λ n. Released a stays p (putOf m f i 0) ts (upd lv (onto [] (j ∷ js)) 0) guest (releaseOf a stays p (putOf m f i 0) n f)) k
-        (release-is (subst (λ y. Tables a p ts (upd lv y 0) guest fl ps (putOf m f i 0)) (sym path) (clear-leaf g f i x e index tail-bare)) stays x f e all)
-      where
-        z : List ℕ
-        z = onto [] (j ∷ js)
-
-        all : ButAbove ts (upd lv z 0) x
-        all y k = elim (ex y k) [ inl r ↦ leaf r (eq? z (r .path)) | inr r ↦ root (ext-empty x) (r .0) ]
-          where
-            leaf : (r : Leaf lv y) → Dec (z ≡ r .path) → (y ≡ x) ⊎ Ext y x ⊎ Leaf (upd lv z 0) y
-            leaf r (yes q) = elim (subst (Ext y) (sym q ∙ path) (r .under)) [ inl u ↦ inl u | inr u ↦ inr (inl u) ]
-            leaf r (no q) = inr (inr (record { path = r .path; under = r .under; set = λ v. r .set (sym (upd-other lv z 0 (r .path) q) ∙ v) }))
-
-            root : (x ≡ []) ⊎ Ext [] x → y ≡ [] → (y ≡ x) ⊎ Ext y x ⊎ Leaf (upd lv z 0) y
-            root (inl u) v = inl (v ∙ sym u)
-            root (inr u) v = inr (inl (subst (λ w. Ext w x) (sym v) u))
+        subst (λ y. Released a stays p (putOf m f i 0) ts (upd lv y 0) guest (releaseOf a stays p (putOf m f i 0) (length js) f)) (sym path)
+        (subst (λ n. Released a stays p (putOf m f i 0) ts (upd lv (i ∷ x) 0) guest (releaseOf a stays p (putOf m f i 0) n f)) k
+        (release-is (clear-leaf g f i x e index tail-bare) stays x f e (but-clear ts lv x i (exact-but stays ts lv x ex))))
 
     pub remove-is : Exact stays ts lv → lv (onto [] (j ∷ js)) ≢ 0 → Released a stays p m ts (upd lv (onto [] (j ∷ js)) 0) guest (removeOf a stays p m (j ∷ js))
     unfolding removeOf clearOf i

@@ -2,31 +2,30 @@
 -- Assumes nothing.
 use mathlib.Core.Path.{_≡_, refl, sym, ap, ap₂, _∙_, subst}
 use mathlib.Core.Logic.{_≢_, _⊎_, inl, inr}
-use Prim.Native.Nat.{ℕ, zero, suc, _+_, _*_, _-_, _<_, _≤_, zero-le}
+use Prim.Native.Nat.{ℕ, zero, suc, _+_, _*_, _<_, _≤_, zero-le}
 use native.Mathlib.Omega.{arith}
 use native.Mathlib.Decide.{ℕ-discrete}
-use mathlib.Core.Bool.{Bool, true, false, _||_, cond}
+use mathlib.Core.Bool.{Bool, true, false, cond}
 use mathlib.Core.List.{List, [], _∷_, head-eq-of-cons-eq, tail-eq-of-cons-eq}
 use mathlib.Core.Option.{Option, none, some, IsSome}
-use lib.Dec.{T, eqb, ltb}
+use lib.Dec.{T, ltb}
 use lib.ListN.{length, length-set}
 use borrow.Author.Tests.{ltb-true, ltb-false}
 use Rattle.spec.specs.Entry.{present}
-use Rattle.spec.specs.Prefix.{same, any}
+use Rattle.spec.specs.Prefix.{same}
 use Rattle.words.specs.Words.{at, wordIn, setIn}
 use Rattle.area.specs.declared.Area.{Area}
 use Rattle.area.specs.declared.Pool.{Pool}
-use Rattle.area.specs.declared.Way.{Way}
-use Rattle.area.specs.declared.Way.the-variants.{To, Not, Bad}
-use Rattle.area.specs.Header.{entryIn, putOf, guestOf, levelOf, parentOf, slotOf, insideOf, bareOf}
-use Rattle.area.specs.Pool.{link, End, ends, end, poolOf, noneOf, giveOf, backOf}
+use Rattle.area.specs.declared.Way.the-variants.{To, Not}
+use Rattle.area.specs.Header.{entryIn, putOf, levelOf, parentOf, slotOf, bareOf}
+use Rattle.area.specs.Pool.{link, end, noneOf, giveOf, backOf}
 use Rattle.area.specs.Tree.{topOf}
 use Rattle.area.specs.Remove.{unhangOf, shutOf}
 use Rattle.laws.proofs.Lists.{same-is, same-refl}
-use Rattle.laws.proofs.Distinct.{In, Once, without, without-in, without-out, without-once, without-one}
-use Rattle.tree.proofs.Change.{differ, eq?, upd, upd-on, upd-at, upd-other, longer, no-empty, some-inj, not-some, is-some}
-use Rattle.tree.proofs.Stores.{SameFrame, SameHead, trans-head, frame-head, frame-entry, Beside, beside-one, beside-trans, put-length, put-here, put-other, put-else, put-head, back-length, back-else, back-link, back-level, shut-level, shut-else}
-use Rattle.tree.proofs.Invariant.{slot, inside-is, present-link, Mem, NoDup, Chain, chain-keep, Tables, Above, above, none-below, none-past, fresh-some, frame-small, frame-fits, place-fits, place-inj}
+use Rattle.laws.proofs.Distinct.{In, without, without-in, without-out, without-once, without-one}
+use Rattle.tree.proofs.Change.{differ, eq?, upd, upd-on, upd-other, no-empty, some-inj, not-some, is-some}
+use Rattle.tree.proofs.Stores.{SameHead, trans-head, frame-head, frame-entry, Beside, beside-one, beside-trans, put-length, put-here, put-other, put-else, put-head, back-length, back-else, back-link, back-level, shut-level, shut-else}
+use Rattle.tree.proofs.Invariant.{slot, inside-is, present-link, Mem, Chain, chain-keep, Tables, above, none-below, none-past, fresh-some, frame-small, place-fits, place-inj}
 
 -- ---- whether a table is empty
 pub bare-true : (m : List ℕ) (f n : ℕ) → bareOf m f n ≡ true → (j : ℕ) → j < n → present (entryIn m f j) ≡ false

@@ -1,22 +1,22 @@
 -- Where a list of calls begins: an area with nothing in it, with or without a top table that stays; and paths of one length always fit.
 -- Assumes nothing.
 use mathlib.Core.Path.{_≡_, refl, sym, ap, _∙_, subst}
-use mathlib.Core.Logic.{_≢_, _⊎_, inl, inr}
-use Prim.Native.Nat.{ℕ, zero, suc, _+_, _*_, _<_, _≤_}
+use mathlib.Core.Logic.{_≢_}
+use Prim.Native.Nat.{ℕ, _+_, _*_, _<_, _≤_}
 use native.Mathlib.Omega.{arith}
 use mathlib.Core.Bool.{Bool, true, false, cond}
 use mathlib.Core.List.{List, [], _∷_}
 use lib.Dec.{T, leb}
-use lib.ListN.{length, getD}
+use lib.ListN.{length}
 use Rattle.spec.specs.Entry.{present}
 use Rattle.spec.specs.Prefix.{same, tablesOf}
 use Rattle.area.specs.declared.Area.{Area}
-use Rattle.area.specs.Pool.{End, end, noneOf}
+use Rattle.area.specs.Pool.{noneOf}
 use Rattle.area.specs.Tree.{enterOf}
 use Rattle.tree.specs.Run.{Op, put, cut, see, State, left, answers, Map, get, without, paths, specified}
 use Rattle.laws.proofs.Lists.{same-is}
-use Rattle.tree.proofs.Paths.{onto, onto-long, Small, Ext, ext-long, Guests}
-use Rattle.tree.proofs.Whole.{Holds, Fits, holds-none, Opened, holds-top, holds-leaves}
+use Rattle.tree.proofs.Paths.{onto, onto-long, Small, ext-long, Guests}
+use Rattle.tree.proofs.Whole.{Holds, Fits, holds-none, holds-top, holds-leaves}
 use Rattle.tree.proofs.Claim.{leaves, Solid, Tied, Ok, claim}
 
 -- the area lies in the memory, its frames and levels fit a header
@@ -73,7 +73,7 @@ even-get n (x ∷ es) is h k = go (same (x .0) is) refl (even-get n es is (h .1)
     go true q ih = absurd (k (sym (ap length (same-is (x .0) is (subst T (sym q) tt))) ∙ h .0))
     go false q ih = ih
 
-even-fits : (a : Area) (es : Map) (is : List ℕ) → Even (a .levels) es → 0 < a .levels → length is ≡ a .levels → Small is → Fits a (leaves es) is
+pub even-fits : (a : Area) (es : Map) (is : List ℕ) → Even (a .levels) es → 0 < a .levels → length is ≡ a .levels → Small is → Fits a (leaves es) is
 even-fits a es is h deep l s =
     level-fits a (leaves es) is (λ y n. even-get (a .levels) es (onto [] y) h (λ q. n (let u = onto-long [] y in omega arith))) deep l s
 

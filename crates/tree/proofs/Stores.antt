@@ -3,12 +3,12 @@
 use mathlib.Core.Path.{_≡_, refl, sym, ap, _∙_, subst}
 use mathlib.Core.Logic.{_≢_, _⊎_, inl, inr}
 use Prim.Native.Nat.{ℕ, zero, suc, _+_, _*_, _-_, _/_, _%_, _<_, _≤_}
-use mathlib.Core.Bool.{Bool, true, false, cond}
+use mathlib.Core.Bool.{Bool, true, false}
 use native.Mathlib.Omega.{arith}
 use native.Mathlib.Decide.{ℕ-discrete}
 use mathlib.Core.List.{List, [], _∷_}
-use lib.ListN.{getD, set, length, length-set}
-use lib.Seq.{getD-set-other, getD-set-same}
+use lib.ListN.{getD, drop, length, length-set, length-drop}
+use lib.Seq.{getD-set-other, getD-set-same, getD-drop, ext-getD}
 use lib.Dec.{ltb}
 use borrow.Author.Tests.{ltb-true, ltb-false}
 use Rattle.words.specs.Words.{at, wordIn, setIn, zeroed}
@@ -71,6 +71,22 @@ beside-one a m n f lo hi e h = record {
   len = e;
   else = λ g o. h g (λ q. elim o [ inl l ↦ (let z = q in omega arith) | inr l ↦ (let z = q in omega arith) ]);
 }
+
+-- the same by places, and for all that comes after the area
+pub beside-place : {a : Area} {m n : List ℕ} → Beside a m n → (j : ℕ) → (j < a .base * 512) ⊎ ((a .base + a .size) * 512 ≤ j) → getD n j 0 ≡ getD m j 0
+beside-place {a = a} {m = m} {n = n} b j o =
+    let e : j ≡ at (j / 512) (j % 512) = omega arith in
+    ap (λ z. getD n z 0) e ∙ b .else (j / 512) (elim o [ inl l ↦ inl (omega arith) | inr l ↦ inr (omega arith) ]) (j % 512) (omega arith)
+    ∙ sym (ap (λ z. getD m z 0) e)
+
+pub beside-drop : {a : Area} {m n : List ℕ} → Beside a m n → (k : ℕ) → (a .base + a .size) * 512 ≤ k → drop k n ≡ drop k m
+beside-drop {m = m} {n = n} b k l =
+    ext-getD 0 (drop k n) (drop k m) (length-drop k n ∙ ap (λ z. z - k) (b .len) ∙ sym (length-drop k m))
+    (λ i h. getD-drop k n i 0 ∙ beside-place b (k + i) (inr (omega arith)) ∙ sym (getD-drop k m i 0))
+
+-- ---- one word is set
+pub set-else : (m : List ℕ) (f i v g : ℕ) → i < 512 → g ≢ f → SameFrame m (setIn m f i v) g
+set-else m f i v g hi ne k l = getD-set-other m (at f i) (at g k) v 0 (λ q. ne (at-inj g k f i l hi q .0))
 
 -- ---- an entry is put
 pub put-length : (m : List ℕ) (f i e : ℕ) → length (putOf m f i e) ≡ length m
@@ -136,8 +152,7 @@ written-else : (m : List ℕ) (f k : ℕ) (vs : List ℕ) (g : ℕ) → g ≢ f 
 unfolding written
 written-else m f k [] g ne h j l = refl
 written-else m f k (v ∷ vs) g ne h j l =
-    written-else (setIn m f k v) f (suc k) vs g ne (omega arith) j l
-    ∙ getD-set-other m (at f k) (at g j) v 0 (λ q. ne (at-inj g j f k l (omega arith) q .0))
+    written-else (setIn m f k v) f (suc k) vs g ne (omega arith) j l ∙ set-else m f k v g (omega arith) ne j l
 
 written-before : (m : List ℕ) (f k : ℕ) (vs : List ℕ) (j : ℕ) → j < k → wordIn (written m f k vs) f j ≡ wordIn m f j
 unfolding written
@@ -211,9 +226,7 @@ back-length m f l = length-set (setIn m f 0 l) (at f 1) 0 ∙ length-set m (at f
 
 pub back-else : (m : List ℕ) (f l g : ℕ) → g ≢ f → SameFrame m (backOf m f l) g
 unfolding backOf
-back-else m f l g ne k h =
-    getD-set-other (setIn m f 0 l) (at f 1) (at g k) 0 0 (λ q. ne (at-inj g k f 1 h (omega arith) q .0))
-    ∙ getD-set-other m (at f 0) (at g k) l 0 (λ q. ne (at-inj g k f 0 h (omega arith) q .0))
+back-else m f l g ne k h = set-else (setIn m f 0 l) f 1 0 g (omega arith) ne k h ∙ set-else m f 0 l g (omega arith) ne k h
 
 pub back-link : (m : List ℕ) (f l : ℕ) → at f 0 < length m → wordIn (backOf m f l) f 0 ≡ l
 unfolding backOf
@@ -229,4 +242,4 @@ unfolding backOf
 back-level m f l h = shut-level (setIn m f 0 l) f (rw length-set h)
 
 pub shut-else : (m : List ℕ) (f g : ℕ) → g ≢ f → SameFrame m (setIn m f 1 0) g
-shut-else m f g ne k h = getD-set-other m (at f 1) (at g k) 0 0 (λ q. ne (at-inj g k f 1 h (omega arith) q .0))
+shut-else m f g ne = set-else m f 1 0 g (omega arith) ne

@@ -1,30 +1,31 @@
 -- An area that holds exactly the leaves lv: tables stand above them and nowhere else, but for a top table that stays.
 -- What upper crates need of it: where it begins, lookup, insert and remove, and what of the memory it depends on.
 -- Assumes nothing.
-use mathlib.Core.Path.{_≡_, refl, sym, ap, ap₂, _∙_, subst}
+use mathlib.Core.Path.{_≡_, refl, sym, ap, _∙_, subst}
 use mathlib.Core.Logic.{_≢_, _⊎_, inl, inr}
-use Prim.Native.Nat.{ℕ, zero, suc, _+_, _*_, _-_, _<_, _≤_}
+use Prim.Native.Nat.{ℕ, _+_, _*_, _<_, _≤_}
 use native.Mathlib.Omega.{arith}
-use mathlib.Core.Bool.{Bool, true, false, cond}
+use mathlib.Core.Bool.{Bool, true, false}
 use mathlib.Core.List.{List, [], _∷_}
 use mathlib.Core.Option.{Option, none, some, IsSome}
 use lib.Dec.{T}
-use lib.ListN.{length}
+use lib.ListN.{length, length-set}
+use Rattle.words.specs.Words.{at, setIn}
 use Rattle.spec.specs.Entry.{present}
 use Rattle.area.specs.declared.Area.{Area}
 use Rattle.area.specs.declared.Pool.{Pool}
-use Rattle.area.specs.declared.Way.the-variants.{To, Not, Bad}
-use Rattle.area.specs.declared.Look.the-variants.{Seen, Broken}
+use Rattle.area.specs.declared.Way.the-variants.{To, Not}
+use Rattle.area.specs.declared.Look.the-variants.{Seen}
 use Rattle.area.specs.Pool.{End, end, noneOf}
 use Rattle.area.specs.Tree.{topOf, lookOf, enterOf, insertOf}
 use Rattle.area.specs.Remove.{removeOf}
-use Rattle.tree.proofs.Change.{eq?, upd, upd-on, upd-at, upd-other, no-empty, not-some, is-some}
-use Rattle.tree.proofs.Stores.{SameFrame, frame-head, frame-entry, Beside}
+use Rattle.tree.proofs.Change.{eq?, upd, upd-at, upd-other, is-some}
+use Rattle.tree.proofs.Stores.{SameFrame, frame-head, frame-entry, Beside, set-else}
 use Rattle.tree.proofs.Paths.{onto, onto-long, Small, Ext, pre-ext, Clear, clear-by, Guests}
 use Rattle.tree.proofs.Invariant.{present-set, chain-keep, Tables, Leaf, Exact, none-below, guests-same}
 use Rattle.tree.proofs.Grow.{enter-is}
 use Rattle.tree.proofs.Shrink.{dropped}
-use Rattle.tree.proofs.Find.{steps, lacks, look-top}
+use Rattle.tree.proofs.Find.{steps, lacks, steps-lacks, steps-none, look-top}
 use Rattle.tree.proofs.Insert.{Route, Placed, insert-is, insert-full}
 use Rattle.tree.proofs.Release.{Released}
 use Rattle.tree.proofs.Remove.{remove-is, remove-absent}
@@ -99,7 +100,7 @@ tables-memory {a = a} {p = p} {ts = ts} {fl = fl} {m = m} n e same g = record {
   flat = g .flat;
   long = rw e (g .long);
   inj = g .inj;
-  word = λ x f i t l. frame-entry m n f i (at x f t) l ∙ g .word x f i t l;
+  word = λ x f i t l. frame-entry m n f i (same-at x f t) l ∙ g .word x f i t l;
   top = g .top;
   root = g .root;
   below = g .below;
@@ -115,14 +116,14 @@ tables-memory {a = a} {p = p} {ts = ts} {fl = fl} {m = m} n e same g = record {
   used = g .used;
   once = g .once;
   stand = g .stand;
-  level = λ x f t. rw (frame-head m n f (at x f t) .level) (g .level x f t);
-  link = λ i x f t. rw (frame-head m n f (at (i ∷ x) f t) .parent, frame-head m n f (at (i ∷ x) f t) .slot) (g .link i x f t);
+  level = λ x f t. rw (frame-head m n f (same-at x f t) .level) (g .level x f t);
+  link = λ i x f t. rw (frame-head m n f (same-at (i ∷ x) f t) .parent, frame-head m n f (same-at (i ∷ x) f t) .slot) (g .link i x f t);
   each = λ f lo hi. rw (frame-head m n f (same f lo (omega (arith, g .room))) .level) (g .each f lo hi);
-  guests = λ x f t. frame-head m n f (at x f t) .guest ∙ g .guests x f t;
+  guests = λ x f t. frame-head m n f (same-at x f t) .guest ∙ g .guests x f t;
 }
   where
-    at : (x : List ℕ) (f : ℕ) → ts x ≡ some f → SameFrame m n f
-    at x f t = let k = g .inside x f t in same f (k .0) (omega (arith, g .room))
+    same-at : (x : List ℕ) (f : ℕ) → ts x ≡ some f → SameFrame m n f
+    same-at x f t = let k = g .inside x f t in same f (k .0) (omega (arith, g .room))
 
 module _ {a : Area} {stays : Bool} {p : Pool} {m : List ℕ} {lv guest : List ℕ → ℕ} (h : Holds a stays p m lv guest) where
   pub holds-memory : (n : List ℕ) → length n ≡ length m → ((f : ℕ) → a .base ≤ f → f < a .base + a .size → SameFrame m n f) → Holds a stays p n lv guest
@@ -134,6 +135,15 @@ module _ {a : Area} {stays : Bool} {p : Pool} {m : List ℕ} {lv guest : List �
     exact = h .exact;
     top = h .top;
   }
+
+  -- a word of a frame outside the area is stored
+  pub holds-store : (f i v : ℕ) → i < 512 → (f < a .base) ⊎ (a .base + a .size ≤ f) → Holds a stays p (setIn m f i v) lv guest
+  holds-store f i v l o = holds-memory (setIn m f i v) (length-set m (at f i) v)
+      (λ d lo hi. set-else m f i v d l (λ q. elim o [ inl k ↦ (let z = q in omega arith) | inr k ↦ (let z = q in omega arith) ]))
+
+  -- what changes in another area
+  pub holds-beside : (b : Area) (n : List ℕ) → (a .base + a .size ≤ b .base) ⊎ (b .base + b .size ≤ a .base) → Beside b m n → Holds a stays p n lv guest
+  holds-beside b n o k = holds-memory n (k .len) (λ f lo hi. k .else f (elim o [ inl q ↦ inl (omega arith) | inr q ↦ inr (omega arith) ]))
 
   -- leaves that are the same at every path
   pub holds-leaves : (lw : List ℕ → ℕ) → ((y : List ℕ) → lv y ≡ lw y) → Holds a stays p m lw guest
@@ -183,6 +193,11 @@ module _ {a : Area} {stays : Bool} {p : Pool} {m : List ℕ} {lv guest : List �
     pub holds-look : lookOf (a .base) (a .size) m (topOf (a .base) (p .fresh)) is 0 ≡ Seen (lv (onto [] is)) (steps (h .tabs) [] is)
     holds-look = look-top (h .tables) is on-way (f .small) at-end
 
+-- after a release
+pub released-holds : {a : Area} {stays : Bool} {p : Pool} {m : List ℕ} {ts : List ℕ → Option ℕ} {lv guest : List ℕ → ℕ} {t : End}
+    (d : Released a stays p m ts lv guest t) → Holds a stays (d .pool) (d .memory) lv guest
+released-holds d = record { tabs = d .tabs; list = d .list; pres = d .pres; tables = d .tables; exact = d .exact; top = d .top }
+
 -- ---- insert
 pub record Next (a : Area) (stays : Bool) (p : Pool) (m : List ℕ) (lv guest : List ℕ → ℕ) (t : End) : Type 0 where
   pub pool : Pool
@@ -191,6 +206,10 @@ pub record Next (a : Area) (stays : Bool) (p : Pool) (m : List ℕ) (lv guest : 
   pub done : t ≡ end pool (To frame) memory
   pub holds : Holds a stays pool memory lv guest
   pub beside : Beside a m memory
+
+pub next-leaves : {a : Area} {stays : Bool} {p : Pool} {m : List ℕ} {lv guest : List ℕ → ℕ} {t : End} (lw : List ℕ → ℕ) → ((y : List ℕ) → lv y ≡ lw y)
+    → Next a stays p m lv guest t → Next a stays p m lw guest t
+next-leaves {a = a} {stays = stays} {p = p} {m = m} {guest = guest} {t = t} lw e d = subst (λ l. Next a stays p m l guest t) (λ i y. e y i) d
 
 module _ {a : Area} {stays : Bool} {p : Pool} {m : List ℕ} {lv guest : List ℕ → ℕ} (h : Holds a stays p m lv guest) where
   route : (gs is : List ℕ) → Fits a lv is → Guests guest gs 0 [] is → Route a (h .tabs) lv guest gs [] is
@@ -250,15 +269,19 @@ module _ {a : Area} {stays : Bool} {p : Pool} {m : List ℕ} {lv guest : List �
   holds-remove [] f set = absurd (let l = f .nonempty in omega arith)
   holds-remove (i ∷ is) f set =
       let d = remove-is (h .tables) stays i is (f .small) (on-way h (i ∷ is) f) (at-end h (i ∷ is) f) (h .exact) set in
-      record {
-        pool = d .pool;
-        memory = d .memory;
-        frame = d .frame;
-        done = d .done;
-        holds = record { tabs = d .tabs; list = d .list; pres = d .pres; tables = d .tables; exact = d .exact; top = d .top };
-        beside = d .beside;
-      }
+      record { pool = d .pool; memory = d .memory; frame = d .frame; done = d .done; holds = released-holds d; beside = d .beside }
 
   pub holds-absent : (is : List ℕ) → Fits a lv is → lv (onto [] is) ≡ 0 → removeOf a stays p m is ≡ end p Not m
   holds-absent [] f gone = absurd (let l = f .nonempty in omega arith)
   holds-absent (i ∷ is) f gone = remove-absent (h .tables) stays i is (f .small) (on-way h (i ∷ is) f) (at-end h (i ∷ is) f) gone
+
+-- ---- a path in an area with nothing in it: "If a new path would make them more than S, all held paths are dropped first"
+pub first-insert : (a : Area) (guest : List ℕ → ℕ) (gs m is : List ℕ) (e : ℕ) → a .base + a .size ≤ 65536 → a .levels < 8 → (a .base + a .size) * 512 ≤ length m
+    → 0 < length is → length is ≤ a .levels → length is ≤ a .size → Small is → Guests guest gs 0 [] is → e < 4503599627370496 → present e ≡ true
+    → Next a false noneOf m (upd (λ x. 0) (onto [] is) e) guest (insertOf a gs noneOf m is e)
+unfolding noneOf
+first-insert a guest gs m is e sm fl lo nonempty short room small gg thin set =
+    let h = holds-none a guest m sm fl lo in
+    let k = steps-lacks (h .tables) [] is in
+    let n = steps-none (λ x. none) [] is refl in
+    holds-insert h gs is e (record { nonempty = nonempty; short = short; small = small; apart = λ y. ((λ x. refl), (λ x. refl)) }) gg thin set (omega arith)
