@@ -136,6 +136,7 @@ module _ {a : Area} {p : Pool} {ts : List ℕ → Option ℕ} {lv guest : List �
               tables = d .tables;
               exact = d .exact;
               top = d .top;
+              fresh = d .fresh;
               less = d .less;
               each = d .each;
               beside = beside-trans (put-beside g f i x 0 e index) (d .beside);
