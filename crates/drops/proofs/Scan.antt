@@ -11,14 +11,14 @@ use mathlib.Core.List.{List, [], _∷_}
 use mathlib.Core.Option.{Option, none, some, IsSome}
 use lib.Dec.{eqb, ltb}
 use lib.ListN.{length}
-use borrow.Author.Tests.{eqb-true, eq-eqb, ne-eqb, lt-ltb, ltb-true, ltb-false}
+use borrow.Author.Tests.{eqb-true, eqb-false, ne-eqb, lt-ltb, ltb-true, ltb-false}
 use Rattle.spec.specs.Config.{Config}
 use Rattle.spec.specs.Entry.{present, switch, frameOf}
 use Rattle.spec.specs.Refusal.{inGuestArea}
 use Rattle.area.specs.declared.Pool.{Pool}
 use Rattle.area.specs.Header.{entryIn, putOf, guestOf, levelOf, parentOf, slotOf}
 use Rattle.area.specs.Remove.{releaseOf}
-use Rattle.tree.proofs.Change.{differ, eq?, upd, upd-on, upd-other, is-some}
+use Rattle.tree.proofs.Change.{differ, eq?, upd, upd-on, upd-other, not-some}
 use Rattle.tree.proofs.Stores.{Beside, beside-refl, beside-trans, put-head}
 use Rattle.tree.proofs.Invariant.{slot, inside-is, present-link, switch-link, present-zero, frame-link, Tables, Exact, above, none-last, rooted, fresh-some, frame-small, place-fits}
 use Rattle.tree.proofs.Grow.{clear-leaf, put-beside}
@@ -61,44 +61,41 @@ kindAt (some f) e = Table f
 kindAt none zero = Gone
 kindAt none (suc e) = Leaf
 
-pub kind-is : {c : Config} {p : Pool} {ts : List ℕ → Option ℕ} {lv guest : List ℕ → ℕ} {fl : List ℕ} {ps : List (List ℕ)} {m : List ℕ}
-    → Tables (shadowArea c) p ts lv guest fl ps m → Leaves c lv → (y : List ℕ) (f i n : ℕ) → ts y ≡ some f → n + length y ≡ c .levels → i < 512
-    → kindOf c (eqb n 1) (entryIn m f i) ≡ kindAt (ts (i ∷ y)) (lv (i ∷ y))
-unfolding kindOf isLeaf
-kind-is {c = c} {ts = ts} {lv = lv} {m = m} g l y f i n t e b = ap (kindOf c (eqb n 1)) (g .word y f i t b) ∙ go (ts (i ∷ y)) refl (lv (i ∷ y)) refl
-  where
-    level : n ≡ levelOf m f
-    level = let k = g .level y f t in omega arith
+module _ {c : Config} {p : Pool} {ts : List ℕ → Option ℕ} {lv guest : List ℕ → ℕ} {fl : List ℕ} {ps : List (List ℕ)} {m : List ℕ}
+    (g : Tables (shadowArea c) p ts lv guest fl ps m) (l : Leaves c lv) where
+  -- the slot of a path: no table hangs in a table of level 1, and above it a leaf has the switch bit
+  pub slot-kind : (y : List ℕ) (lowest : Bool) → (lowest ≡ true → ts y ≡ none) → (lowest ≡ false → length y < c .levels)
+      → kindOf c lowest (slot (ts y) (lv y)) ≡ kindAt (ts y) (lv y)
+  unfolding kindOf isLeaf
+  slot-kind y lowest last short = go (ts y) refl (lv y) refl
+    where
+      leaf : (v : ℕ) → lv y ≡ v → v ≢ 0 → (b : Bool) → lowest ≡ b → isLeaf b v ≡ true
+      leaf v q s true e = refl
+      leaf v q s false e = subst (λ u. switch u ≡ true) q (l .ends y (λ u. s (sym q ∙ u)) ∙ lt-ltb _ _ (short e))
 
-    leaf : (v : ℕ) → lv (i ∷ y) ≡ v → v ≢ 0 → Dec (n ≡ 1) → isLeaf (eqb n 1) v ≡ true
-    leaf v q s (yes z) = rw (eq-eqb _ _ z)
-    leaf v q s (no z) =
-        let k = g .level y f t in
-        let o : length (i ∷ y) < c .levels = omega (arith, z) in
-        rw (ne-eqb _ _ z) (subst (λ u. switch u ≡ true) q (l .ends (i ∷ y) (λ u. s (sym q ∙ u)) ∙ lt-ltb _ _ o))
+      not-lowest : (h : ℕ) → ts y ≡ some h → (b : Bool) → lowest ≡ b → b ≡ false
+      not-lowest h q true e = absurd (not-some (last e) q)
+      not-lowest h q false e = refl
 
-    above-last : (h : ℕ) → ts (i ∷ y) ≡ some h → eqb n 1 ≡ false
-    above-last h q = ne-eqb _ _ (λ z. let u = none-last g i y f t (sym level ∙ z) in differ-option u q)
-      where
-        differ-option : {o : Option ℕ} → o ≡ none → o ≡ some h → ⊥
-        differ-option u v = let z : _≡_ {A = ℕ} 0 1 = cc in omega arith
+      go : (o : Option ℕ) → ts y ≡ o → (v : ℕ) → lv y ≡ v → kindOf c lowest (slot o v) ≡ kindAt o v
+      go none q zero r = rw present-zero
+      go none q (suc v) r =
+          let z : suc v ≢ 0 = (λ u. omega arith) in
+          let w : lv y ≢ 0 = (λ u. z (sym r ∙ u)) in
+          let p : present (suc v) ≡ true = subst (λ u. present u ≡ true) r (g .solid y w) in
+          let a : inGuestArea c (frameOf (suc v)) ≡ true = subst (λ u. inGuestArea c (frameOf u) ≡ true) r (l .area y w) in
+          rw (p, leaf (suc v) r z lowest refl, a)
+      go (some h) q v r =
+          rw (present-link h, not-lowest h q lowest refl, switch-link h, frame-link h (frame-small g y h q .1),
+          inside-is (c .hosts) (c .shadows) h (g .inside y h q .0) (frame-small g y h q .0))
 
-    go : (o : Option ℕ) → ts (i ∷ y) ≡ o → (v : ℕ) → lv (i ∷ y) ≡ v → kindOf c (eqb n 1) (slot o v) ≡ kindAt o v
-    go none q zero r = rw present-zero
-    go none q (suc v) r =
-        let z : suc v ≢ 0 = (λ u. omega arith) in
-        let w : lv (i ∷ y) ≢ 0 = (λ u. z (sym r ∙ u)) in
-        let p : present (suc v) ≡ true = subst (λ u. present u ≡ true) r (g .solid (i ∷ y) w) in
-        let a : inGuestArea c (frameOf (suc v)) ≡ true = subst (λ u. inGuestArea c (frameOf u) ≡ true) r (l .area (i ∷ y) w) in
-        rw (p, leaf (suc v) r z (ℕ-discrete n 1), a)
-    go (some h) q v r =
-        rw (
-          present-link h,
-          above-last h q,
-          switch-link h,
-          frame-link h (frame-small g (i ∷ y) h q .1),
-          inside-is (c .hosts) (c .shadows) h (g .inside (i ∷ y) h q .0) (frame-small g (i ∷ y) h q .0),
-        )
+  -- an entry of a table of level n
+  pub kind-is : (y : List ℕ) (f i n : ℕ) → ts y ≡ some f → n + length y ≡ c .levels → i < 512
+      → kindOf c (eqb n 1) (entryIn m f i) ≡ kindAt (ts (i ∷ y)) (lv (i ∷ y))
+  kind-is y f i n t e b =
+      ap (kindOf c (eqb n 1)) (g .word y f i t b)
+      ∙ slot-kind (i ∷ y) (eqb n 1) (λ q. let k = g .level y f t in let u = eqb-true n 1 q in none-last g i y f t (omega arith))
+      (λ q. let k = g .level y f t in omega (arith, eqb-false n 1 q))
 
 -- ---- where a cut can be
 record Range (m : List ℕ) (x : Cut) (f j : ℕ) : Type 0 where
