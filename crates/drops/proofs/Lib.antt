@@ -1,2 +1,4 @@
 pub mod Scan
 pub mod Held
+pub mod Watch
+pub mod Find

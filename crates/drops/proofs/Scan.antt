@@ -86,8 +86,13 @@ module _ {c : Config} {p : Pool} {ts : List ℕ → Option ℕ} {lv guest : List
           let a : inGuestArea c (frameOf (suc v)) ≡ true = subst (λ u. inGuestArea c (frameOf u) ≡ true) r (l .area y w) in
           rw (p, leaf (suc v) r z lowest refl, a)
       go (some h) q v r =
-          rw (present-link h, not-lowest h q lowest refl, switch-link h, frame-link h (frame-small g y h q .1),
-          inside-is (c .hosts) (c .shadows) h (g .inside y h q .0) (frame-small g y h q .0))
+          rw (
+            present-link h,
+            not-lowest h q lowest refl,
+            switch-link h,
+            frame-link h (frame-small g y h q .1),
+            inside-is (c .hosts) (c .shadows) h (g .inside y h q .0) (frame-small g y h q .0),
+          )
 
   -- an entry of a table of level n
   pub kind-is : (y : List ℕ) (f i n : ℕ) → ts y ≡ some f → n + length y ≡ c .levels → i < 512
