@@ -38,6 +38,10 @@ entries w (h ∷ hs) = (h .path, w h) ∷ entries w hs
 abbrev pub leafAt : (Held → ℕ) → List Held → List ℕ → ℕ
 leafAt w hs q = leaves (entries w hs) q
 
+pub leaf-none : (w : Held → ℕ) (q : List ℕ) → leafAt w [] q ≡ 0
+unfolding entries get
+leaf-none w q = refl
+
 -- a held path and its entry e, as the shadow tables have it: T gives the host frames of the guest tables, G the guest frames
 -- that guest entries name, both by prefix
 pub record Stands (c : Config) (T G : List ℕ → ℕ) (root e : ℕ) (h : Held) : Type 0 where

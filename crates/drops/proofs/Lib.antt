@@ -2,3 +2,4 @@ pub mod Scan
 pub mod Held
 pub mod Watch
 pub mod Find
+pub mod Drops
