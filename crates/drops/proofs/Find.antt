@@ -19,7 +19,7 @@ use Rattle.host.specs.declared.HostWalk.the-variants.{Found, Absent}
 use Rattle.host.specs.Walk.{page, leafOf, hostBy}
 use Rattle.tree.specs.Run.{get}
 use Rattle.tree.proofs.Paths.{onto, turn-turn}
-use Rattle.tree.proofs.Invariant.{present-zero}
+use Rattle.tree.proofs.Invariant.{present-zero, present-set}
 use Rattle.tree.proofs.Find.{steps}
 use Rattle.tree.proofs.Whole.{Holds, Fits, holds-look}
 use Rattle.shadow.specs.Held.{shadowArea, heldOf, entryFor}
@@ -80,7 +80,7 @@ held-is {c = c} {p = p} {m = m} {w = w} {hs = hs} h a is f = go (find is hs) ref
     go none e = leaf-absent c h is f (leaf-find w hs is ∙ ap (entryFound w) e)
     go (some k) e =
         let q : leafAt w hs (onto [] is) ≡ w k = leaf-find w hs is ∙ ap (entryFound w) e in
-        leaf-found c h is f (leaves-are a) (λ z. find-all _ is k hs (a .all) e .set (sym q ∙ z)) ∙ ap (λ v. Found (page (frameOf v)) (writable v)) q
+        leaf-found c h is f (leaves-are a) (λ z. present-set (w k) (find-all _ is k hs (a .all) e .set) (sym q ∙ z)) ∙ ap (λ v. Found (page (frameOf v)) (writable v)) q
 
 -- ---- the entry of a held path
 bit : (k : ℕ) (b : Bool) → k ≡ cond b 1 0 → eqb k 1 ≡ b

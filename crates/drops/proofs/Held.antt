@@ -10,7 +10,7 @@ use mathlib.Core.List.{List, [], _∷_}
 use lib.Dec.{T, eqb, ltb, eqb→eq, eqb-refl}
 use lib.ListN.{length}
 use Rattle.spec.specs.Config.{Config, guestBase}
-use Rattle.spec.specs.Entry.{switch, frameOf}
+use Rattle.spec.specs.Entry.{present, switch, frameOf}
 use Rattle.spec.specs.Prefix.{begins, same, any, keep, propers}
 use Rattle.spec.specs.Refusal.{inGuestArea}
 use Rattle.spec.specs.Book.{Held, readsWord, usesMapping, dropWord, dropMapping, dropPrefix}
@@ -45,7 +45,7 @@ leaf-none w q = refl
 -- a held path and its entry e, as the shadow tables have it: T gives the host frames of the guest tables, G the guest frames
 -- that guest entries name, both by prefix
 pub record Stands (c : Config) (T G : List ℕ → ℕ) (root e : ℕ) (h : Held) : Type 0 where
-  pub set : e ≢ 0
+  pub set : present e ≡ true
   pub area : inGuestArea c (frameOf e) ≡ true
   pub ends : switch e ≡ ltb (length (h .path)) (c .levels)
   pub reads : h .reads ≡ readsFrom T [] (h .path)

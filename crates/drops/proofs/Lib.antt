@@ -3,3 +3,4 @@ pub mod Held
 pub mod Watch
 pub mod Find
 pub mod Drops
+pub mod Fill

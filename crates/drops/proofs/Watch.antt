@@ -20,7 +20,7 @@ use Rattle.area.specs.declared.Pool.{Pool}
 use Rattle.area.specs.Header.{levelOf, guestOf}
 use Rattle.tree.proofs.Change.{is-some}
 use Rattle.tree.proofs.Paths.{onto, Pre, Ext, pre-ext, ext-pre}
-use Rattle.tree.proofs.Invariant.{Leaf}
+use Rattle.tree.proofs.Invariant.{present-set, Leaf}
 use Rattle.tree.proofs.Whole.{Holds, above-leaf}
 use Rattle.shadow.specs.Held.{shadowArea}
 use Rattle.shadow.specs.Cut.{watchesOf, watchedFrom, watchedOf}
@@ -118,7 +118,7 @@ watched-is {c = c} {p = p} {m = m} {guest = guest} {w = w} {hs = hs} h a t = bot
 
     back : T (watched t hs) → T (watchedFrom m (c .hosts) t (p .fresh))
     back k =
-        let r = any-leaf _ w (readsFrame t) (λ k s. s .set) hs (a .all) k in
+        let r = any-leaf _ w (readsFrame t) (λ k s. present-set (w k) (s .set)) hs (a .all) k in
         let s = reads-pre t guest (r .held .path) [] (subst (λ rs. T (any (λ x. eqb t (x .0)) rs)) (r .fact .reads) (r .passes)) in
         stands (s .prefix) (s .frame) (h .tabs (s .prefix)) refl
         (above-leaf h (s .prefix) (record { path = onto [] (r .held .path); under = pre-ext (s .prefix) [] (r .held .path) (s .on); set = r .leaf }))
