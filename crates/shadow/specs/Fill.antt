@@ -30,6 +30,11 @@ mappedOf c m g = frameFound (hostWalkOf c m g)
 unfoldable pub belowOf : Config → List ℕ → ℕ → ℕ → ℕ
 belowOf c m t i = mappedOf c m (frameOf (wordIn m t i))
 
+-- the host frame that the indexes of a path lead to from the guest table in host frame t
+unfoldable pub tableAfter : Config → List ℕ → ℕ → List ℕ → ℕ
+tableAfter c m t [] = t
+tableAfter c m t (i ∷ is) = tableAfter c m (belowOf c m t i) is
+
 -- noted in ts by depth: the guest tables below the one in host frame t, of depth d, on the way of the path i ∷ is,
 -- whose last index is not followed
 unfoldable pub trailFrom : Config → List ℕ → List ℕ → ℕ → ℕ → ℕ → List ℕ → List ℕ
