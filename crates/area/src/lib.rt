@@ -29,6 +29,7 @@ pub enum Way {
     Bad,
 }
 
+// A step's way, and the pool after it.
 pub struct Went {
     pub pool: Pool,
     pub way: Way,
@@ -466,6 +467,7 @@ pub fn down(
     }
 }
 
+// The top table is handed out if there is none, then the path is filled from it down.
 pub fn place(a: Area, guests: &[u64], p: Pool, mem: &mut [u64], g: u64, k: u64, e: u64) -> Went
     requires { ⌜ (a .base + a .size < 1099511627776) × (1 ≤ k) × (k ≤ 7) × (k ≤ a .levels) ⌝ }
     ensures { λ r. ⌜ ends r (now (mem .exit)) ≡ placeOf a (now (guests .entry)) p (now (mem .entry)) (index (k - 1) g) (indexes (k - 1) g) e ⌝ }

@@ -1,17 +1,14 @@
 -- The set places of a number as a list: a loop over them, the list after a bit is set or cleared, their count.
 -- Assumes nothing.
-use mathlib.Core.Path.{_≡_, refl, sym, ap, ap₂, _∙_}
-use mathlib.Core.Bool.{cond}
+use mathlib.Core.Path.{_≡_, refl, ap, _∙_}
 use mathlib.Core.List.{List, [], _∷_, _++_, append-assoc, append-nil}
-use Prim.Native.Nat.{ℕ, zero, suc, _+_, _-_, _^_, _<_, _≤_}
+use Prim.Native.Nat.{ℕ, zero, suc, _-_, _^_, _<_, _≤_}
 use native.Mathlib.Omega.{arith}
 use native.Mathlib.Decide.{ℕ-discrete}
-use borrow.Author.Tests.{eq-eqb, ne-eqb}
 use lib.Pow.{pow-pos}
-use lib.Dec.{eqb}
 use lib.Bits.{bitAnd}
 use lib.Count.{ones, ones-ones, trailingZeros}
-use lib.ListN.{length, length-append}
+use lib.ListN.{length}
 use Rattle.bits.specs.Bit.{bit, setAt, places, below}
 use Rattle.bits.proofs.Laws.{Changed, bit-zero, bit-ones, bit-high, lowest-bit, clear-bit, below-lowest}
 

@@ -1,6 +1,6 @@
 // One bit of a u64, the lowest set one, and the count.
 ghost use mathlib.Core.Path.{_≡_};
-ghost use Prim.Native.Nat.{_-_, _/_, _%_, _^_, _<_};
+ghost use Prim.Native.Nat.{_-_, _%_, _^_, _<_};
 ghost use lib.Bits.{bitAnd};
 ghost use lib.Count.{ones, trailingZeros};
 ghost use Rattle.bits.specs.Bit.{bit};

@@ -1,9 +1,9 @@
 -- Laws of the index lists of page and frame numbers: their length, their prefixes, and that they tell numbers apart.
 -- Assumes nothing.
-use mathlib.Core.Path.{_≡_, refl, sym, ap, ap₂, _∙_, subst}
+use mathlib.Core.Path.{_≡_, refl, sym, ap, ap₂, _∙_}
 use mathlib.Core.Bool.{Bool, true, false, _&&_, and-false}
 use mathlib.Core.List.{List, [], _∷_, _++_}
-use Prim.Native.Nat.{ℕ, zero, suc, _+_, _-_, _*_, _/_, _%_, _^_, _<_, _≤_}
+use Prim.Native.Nat.{ℕ, zero, suc, _+_, _*_, _/_, _%_, _^_, _<_}
 use native.Mathlib.Nat.{suc-add, mod-lt, mod-eq-of-lt}
 use native.Mathlib.Omega.{arith}
 use borrow.Author.Tests.{eq-eqb, ne-eqb, eqb-true, eqb-false, lt-ltb}
@@ -36,6 +36,13 @@ indexes-split (suc k) n p =
 pub indexes-take : (k n p : ℕ) → take k (indexes (k + n) p) ≡ indexes k (p / 2 ^ (9 * n))
 indexes-take k n p =
     ap (take k) (indexes-split k n p) ∙ take-at (indexes k (p / 2 ^ (9 * n))) (indexes n p) k (indexes-length k (p / 2 ^ (9 * n)))
+
+pub eqb-sym : (a b : ℕ) → eqb a b ≡ eqb b a
+eqb-sym a b = go (eqb a b) refl
+  where
+    go : (t : Bool) → eqb a b ≡ t → t ≡ eqb b a
+    go true e = sym (eq-eqb b a (sym (eqb-true a b e)))
+    go false e = sym (ne-eqb b a (λ f. eqb-false a b e (sym f)))
 
 -- two numbers of a high and a low part are equal where both parts are
 both-parts : (k a b c d : ℕ) → b < 2 ^ k → d < 2 ^ k → (eqb a c && eqb b d) ≡ eqb (a * 2 ^ k + b) (c * 2 ^ k + d)
@@ -91,10 +98,3 @@ begins-indexes k n p q lp lq =
     ap (begins (indexes k q)) (indexes-split k n p)
     ∙ begins-append (indexes k q) (indexes k h) (indexes n p) (indexes-length k q ∙ sym (indexes-length k h))
     ∙ indexes-same k q h lq l ∙ eqb-sym q h
-  where
-    eqb-sym : (a b : ℕ) → eqb a b ≡ eqb b a
-    eqb-sym a b = go (eqb a b) refl
-      where
-        go : (t : Bool) → eqb a b ≡ t → t ≡ eqb b a
-        go true e = sym (eq-eqb b a (sym (eqb-true a b e)))
-        go false e = sym (ne-eqb b a (λ f. eqb-false a b e (sym f)))

@@ -1,6 +1,6 @@
 // The three address sorts and the bits of an entry. What each function yields is what the specification's definition gives.
 ghost use mathlib.Core.Path.{_≡_};
-ghost use Prim.Native.Nat.{_+_, _*_, _^_, _<_, _≤_};
+ghost use Prim.Native.Nat.{_+_, _*_, _<_};
 ghost use Rattle.spec.specs.Config.{frameBits};
 ghost use Rattle.spec.specs.Refusal.{addressFits};
 ghost use Rattle.entry.specs.Levels.{ofLevels};

@@ -58,6 +58,11 @@ unfolding indexes
 indexes-length zero p = refl
 indexes-length (suc n) p = ap suc (indexes-length n p)
 
+pub indexes-step : (k p : ℕ) → 0 < k → indexes k p ≡ index (k - 1) p ∷ indexes (k - 1) p
+unfolding indexes
+indexes-step zero p h = absurd (omega arith)
+indexes-step (suc k) p h = let z : suc k - 1 ≡ k = omega arith in rw z
+
 -- "A granted plain walk reads 24 words": N + N·(N + 1)
 pub plain-count : (c : Config) (m : Machine) (st : Bool) (a : ℕ) (r : Place) → (plain c m st a) .result ≡ granted r
     → (plain c m st a) .count ≡ c .levels + c .levels * suc (c .levels)

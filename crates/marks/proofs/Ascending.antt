@@ -1,9 +1,9 @@
 -- Keys that ascend break no rule: no two of them are equal.
 -- Assumes nothing.
-use mathlib.Core.Path.{_≡_, refl, sym, ap, _∙_}
-use mathlib.Core.Bool.{Bool, true, false, not, _&&_, _||_}
+use mathlib.Core.Path.{_≡_, refl}
+use mathlib.Core.Bool.{Bool, true, false, not, _&&_, and-eq-true-iff}
 use mathlib.Core.List.{List, [], _∷_}
-use Prim.Native.Nat.{ℕ, suc, _<_, _≤_}
+use Prim.Native.Nat.{ℕ, suc, _≤_}
 use native.Mathlib.Omega.{arith}
 use borrow.Author.Tests.{ltb-true, ne-eqb, leb-true}
 use lib.Dec.{eqb, ltb, leb}
@@ -14,12 +14,10 @@ use Rattle.marks.specs.Key.{keyFits, keysFit, ascending}
 
 -- ---- conjunctions that hold
 pub and-left : (a b : Bool) → (a && b) ≡ true → a ≡ true
-and-left true b e = refl
-and-left false b e = e
+and-left a b e = and-eq-true-iff a b .0 e .0
 
 pub and-right : (a b : Bool) → (a && b) ≡ true → b ≡ true
-and-right true b e = e
-and-right false b e = absurd (let z : _≡_ {A = ℕ} 0 1 = cc in omega arith)
+and-right a b e = and-eq-true-iff a b .0 e .1
 
 pub level-below : (n level : ℕ) → levelFits (ofLevels n) level ≡ true → (1 ≤ level) × (level ≤ suc n)
 level-below n level e = (leb-true 1 level (and-left (leb 1 level) _ e), leb-true level (suc n) (and-right (leb 1 level) _ e))

@@ -1,18 +1,18 @@
 -- A table of marks beside the book's: the same depth, the same rule, the same refusals, and the same marks after a set or a clear.
 -- Assumes nothing.
-use mathlib.Core.Path.{_≡_, refl, sym, ap, ap₂, _∙_, subst}
-use mathlib.Core.Bool.{Bool, true, false, not, _&&_, cond}
+use mathlib.Core.Path.{_≡_, refl, sym, ap, _∙_}
+use mathlib.Core.Bool.{Bool, true, false, not, cond}
 use mathlib.Core.List.{List, [], _∷_, map, List·Permᴰ·cons, List·Permᴰ·trans, Permᴰ·symm}
-use mathlib.Core.Option.{Option, none, some}
-use Prim.Native.Nat.{ℕ, suc, _+_, _-_, _*_, _/_, _^_, _<_, _≤_}
+use mathlib.Core.Option.{some}
+use Prim.Native.Nat.{ℕ, _+_, _*_, _^_, _<_, _≤_}
 use native.Mathlib.Omega.{arith}
-use borrow.Author.Tests.{ltb-true, le-leb, leb-true, not-true}
-use lib.Dec.{eqb, leb, ltb}
+use borrow.Author.Tests.{ltb-true, le-leb, not-true}
+use lib.Dec.{eqb, ltb}
 use lib.Count.{ones, ones-le}
 use lib.Pow.{shr-lt}
 use lib.ListN.{length, length-map}
-use Rattle.spec.specs.Config.{Config, addressBits}
-use Rattle.spec.specs.Entry.{indexes, pageOf}
+use Rattle.spec.specs.Config.{Config}
+use Rattle.spec.specs.Entry.{pageOf}
 use Rattle.spec.specs.Prefix.{any, keep}
 use Rattle.spec.specs.Book.{Mark, Book, markAt, sameMark, isSet, depth}
 use Rattle.spec.specs.Machine.{Machine}
@@ -25,7 +25,7 @@ use Rattle.marks.specs.Key.{keyOf, depthOf, keyFits, keysFit, ascending}
 use Rattle.marks.specs.Table.{room, keys, withKey, withoutKey, setTests, setRefusal, clearTests, clearRefusal, number}
 use Rattle.marks.specs.Reading.{markOf, marksOf}
 use Rattle.marks.proofs.Turn.{keys-end, keys-count}
-use Rattle.marks.proofs.Ascending.{and-left, and-right, level-below}
+use Rattle.marks.proofs.Ascending.{and-right, level-below}
 use Rattle.marks.proofs.Reading.{depth-keys, fits-keys, set-keys, mark-key, key-positive, key-fits}
 use Rattle.marks.proofs.Order.{SameMembers, members-any, members-length, members-depth, members-map, members-alike, members-without}
 use Rattle.marks.proofs.Tables.{keys-with, keys-without, inserted-members, around-members, ascending-with, ascending-without}
@@ -34,7 +34,7 @@ use Rattle.marks.proofs.Tables.{keys-with, keys-without, inserted-membe
 abbrev pub keysOf : Marks → List ℕ
 keysOf t = keys (t .place) (t .set)
 
-page-small : (c : Config) (a : ℕ) → addressFits c a ≡ true → pageOf a < 2 ^ (9 * c .levels)
+pub page-small : (c : Config) (a : ℕ) → addressFits c a ≡ true → pageOf a < 2 ^ (9 * c .levels)
 unfolding pageOf
 page-small c a e =
     let s : 12 + 9 * c .levels ≡ 9 * c .levels + 12 = omega arith in
@@ -51,6 +51,11 @@ pub marks-count : (n : ℕ) (t : Marks) → t .set < 2 ^ 64 → length (marksOf 
 unfolding marksOf
 marks-count n t l = length-map (keysOf t) (markOf n) ∙ keys-count (t .place) (t .set) l
 
+-- a table of no mark
+pub no-marks : (n : ℕ) (t : Marks) → t .set ≡ 0 → marksOf n t ≡ []
+unfolding marksOf
+no-marks n t e = ap (map (markOf n)) (keys-end (t .place) (t .set) e)
+
 -- the rule of a record for its marks
 pub marks-fit : (c : Config) (t : Marks) → t .set < 2 ^ 64 → room ≤ c .markRoom → marksFit c (marksOf (c .levels) t) ≡ keysFit (c .levels) (keysOf t)
 unfolding marksOf
@@ -59,69 +64,8 @@ marks-fit c t l r =
     rw (length-map (keysOf t) (markOf (c .levels)), keys-count (t .place) (t .set) l) (omega (arith, ones-le 64 (t .set) l)) in
     rw (le-leb _ (c .markRoom) few) (fits-keys c (keysOf t))
 
--- ---- a table that holds the book's marks
-module _ (c : Config) (t : Marks) (b : Book) (small : c .levels < 7) (word : t .set < 2 ^ 64) (agree : SameMembers (marksOf (c .levels) t) (b .marks)) where
-  pub depth-book : (a : ℕ) → addressFits c a ≡ true → depthOf (pageOf a) (keysOf t) ≡ depth (b .marks) (addressIndexes c a)
-  depth-book a e = depth-marks c t a e ∙ members-depth (addressIndexes c a) agree
-
-  -- of an address and a level that fit
-  module _ (a n : ℕ) (address : addressFits c a ≡ true) (level : levelFits c n ≡ true) where
-    below-8 : n < 8
-    below-8 = omega (arith, leb-true n (suc (c .levels)) (and-right (leb 1 n) (leb n (suc (c .levels))) level))
-
-    fits : keyFits (c .levels) (keyOf n (pageOf a)) ≡ true
-    fits = key-fits c n (pageOf a) (page-small c a address) below-8 level
-
-    its-mark : markOf (c .levels) (keyOf n (pageOf a)) ≡ markAt c n (addressIndexes c a)
-    its-mark = mark-key c n (pageOf a) (page-small c a address) below-8
-
-    pub set-book : any (eqb (keyOf n (pageOf a))) (keysOf t) ≡ isSet (markAt c n (addressIndexes c a)) (b .marks)
-    unfolding marksOf
-    set-book =
-        sym (set-keys (c .levels) (keyOf n (pageOf a)) (keysOf t) fits)
-        ∙ ap (λ (m : Mark). isSet m (map (markOf (c .levels)) (keysOf t))) its-mark
-        ∙ members-any (sameMark (markAt c n (addressIndexes c a))) agree
-
-    -- "Set mark"
-    pub book-with : ones (t .set) < room → SameMembers (marksOf (c .levels) (withKey t (keyOf n (pageOf a)))) (markAt c n (addressIndexes c a) ∷ b .marks)
-    unfolding marksOf
-    book-with free =
-        let k = keyOf n (pageOf a) in
-        let more = members-map (markOf (c .levels)) (inserted-members k (keysOf t)) in
-        rw (keys-with t k word free) (List·Permᴰ·trans more (List·Permᴰ·cons its-mark agree))
-
-    -- "Clear mark"
-    pub book-without : noTwoAlike (b .marks) ≡ true → any (eqb (keyOf n (pageOf a))) (keysOf t) ≡ true
-        → SameMembers (marksOf (c .levels) (withoutKey t (keyOf n (pageOf a)))) (keep (λ y. not (sameMark (markAt c n (addressIndexes c a)) y)) (b .marks))
-    unfolding marksOf
-    book-without alone held =
-        let k = keyOf n (pageOf a) in
-        let less = members-map (markOf (c .levels)) (around-members k _ _ (keys-without t k held)) in
-        let old = List·Permᴰ·trans (Permᴰ·symm agree) less in
-        members-without (markAt c n (addressIndexes c a)) (b .marks) (marksOf (c .levels) (withoutKey t k)) (rw its-mark at old) alone
-
-  -- refusals that turn on whether the mark is set, once address and level fit
-  agree-after : (a n : ℕ) (later : Bool → List (Bool × ℕ))
-      → firstFailed ((addressFits c a, 4) ∷ (levelFits c n, 5) ∷ later (any (eqb (keyOf n (pageOf a))) (keysOf t)))
-      ≡ firstFailed ((addressFits c a, 4) ∷ (levelFits c n, 5) ∷ later (isSet (markAt c n (addressIndexes c a)) (b .marks)))
-  agree-after a n later = go (addressFits c a) refl (levelFits c n) refl
-    where
-      go : (f : Bool) → addressFits c a ≡ f → (g : Bool) → levelFits c n ≡ g
-          → firstFailed ((f, 4) ∷ (g, 5) ∷ later (any (eqb (keyOf n (pageOf a))) (keysOf t)))
-          ≡ firstFailed ((f, 4) ∷ (g, 5) ∷ later (isSet (markAt c n (addressIndexes c a)) (b .marks)))
-      go false e g k = refl
-      go true e false k = refl
-      go true e true k = ap (λ (s : Bool). firstFailed (later s)) (set-book a n e k)
-
-  pub set-refused : (m : Machine) (a n : ℕ) → c .markRoom ≡ room → setRefusal (c .levels) (keysOf t) a n ≡ refusal c (setMark a n) m b
-  unfolding setRefusal refusal tests
-  set-refused m a n r =
-      let long : length (keysOf t) ≡ length (b .marks) = keys-count (t .place) (t .set) word ∙ sym (marks-count (c .levels) t word) ∙ members-length agree in
-      rw (r, long) (agree-after a n (λ s. (not s, 6) ∷ (ltb (length (b .marks)) room, 7) ∷ []))
-
-  pub clear-refused : (m : Machine) (a n : ℕ) → clearRefusal (c .levels) (keysOf t) a n ≡ refusal c (clearMark a n) m b
-  unfolding clearRefusal refusal tests
-  clear-refused m a n = agree-after a n (λ s. (s, 6) ∷ [])
+below-8 : (n level : ℕ) → n < 7 → levelFits (ofLevels n) level ≡ true → level < 8
+below-8 n level small e = omega (arith, level-below n level e)
 
 -- ---- what a granted call says: every test held
 pub all-held : (xs : List (Bool × ℕ)) → All (λ x. 0 < x .1) xs → number (firstFailed xs) ≡ 0 → All (λ x. x .0 ≡ true) xs
@@ -159,15 +103,92 @@ module _ (n : ℕ) (t : Marks) (a level : ℕ) where
       let h = all-held (clearTests n (keysOf t) a level) (omega arith, (omega arith, (omega arith, tt))) e in
       record { address = h .0; fits = h .1 .0; held = h .1 .1 .0 }
 
+-- ---- a table that holds the book's marks
+module _ (c : Config) (t : Marks) (b : Book) (small : c .levels < 7) (word : t .set < 2 ^ 64) (agree : SameMembers (marksOf (c .levels) t) (b .marks)) where
+  pub depth-book : (a : ℕ) → addressFits c a ≡ true → depthOf (pageOf a) (keysOf t) ≡ depth (b .marks) (addressIndexes c a)
+  depth-book a e = depth-marks c t a e ∙ members-depth (addressIndexes c a) agree
+
+  -- of an address and a level that fit
+  module _ (a n : ℕ) (address : addressFits c a ≡ true) (level : levelFits c n ≡ true) where
+    fits : keyFits (c .levels) (keyOf n (pageOf a)) ≡ true
+    fits = key-fits c n (pageOf a) (page-small c a address) (below-8 (c .levels) n small level) level
+
+    its-mark : markOf (c .levels) (keyOf n (pageOf a)) ≡ markAt c n (addressIndexes c a)
+    its-mark = mark-key c n (pageOf a) (page-small c a address) (below-8 (c .levels) n small level)
+
+    pub set-book : any (eqb (keyOf n (pageOf a))) (keysOf t) ≡ isSet (markAt c n (addressIndexes c a)) (b .marks)
+    unfolding marksOf
+    set-book =
+        sym (set-keys (c .levels) (keyOf n (pageOf a)) (keysOf t) fits)
+        ∙ ap (λ (m : Mark). isSet m (map (markOf (c .levels)) (keysOf t))) its-mark
+        ∙ members-any (sameMark (markAt c n (addressIndexes c a))) agree
+
+    book-with : length (keysOf t) < room → SameMembers (marksOf (c .levels) (withKey t (keyOf n (pageOf a)))) (markAt c n (addressIndexes c a) ∷ b .marks)
+    unfolding marksOf
+    book-with free =
+        let k = keyOf n (pageOf a) in
+        let more = members-map (markOf (c .levels)) (inserted-members k (keysOf t)) in
+        rw (keys-with t k word free) (List·Permᴰ·trans more (List·Permᴰ·cons its-mark agree))
+
+    book-without : keysFit (c .levels) (keysOf t) ≡ true → any (eqb (keyOf n (pageOf a))) (keysOf t) ≡ true
+        → SameMembers (marksOf (c .levels) (withoutKey t (keyOf n (pageOf a)))) (keep (λ y. not (sameMark (markAt c n (addressIndexes c a)) y)) (b .marks))
+    unfolding marksOf
+    book-without whole held =
+        let k = keyOf n (pageOf a) in
+        let marks = map (markOf (c .levels)) (keysOf t) in
+        let alone = sym (members-alike agree) ∙ and-right (allOf (markFits c) marks) (noTwoAlike marks) (fits-keys c (keysOf t) ∙ whole) in
+        let less = members-map (markOf (c .levels)) (around-members k _ _ (keys-without t k held)) in
+        let old = List·Permᴰ·trans (Permᴰ·symm agree) less in
+        members-without (markAt c n (addressIndexes c a)) (b .marks) (marksOf (c .levels) (withoutKey t k)) (rw its-mark at old) alone
+
+  -- refusals that turn on whether the mark is set, once address and level fit
+  agree-after : (a n : ℕ) (later : Bool → List (Bool × ℕ))
+      → firstFailed ((addressFits c a, 4) ∷ (levelFits c n, 5) ∷ later (any (eqb (keyOf n (pageOf a))) (keysOf t)))
+      ≡ firstFailed ((addressFits c a, 4) ∷ (levelFits c n, 5) ∷ later (isSet (markAt c n (addressIndexes c a)) (b .marks)))
+  agree-after a n later = go (addressFits c a) refl (levelFits c n) refl
+    where
+      go : (f : Bool) → addressFits c a ≡ f → (g : Bool) → levelFits c n ≡ g
+          → firstFailed ((f, 4) ∷ (g, 5) ∷ later (any (eqb (keyOf n (pageOf a))) (keysOf t)))
+          ≡ firstFailed ((f, 4) ∷ (g, 5) ∷ later (isSet (markAt c n (addressIndexes c a)) (b .marks)))
+      go false e g k = refl
+      go true e false k = refl
+      go true e true k = ap (λ (s : Bool). firstFailed (later s)) (set-book a n e k)
+
+  pub set-refused : (m : Machine) (a n : ℕ) → c .markRoom ≡ room → setRefusal (c .levels) (keysOf t) a n ≡ refusal c (setMark a n) m b
+  unfolding setRefusal refusal tests
+  set-refused m a n r =
+      let long : length (keysOf t) ≡ length (b .marks) = keys-count (t .place) (t .set) word ∙ sym (marks-count (c .levels) t word) ∙ members-length agree in
+      rw (r, long) (agree-after a n (λ s. (not s, 6) ∷ (ltb (length (b .marks)) room, 7) ∷ []))
+
+  pub clear-refused : (m : Machine) (a n : ℕ) → clearRefusal (c .levels) (keysOf t) a n ≡ refusal c (clearMark a n) m b
+  unfolding clearRefusal refusal tests
+  clear-refused m a n = agree-after a n (λ s. (s, 6) ∷ [])
+
+  -- the table after a mark is set
+  pub set-granted : (a n : ℕ) → number (setRefusal (c .levels) (keysOf t) a n) ≡ 0
+      → SameMembers (marksOf (c .levels) (withKey t (keyOf n (pageOf a)))) (markAt c n (addressIndexes c a) ∷ b .marks)
+  set-granted a n e = let m = may-set (c .levels) t a n e in book-with a n (m .address) (m .fits) (m .free)
+
+  -- and after one is cleared, where the table broke no rule
+  pub clear-granted : (a n : ℕ) → keysFit (c .levels) (keysOf t) ≡ true → number (clearRefusal (c .levels) (keysOf t) a n) ≡ 0
+      → SameMembers (marksOf (c .levels) (withoutKey t (keyOf n (pageOf a)))) (keep (λ y. not (sameMark (markAt c n (addressIndexes c a)) y)) (b .marks))
+  clear-granted a n whole e = let m = may-clear (c .levels) t a n e in book-without a n (m .address) (m .fits) whole (m .held)
+
 -- ---- the keys of every table made here ascend: of the table of no mark, and after each set and clear
 pub none-ascend : (n : ℕ) (t : Marks) → t .set ≡ 0 → ascending n 0 (keysOf t) ≡ true
 unfolding ascending
 none-ascend n t e = ap (ascending n 0) (keys-end (t .place) (t .set) e)
 
-pub with-ascend : (n : ℕ) (t : Marks) (k : ℕ) → t .set < 2 ^ 64 → ones (t .set) < room → keyFits n k ≡ true → any (eqb k) (keysOf t) ≡ false
-    → ascending n 0 (keysOf t) ≡ true → ascending n 0 (keysOf (withKey t k)) ≡ true
-with-ascend n t k word free fits new e = rw (keys-with t k word free) (ascending-with n 0 k (keysOf t) e (key-positive n k fits) fits new)
+module _ (n : ℕ) (t : Marks) (a level : ℕ) (ascend : ascending n 0 (keysOf t) ≡ true) where
+  pub set-ascend : n < 7 → t .set < 2 ^ 64 → number (setRefusal n (keysOf t) a level) ≡ 0
+      → ascending n 0 (keysOf (withKey t (keyOf level (pageOf a)))) ≡ true
+  set-ascend small word e =
+      let k = keyOf level (pageOf a) in
+      let m = may-set n t a level e in
+      let fits = key-fits (ofLevels n) level (pageOf a) (page-small (ofLevels n) a (m .address)) (below-8 n level small (m .fits)) (m .fits) in
+      rw (keys-with t k word (m .free)) (ascending-with n 0 k (keysOf t) ascend (key-positive n k fits) fits (m .new))
 
-pub without-ascend : (n : ℕ) (t : Marks) (k : ℕ) → any (eqb k) (keysOf t) ≡ true
-    → ascending n 0 (keysOf t) ≡ true → ascending n 0 (keysOf (withoutKey t k)) ≡ true
-without-ascend n t k held e = ascending-without n k _ _ (keys-without t k held) e
+  pub clear-ascend : number (clearRefusal n (keysOf t) a level) ≡ 0 → ascending n 0 (keysOf (withoutKey t (keyOf level (pageOf a)))) ≡ true
+  clear-ascend e =
+      let k = keyOf level (pageOf a) in
+      ascending-without n k _ _ (keys-without t k (may-clear n t a level e .held)) ascend

@@ -1,8 +1,8 @@
 -- Filling the first places with the keys and one more gives the table of the keys inserted.
 -- Assumes nothing.
-use mathlib.Core.Path.{_≡_, refl, sym, ap, ap₂, _∙_}
+use mathlib.Core.Path.{_≡_, refl, sym, ap, _∙_}
 use mathlib.Core.List.{List, [], _∷_, _++_}
-use Prim.Native.Nat.{ℕ, zero, suc, _+_, _-_, _*_, _/_, _^_, _<_, _≤_, min, max}
+use Prim.Native.Nat.{ℕ, zero, suc, _+_, _-_, _/_, _^_, _<_, min, max}
 use native.Mathlib.Omega.{arith}
 use lib.Pow.{ones-split, ones-lt, high}
 use lib.ListN.{length, set, replicate, length-append}

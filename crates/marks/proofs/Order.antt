@@ -2,16 +2,16 @@
 -- Assumes nothing.
 use mathlib.Core.Path.{_≡_, refl, sym, ap, ap₂, _∙_, subst}
 use mathlib.Core.Bool.{Bool, true, false, not, _&&_, _||_, cond}
-use mathlib.Core.List.{List, [], _∷_, _++_, map, List·Permᴰ, List·Permᴰ·nil, List·Permᴰ·cons, List·Permᴰ·swap, List·Permᴰ·trans, Permᴰ·refl, Permᴰ·symm}
-use Prim.Native.Nat.{ℕ, zero, suc, _+_, max}
+use mathlib.Core.List.{List, [], _∷_, map, List·Permᴰ, List·Permᴰ·nil, List·Permᴰ·cons, List·Permᴰ·swap, List·Permᴰ·trans, Permᴰ·refl, Permᴰ·symm}
+use Prim.Native.Nat.{ℕ, suc, max}
 use native.Mathlib.Omega.{arith}
-use borrow.Author.Tests.{eq-eqb, ne-eqb, eqb-true, eqb-false, not-true}
-use lib.Dec.{eqb}
+use borrow.Author.Tests.{eq-eqb, not-true}
 use lib.ListN.{length}
 use Rattle.spec.specs.Prefix.{any, keep, begins, same}
 use Rattle.spec.specs.Book.{Mark, sameMark, isSet, depth}
 use Rattle.spec.specs.Refusal.{noTwoAlike}
 use Rattle.laws.proofs.Lists.{is-true, same-refl}
+use Rattle.entry.proofs.Indexes.{eqb-sym}
 use Rattle.marks.proofs.Ascending.{and-left}
 
 abbrev pub SameMembers : {A : Type 0} → List A → List A → Type 0
@@ -73,13 +73,6 @@ members-keep f (List·Permᴰ·swap {a} {b} {a′} {b′} {l} e₁ e₂) =
 members-keep f (List·Permᴰ·trans d₁ d₂) = List·Permᴰ·trans (members-keep f d₁) (members-keep f d₂)
 
 -- ---- "no two alike"
-eqb-sym : (a b : ℕ) → eqb a b ≡ eqb b a
-eqb-sym a b = go (eqb a b) refl
-  where
-    go : (t : Bool) → eqb a b ≡ t → t ≡ eqb b a
-    go true e = sym (eq-eqb b a (sym (eqb-true a b e)))
-    go false e = sym (ne-eqb b a (λ f. eqb-false a b e (sym f)))
-
 same-sym : (xs ys : List ℕ) → same xs ys ≡ same ys xs
 same-sym [] [] = refl
 same-sym [] (y ∷ ys) = refl

@@ -1,19 +1,19 @@
 -- Keys say what marks say: level and prefix, whether they fit, whether they are alike, the depth.
 -- Each law holds for any key, damaged ones too. Assumes nothing.
-use mathlib.Core.Path.{_≡_, refl, sym, ap, ap₂, _∙_, subst}
-use mathlib.Core.Bool.{Bool, true, false, not, _&&_, _||_, cond, and-false, and-true, and-assoc}
+use mathlib.Core.Path.{_≡_, refl, sym, ap, ap₂, _∙_}
+use mathlib.Core.Bool.{Bool, true, false, not, _&&_, _||_, cond, and-false, and-true}
 use mathlib.Core.List.{List, [], _∷_, map}
-use Prim.Native.Nat.{ℕ, zero, suc, _+_, _-_, _*_, _/_, _%_, _^_, _<_, _≤_, max}
+use Prim.Native.Nat.{ℕ, suc, _+_, _-_, _*_, _/_, _%_, _^_, _<_, _≤_}
 use native.Mathlib.Omega.{arith}
-use native.Mathlib.Decide.{ℕ-discrete, decLe}
-use borrow.Author.Tests.{eq-eqb, ne-eqb, eqb-true, eqb-false, lt-ltb, le-ltb, ltb-true, ltb-false, leb-true, le-leb}
+use native.Mathlib.Decide.{decLe}
+use borrow.Author.Tests.{eq-eqb, ne-eqb, eqb-true, eqb-false, lt-ltb, ltb-true, ltb-false, leb-true}
 use lib.Dec.{eqb, leb, ltb}
-use lib.Pow.{pow-mono, pow-pos, shr-lt}
+use lib.Pow.{pow-mono, shr-lt}
 use lib.ListN.{length, take}
 use Rattle.spec.specs.Config.{Config}
 use Rattle.spec.specs.Entry.{indexes}
 use Rattle.spec.specs.Prefix.{begins, same, any}
-use Rattle.spec.specs.Book.{Mark, markAt, sameMark, isSet, depth}
+use Rattle.spec.specs.Book.{markAt, sameMark, isSet, depth}
 use Rattle.spec.specs.Refusal.{allOf, markFits, levelFits, noTwoAlike}
 use Rattle.entry.proofs.Indexes.{indexes-length, indexes-small, indexes-take, indexes-same, begins-longer, same-longer, begins-indexes}
 use Rattle.marks.specs.Key.{keyOf, levelAt, depthOf, keyFits, keysFit}

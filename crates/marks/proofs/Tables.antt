@@ -1,20 +1,20 @@
 -- The keys of a table with a key more and with a key less; that they ascend still.
 -- Assumes nothing.
-use mathlib.Core.Path.{_≡_, refl, sym, ap, ap₂, _∙_, subst}
-use mathlib.Core.Bool.{Bool, true, false, not, _&&_, _||_, cond}
-use mathlib.Core.List.{List, [], _∷_, _++_, map, map-append, List·Permᴰ, List·Permᴰ·cons, List·Permᴰ·swap, List·Permᴰ·trans, Permᴰ·refl, Permᴰ·middle}
-use Prim.Native.Nat.{ℕ, zero, suc, _+_, _-_, _^_, _<_, _≤_, min, max}
+use mathlib.Core.Path.{_≡_, refl, sym, ap, _∙_}
+use mathlib.Core.Bool.{Bool, true, false, _&&_, _||_}
+use mathlib.Core.List.{List, [], _∷_, _++_, map, map-append, List·Permᴰ·cons, List·Permᴰ·swap, List·Permᴰ·trans, Permᴰ·refl, Permᴰ·middle}
+use Prim.Native.Nat.{ℕ, zero, suc, _-_, _^_, _<_, _≤_, min, max}
 use native.Mathlib.Omega.{arith}
 use native.Mathlib.Decide.{decLe}
-use borrow.Author.Tests.{lt-ltb, ltb-true, eqb-true, eqb-false}
+use borrow.Author.Tests.{lt-ltb, ltb-true, eqb-false}
 use lib.Dec.{eqb, ltb}
 use lib.Count.{ones}
 use lib.ListN.{length, getD, take, replicate, length-append}
 use lib.Seq.{take-suc, take-at}
 use Rattle.spec.specs.Prefix.{any}
-use Rattle.bits.specs.Bit.{bit, places, below}
+use Rattle.bits.specs.Bit.{places, below}
 use Rattle.bits.proofs.Laws.{clear-bit}
-use Rattle.bits.proofs.Places.{Split, places-split, places-below}
+use Rattle.bits.proofs.Places.{places-split, places-below}
 use Rattle.marks.specs.declared.Marks.{Marks}
 use Rattle.marks.specs.Key.{keyFits, ascending}
 use Rattle.marks.specs.Table.{room, keys, placeOf, inserted, tableOf, withKey, withoutKey}
@@ -42,13 +42,14 @@ keys-table ks l =
     ∙ first-places all (length ks) (rw (length-append ks (replicate (room - length ks) 0)) (omega arith))
     ∙ take-at ks (replicate (room - length ks) 0) (length ks) refl
 
-module _ (t : Marks) (k : ℕ) (word : t .set < 2 ^ 64) (free : ones (t .set) < room) where
-  pub keys-with : keys (withKey t k .place) (withKey t k .set) ≡ inserted k (keys (t .place) (t .set))
-  unfolding withKey
-  keys-with =
-      let ks = keys (t .place) (t .set) in
-      let long : length (inserted k ks) ≤ room = rw (inserted-length k ks, keys-count (t .place) (t .set) word) (omega arith) in
-      rw (lt-ltb _ room free) (keys-table (inserted k ks) long)
+pub keys-with : (t : Marks) (k : ℕ) → t .set < 2 ^ 64 → length (keys (t .place) (t .set)) < room
+    → keys (withKey t k .place) (withKey t k .set) ≡ inserted k (keys (t .place) (t .set))
+unfolding withKey
+keys-with t k word free =
+    let ks = keys (t .place) (t .set) in
+    let long : length (inserted k ks) ≤ room = rw (inserted-length k ks) (omega arith) in
+    let some = lt-ltb (ones (t .set)) room (omega (arith, keys-count (t .place) (t .set) word)) in
+    rw some (keys-table (inserted k ks) long)
 
 pub inserted-members : (k : ℕ) (xs : List ℕ) → SameMembers (inserted k xs) (k ∷ xs)
 unfolding inserted

@@ -1,13 +1,12 @@
 -- The table of marks: which keys it holds, and what it is with a key more and a key less.
 -- Assumes nothing.
-use Prim.Native.Nat.{ℕ, _+_, _-_, _^_, min, max}
-use mathlib.Core.Bool.{Bool, not, _&&_, cond}
+use Prim.Native.Nat.{ℕ, _-_, _^_, min, max}
+use mathlib.Core.Bool.{Bool, not, cond}
 use mathlib.Core.List.{List, [], _∷_, _++_, map}
 use mathlib.Core.Option.{Option, none, some}
-use lib.Dec.{eqb, leb, ltb}
+use lib.Dec.{eqb, ltb}
 use lib.Count.{ones}
 use lib.ListN.{length, getD, replicate}
-use Rattle.spec.specs.Config.{Config}
 use Rattle.spec.specs.Entry.{pageOf}
 use Rattle.spec.specs.Prefix.{any}
 use Rattle.spec.specs.Refusal.{firstFailed, addressFits, levelFits}

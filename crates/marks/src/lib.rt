@@ -15,6 +15,7 @@ ghost use Rattle.entry.specs.Levels.{ofLevels};
 ghost use Rattle.marks.specs.Key.{keyOf, levelAt, depthOf, keyFits, keysFit, ascending};
 ghost use Rattle.marks.specs.Table.{keys, placeOf, inserted, tableOf, withKey, withoutKey, setRefusal, clearRefusal, number};
 
+// The places that are set, and the key at each place.
 pub struct Marks {
     pub set: u64,
     pub place: [u64; 64],
@@ -37,7 +38,7 @@ pub fn key_of(level: u64, address: GuestVirtual) -> u64
     requires { ⌜ level < 8 ⌝ }
     ensures { λ r. ⌜ r ≡ keyOf level (pageOf (address .0)) ⌝ }
 {
-    ((address.0 / 4096) >> (9 * level)) * 8 + level
+    (address.page() >> (9 * level)) * 8 + level
 }
 
 // The level of the key where the page begins with its indexes, else 0.
@@ -115,6 +116,7 @@ fn follows(levels: u64, last: u64, key: u64) -> bool
     false
 }
 
+// Does each key fit, and is it greater than the one before it?
 fn ascends(place: &[u64; 64], set: u64, levels: u64) -> bool
     requires { ⌜ levels < 6 ⌝ }
     ensures { λ r. ⌜ r ≡ ascending levels 0 (keys (now (place .entry)) set) ⌝ }
@@ -178,6 +180,7 @@ pub fn fits(place: &[u64; 64], set: u64, levels: u64) -> bool
     all_differ(place, set, levels)
 }
 
+// Is it the level of a mark?
 fn level_fits(levels: u64, level: u64) -> bool
     requires { ⌜ levels < 6 ⌝ }
     ensures { λ r. ⌜ r ≡ levelFits (ofLevels levels) level ⌝ }
@@ -248,6 +251,7 @@ impl Marks {
         }
     }
 
+    // The depth of an address.
     pub fn depth(self, address: GuestVirtual) -> u64
         ensures { λ r. ⌜ r ≡ depthOf (pageOf (address .0)) (keys (self .place) (self .set)) ⌝ }
     {

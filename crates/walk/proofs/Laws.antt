@@ -14,6 +14,7 @@ use Rattle.spec.specs.Config.{Config}
 use Rattle.spec.specs.Entry.{present, writable, frameOf, malformed, index, indexes}
 use Rattle.spec.specs.Walk.{Walk, done, fail, host, word, _>>=_, _>>_, World, Trace, Result, granted, failed, trace}
 use Rattle.spec.specs.Plain.{Place, must, mapped, hosted, entry, next, levels, walk}
+use Rattle.laws.proofs.Counts.{indexes-step}
 use Rattle.laws.proofs.Bind.{onto, trace-bind, bind-assoc}
 use Rattle.entry.specs.declared.HostPhysical.{HostPhysical}
 use Rattle.words.specs.Words.{wordIn}
@@ -236,11 +237,6 @@ turn-fits c m n st level t i right = rw (turn-step c m n st level t i right) (go
     go true true = tt
     go true false = on (eqb level 1)
     go false b = tt
-
-pub indexes-step : (k p : ℕ) → 0 < k → indexes k p ≡ index (k - 1) p ∷ indexes (k - 1) p
-unfolding indexes
-indexes-step zero p h = absurd (omega arith)
-indexes-step (suc k) p h = let z : suc k - 1 ≡ k = omega arith in rw z
 
 -- the loop's turn, with k indexes left and the levels below them
 pub loop-step : (c : Config) (m : List ℕ) (n : ℕ) (st : Bool) (below k t path : ℕ) (right : Bool) → 0 < k

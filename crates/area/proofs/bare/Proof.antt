@@ -26,16 +26,34 @@ present-requires : tie.Need-present-requires Inv-loop μ-loop
 present-requires c κs = search needs
 
 returns : tie.Need-returns Inv-loop μ-loop
-returns c = rw (bare-more (c .before .before .before .before .before .before .args .mem .now) (c .before .before .before .before .before .before .args .f) (c .before .before .before .before .loop .k) (c .before .before .before .loop-test .taken), ← c .before .before .entry-at .ensures, ← c .before .present .ensures, c .if1 .taken) at (c .before .before .before .before .loop .inv .1)
+returns c =
+    let args = c .before .before .before .before .before .before .args in
+    let loop = c .before .before .before .before .loop in
+    let loop-test = c .before .before .before .loop-test in
+    let entry-at = c .before .before .entry-at in
+    let present = c .before .present in
+    let if1 = c .if1 in
+    rw (bare-more (args .mem .now) (args .f) (loop .k) (loop-test .taken), ← entry-at .ensures, ← present .ensures, if1 .taken) at (loop .inv .1)
 
 loop-less : tie.Need-loop-less Inv-loop μ-loop
 loop-less c = search needs
 
 loop-again : tie.Need-loop-again Inv-loop μ-loop
-loop-again c = (omega arith, rw (bare-more (c .before .before .before .before .before .before .args .mem .now) (c .before .before .before .before .before .before .args .f) (c .before .before .before .before .loop .k) (c .before .before .before .loop-test .taken), ← c .before .before .entry-at .ensures, ← c .before .present .ensures, c .if1 .left) at (c .before .before .before .before .loop .inv .1))
+loop-again c =
+    let args = c .before .before .before .before .before .before .args in
+    let loop = c .before .before .before .before .loop in
+    let loop-test = c .before .before .before .loop-test in
+    let entry-at = c .before .before .entry-at in
+    let present = c .before .present in
+    let if1 = c .if1 in
+    (omega arith, rw (bare-more (args .mem .now) (args .f) (loop .k) (loop-test .taken), ← entry-at .ensures, ← present .ensures, if1 .left) at (loop .inv .1))
 
 returns-2 : tie.Need-returns-2 Inv-loop μ-loop
-returns-2 c = let z : c .before .loop .k ≡ 0 = omega arith in rw (bare-none (c .before .before .before .args .mem .now) (c .before .before .before .args .f) (c .before .loop .k) z) at (c .before .loop .inv .1)
+returns-2 c =
+    let args = c .before .before .before .args in
+    let loop = c .before .loop in
+    let z : loop .k ≡ 0 = omega arith in
+    rw (bare-none (args .mem .now) (args .f) (loop .k) z) at (loop .inv .1)
 
 pub bare-spec : {M : Type 1} → statement M
 bare-spec =

@@ -20,7 +20,13 @@ same-length c = search needs
 
 returns : tie.Need-returns
 unfolding clearOf
-returns c = rw (← c .before .before .before .before .before .before .before .before .before .before .entry-at .ensures, ← c .before .before .before .before .before .before .before .before .before .present .ensures, c .before .before .before .before .before .before .before .before .if1 .taken, ← c .before .before .before .before .before .before .put-entry .ensures) (c .before .before .release .ensures)
+returns c =
+    let entry-at = c .before .before .before .before .before .before .before .before .before .before .entry-at in
+    let present = c .before .before .before .before .before .before .before .before .before .present in
+    let if1 = c .before .before .before .before .before .before .before .before .if1 in
+    let put-entry = c .before .before .before .before .before .before .put-entry in
+    let release = c .before .before .release in
+    rw (← entry-at .ensures, ← present .ensures, if1 .taken, ← put-entry .ensures) (release .ensures)
 
 same-length-2 : tie.Need-same-length-2
 same-length-2 c = search needs

@@ -33,7 +33,12 @@ same-length-2 c = search needs
 
 returns-2 : tie.Need-returns-2
 unfolding descendOf
-returns-2 c = rw (← c .before .before .before .before .before .before .before .entry-at .ensures, ← c .before .before .before .before .before .before .hop .ensures, c .before .before .before .before .enum-told .given .1) (c .before .before .hang .ensures)
+returns-2 c =
+    let entry-at = c .before .before .before .before .before .before .before .entry-at in
+    let hop = c .before .before .before .before .before .before .hop in
+    let enum-told = c .before .before .before .before .enum-told in
+    let hang = c .before .before .hang in
+    rw (← entry-at .ensures, ← hop .ensures, enum-told .given .1) (hang .ensures)
 
 same-length-3 : tie.Need-same-length-3
 same-length-3 c = search needs

@@ -23,16 +23,27 @@ turn : (c : tie.After-descend Inv-loop μ-loop) →
     onward (ends (c .descend .result) (c .descend .last .1 .1 .0)) (λ q n h. downOf (a .a) (a .guests .now) q n (l .depth + 1) h (index (l .left - 1) (a .g)) (indexes (l .left - 1) (a .g)) (a .e))
     ≡ downOf (a .a) (a .guests .now) (a .p) (a .mem .now) 0 (a .f) (index (a .k - 1) (a .g)) (indexes (a .k - 1) (a .g)) (a .e)
 turn c =
-    let a = c .before .before .before .before .before .before .before .before .before .args in
-    let l = c .before .before .before .before .before .before .loop in
-    rw (← c .before .index-at .ensures, ← c .before .before .before .before .word-at .ensures, ← c .descend .ensures) at
-    (sym (down-step (a .a) (a .guests .now) (l .cur) (l .mem) (l .depth) (l .t) (a .g) (l .left) (a .e) (c .before .before .before .before .before .loop-test .taken)) ∙ l .inv .3)
+    let args = c .before .before .before .before .before .before .before .before .before .args in
+    let loop = c .before .before .before .before .before .before .loop in
+    let loop-test = c .before .before .before .before .before .loop-test in
+    let word-at = c .before .before .before .before .word-at in
+    let index-at = c .before .index-at in
+    let descend = c .descend in
+    let a = args in
+    let l = loop in
+    rw (← index-at .ensures, ← word-at .ensures, ← descend .ensures) at
+    (sym (down-step (a .a) (a .guests .now) (l .cur) (l .mem) (l .depth) (l .t) (a .g) (l .left) (a .e) (loop-test .taken)) ∙ l .inv .3)
 
 way-known : (c : tie.After-descend Inv-loop μ-loop) → AreaGood (c .before .before .before .before .before .before .before .before .before .args .a) (c .descend .result .way)
 way-known c =
-    let a = c .before .before .before .before .before .before .before .before .before .args in
-    let l = c .before .before .before .before .before .before .loop in
-    rw (← c .descend .ensures) at (descend-good (a .a) (l .cur) (l .mem) (c .before .before .before .before .word-at .result) (a .a .levels - (l .depth + 1)) (l .t) (c .before .index-at .result))
+    let args = c .before .before .before .before .before .before .before .before .before .args in
+    let loop = c .before .before .before .before .before .before .loop in
+    let word-at = c .before .before .before .before .word-at in
+    let index-at = c .before .index-at in
+    let descend = c .descend in
+    let a = args in
+    let l = loop in
+    rw (← descend .ensures) at (descend-good (a .a) (l .cur) (l .mem) (word-at .result) (a .a .levels - (l .depth + 1)) (l .t) (index-at .result))
 
 sub-left : tie.Need-sub-left Inv-loop μ-loop
 sub-left c = search needs
@@ -53,7 +64,12 @@ index-at-requires : tie.Need-index-at-requires Inv-loop μ-loop
 index-at-requires c κs = search needs
 
 descend-requires : tie.Need-descend-requires Inv-loop μ-loop
-descend-requires c κs = let i = rw (← c .index-at .ensures) at (index-fits (c .before .before .before .before .before .loop .left) (c .before .before .before .before .before .before .before .before .args .g)) in (omega arith, omega arith, i)
+descend-requires c κs =
+    let args = c .before .before .before .before .before .before .before .before .args in
+    let loop = c .before .before .before .before .before .loop in
+    let index-at = c .index-at in
+    let i = rw (← index-at .ensures) at (index-fits (loop .left) (args .g)) in
+    (omega arith, omega arith, i)
 
 enum-known-way : tie.Need-enum-known-way Inv-loop μ-loop
 enum-known-way c = search needs
@@ -84,20 +100,33 @@ loop-less c = search needs
 
 loop-again : tie.Need-loop-again Inv-loop μ-loop
 loop-again c =
-    let good = rw (c .before .way .given .1) at (way-known (c .before .before .before .before .before .before)) in
-    (omega (arith, c .before .before .before .before .before .before .before .before .before .before .before .before .loop .inv .0), omega (arith, good .1), c .before .before .before .before .before .before .descend .kept .1 .1 .0 ∙ c .before .before .before .before .before .before .before .before .before .before .before .before .loop .inv .2, rw (c .before .way .given .1) at (turn (c .before .before .before .before .before .before)))
+    let pre = c .before .before .before .before .before .before .before .before .before .before .before .before .before .before .before .pre in
+    let loop = c .before .before .before .before .before .before .before .before .before .before .before .before .loop in
+    let descend = c .before .before .before .before .before .before .descend in
+    let way = c .before .way in
+    let good = rw (way .given .1) at (way-known (c .before .before .before .before .before .before)) in
+    (omega (arith, loop .inv .0), omega (arith, good .1, pre .0), descend .kept .1 .1 .0 ∙ loop .inv .2, rw (way .given .1) at (turn (c .before .before .before .before .before .before)))
 
 index-at-requires-2 : tie.Need-index-at-requires-2 Inv-loop μ-loop
 index-at-requires-2 c κs = search needs
 
 put-entry-requires : tie.Need-put-entry-requires Inv-loop μ-loop
-put-entry-requires c κs = let i = rw (← c .index-at2 .ensures) at (index-fits 0 (c .before .before .before .before .before .before .args .g)) in (omega arith, i)
+put-entry-requires c κs =
+    let args = c .before .before .before .before .before .before .args in
+    let index-at2 = c .index-at2 in
+    let i = rw (← index-at2 .ensures) at (index-fits 0 (args .g)) in
+    (omega arith, i)
 
 same-length-3 : tie.Need-same-length-3 Inv-loop μ-loop
 same-length-3 c = search needs
 
 returns-3 : tie.Need-returns-3 Inv-loop μ-loop
-returns-3 c = let z : c .before .before .before .before .before .before .loop .left ≡ 0 = omega arith in rw (← c .before .before .before .before .before .before .loop .inv .3, z, down-last, c .before .before .put-entry .ensures, c .before .before .before .index-at2 .ensures)
+returns-3 c =
+    let loop = c .before .before .before .before .before .before .loop in
+    let index-at2 = c .before .before .before .index-at2 in
+    let put-entry = c .before .before .put-entry in
+    let z : loop .left ≡ 0 = omega arith in
+    rw (← loop .inv .3, z, down-last, put-entry .ensures, index-at2 .ensures)
 
 pub down-spec : {M : Type 1} → statement M
 down-spec =

@@ -23,7 +23,9 @@ sub-t9 c = search needs
 
 returns : tie.Need-returns
 unfolding giveOf link
-returns c = let none : c .before .before .args .p .used - 1 ≡ 0 = omega arith in rw none
+returns c =
+    let none : c .before .before .args .p .used - 1 ≡ 0 = omega arith in
+    rw none
 
 returns-2 : tie.Need-returns-2
 unfolding giveOf link

@@ -13,10 +13,20 @@ enum-known-way : tie.Need-enum-known-way
 enum-known-way c = search needs
 
 mul-put-entry : tie.Need-mul-put-entry
-mul-put-entry c = let good = rw (c .before .before .way .given .1) at (rw (← c .before .before .before .before .before .before .new-table .ensures) at (table-good (c .before .before .before .before .before .before .before .before .before .args .a) (c .before .before .before .before .before .before .before .before .before .args .p) (c .before .before .before .before .before .before .before .before .before .args .mem .now) (c .before .before .before .before .before .before .before .before .before .args .guest) (c .before .before .before .before .before .before .before .before .before .args .level) (c .before .before .before .before .before .before .before .before .before .args .f) (c .before .before .before .before .before .before .before .before .before .args .i))) in omega arith
+mul-put-entry c =
+    let args = c .before .before .before .before .before .before .before .before .before .args in
+    let new-table = c .before .before .before .before .before .before .new-table in
+    let way = c .before .before .way in
+    let good = rw (way .given .1) at (rw (← new-table .ensures) at (table-good (args .a) (args .p) (args .mem .now) (args .guest) (args .level) (args .f) (args .i))) in
+    omega arith
 
 add-put-entry : tie.Need-add-put-entry
-add-put-entry c = let good = rw (c .before .before .way .given .1) at (rw (← c .before .before .before .before .before .before .new-table .ensures) at (table-good (c .before .before .before .before .before .before .before .before .before .args .a) (c .before .before .before .before .before .before .before .before .before .args .p) (c .before .before .before .before .before .before .before .before .before .args .mem .now) (c .before .before .before .before .before .before .before .before .before .args .guest) (c .before .before .before .before .before .before .before .before .before .args .level) (c .before .before .before .before .before .before .before .before .before .args .f) (c .before .before .before .before .before .before .before .before .before .args .i))) in omega arith
+add-put-entry c =
+    let args = c .before .before .before .before .before .before .before .before .before .args in
+    let new-table = c .before .before .before .before .before .before .new-table in
+    let way = c .before .before .way in
+    let good = rw (way .given .1) at (rw (← new-table .ensures) at (table-good (args .a) (args .p) (args .mem .now) (args .guest) (args .level) (args .f) (args .i))) in
+    omega arith
 
 put-entry-requires : tie.Need-put-entry-requires
 put-entry-requires c κs = search needs
@@ -32,7 +42,11 @@ same-length c = search needs
 
 returns : tie.Need-returns
 unfolding hangOf link
-returns c = rw (← c .before .before .before .before .before .before .before .before .before .new-table .ensures, c .before .before .before .before .before .way .given .1, c .before .before .put-entry .ensures)
+returns c =
+    let new-table = c .before .before .before .before .before .before .before .before .before .new-table in
+    let way = c .before .before .before .before .before .way in
+    let put-entry = c .before .before .put-entry in
+    rw (← new-table .ensures, way .given .1, put-entry .ensures)
 
 same-length-2 : tie.Need-same-length-2
 same-length-2 c = search needs

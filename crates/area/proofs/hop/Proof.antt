@@ -14,11 +14,23 @@ inside-requires c κs = search needs
 
 returns : tie.Need-returns
 unfolding hopOf
-returns c = rw (← c .before .before .before .before .present .ensures, c .before .before .before .if1 .taken, ← c .before .before .frame-of .ensures, ← c .before .inside .ensures, c .if2 .taken)
+returns c =
+    let present = c .before .before .before .before .present in
+    let if1 = c .before .before .before .if1 in
+    let frame-of = c .before .before .frame-of in
+    let inside = c .before .inside in
+    let if2 = c .if2 in
+    rw (← present .ensures, if1 .taken, ← frame-of .ensures, ← inside .ensures, if2 .taken)
 
 returns-2 : tie.Need-returns-2
 unfolding hopOf
-returns-2 c = rw (← c .before .before .before .before .present .ensures, c .before .before .before .if1 .taken, ← c .before .before .frame-of .ensures, ← c .before .inside .ensures, c .if2 .left)
+returns-2 c =
+    let present = c .before .before .before .before .present in
+    let if1 = c .before .before .before .if1 in
+    let frame-of = c .before .before .frame-of in
+    let inside = c .before .inside in
+    let if2 = c .if2 in
+    rw (← present .ensures, if1 .taken, ← frame-of .ensures, ← inside .ensures, if2 .left)
 
 returns-3 : tie.Need-returns-3
 unfolding hopOf

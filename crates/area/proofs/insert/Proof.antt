@@ -36,21 +36,31 @@ same-length c = search needs
 
 returns : tie.Need-returns
 unfolding insertOf
-returns c = rw (indexes-step (c .before .before .before .before .before .before .before .before .before .before .before .args .k) (c .before .before .before .before .before .before .before .before .before .before .before .args .g) (omega arith), ← seen (c .before .before .before .before .before .before .before), c .before .before .before .before .before .n .given .1) (c .before .before .place .ensures)
+returns c =
+    let args = c .before .before .before .before .before .before .before .before .before .before .before .args in
+    let n = c .before .before .before .before .before .n in
+    let place = c .before .before .place in
+    rw (indexes-step (args .k) (args .g) (omega arith), ← seen (c .before .before .before .before .before .before .before), n .given .1) (place .ensures)
 
 same-length-2 : tie.Need-same-length-2
 same-length-2 c = search needs
 
 returns-2 : tie.Need-returns-2
 unfolding insertOf
-returns-2 c = rw (indexes-step (c .before .before .before .before .before .before .args .k) (c .before .before .before .before .before .before .args .g) (omega arith), ← seen (c .before .before), c .enum-told .given .1)
+returns-2 c =
+    let args = c .before .before .before .before .before .before .args in
+    let enum-told = c .enum-told in
+    rw (indexes-step (args .k) (args .g) (omega arith), ← seen (c .before .before), enum-told .given .1)
 
 same-length-3 : tie.Need-same-length-3
 same-length-3 c = search needs
 
 returns-3 : tie.Need-returns-3
 unfolding insertOf
-returns-3 c = rw (indexes-step (c .before .before .before .before .before .before .args .k) (c .before .before .before .before .before .before .args .g) (omega arith), ← seen (c .before .before), c .enum-told2 .given .1)
+returns-3 c =
+    let args = c .before .before .before .before .before .before .args in
+    let enum-told2 = c .enum-told2 in
+    rw (indexes-step (args .k) (args .g) (omega arith), ← seen (c .before .before), enum-told2 .given .1)
 
 pub insert-spec : {M : Type 1} → statement M
 insert-spec =

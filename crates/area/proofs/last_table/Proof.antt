@@ -31,19 +31,37 @@ index-at-requires : tie.Need-index-at-requires Inv-loop μ-loop
 index-at-requires c κs = search needs
 
 entry-at-requires : tie.Need-entry-at-requires Inv-loop μ-loop
-entry-at-requires c κs = let good = rw (← c .before .before .before .before .hop .ensures, c .before .before .f .given .1) at (hop-small (c .before .before .before .before .before .before .before .before .args .base) (c .before .before .before .before .before .before .before .before .args .size) (c .before .before .before .before .before .before .loop .at)) in let i = rw (← c .index-at .ensures) at (index-fits (c .before .before .before .before .before .before .loop .left) (c .before .before .before .before .before .before .before .before .args .g)) in (good, i)
+entry-at-requires c κs =
+    let args = c .before .before .before .before .before .before .before .before .args in
+    let loop = c .before .before .before .before .before .before .loop in
+    let hop = c .before .before .before .before .hop in
+    let f = c .before .before .f in
+    let index-at = c .index-at in
+    let good = rw (← hop .ensures, f .given .1) at (hop-small (args .base) (args .size) (loop .at)) in
+    let i = rw (← index-at .ensures) at (index-fits (loop .left) (args .g)) in
+    (good, i)
 
 enum-told : tie.Need-enum-told Inv-loop μ-loop
 enum-told c = search needs
 
 returns : tie.Need-returns Inv-loop μ-loop
-returns c = rw (← c .before .before .before .before .loop .inv .1, last-step _ _ _ _ _ _ (c .before .before .before .loop-test .taken), ← c .before .before .hop .ensures, c .enum-told .given .1)
+returns c =
+    let loop = c .before .before .before .before .loop in
+    let loop-test = c .before .before .before .loop-test in
+    let hop = c .before .before .hop in
+    let enum-told = c .enum-told in
+    rw (← loop .inv .1, last-step _ _ _ _ _ _ (loop-test .taken), ← hop .ensures, enum-told .given .1)
 
 enum-told-2 : tie.Need-enum-told-2 Inv-loop μ-loop
 enum-told-2 c = search needs
 
 returns-2 : tie.Need-returns-2 Inv-loop μ-loop
-returns-2 c = rw (← c .before .before .before .before .loop .inv .1, last-step _ _ _ _ _ _ (c .before .before .before .loop-test .taken), ← c .before .before .hop .ensures, c .enum-told2 .given .1)
+returns-2 c =
+    let loop = c .before .before .before .before .loop in
+    let loop-test = c .before .before .before .loop-test in
+    let hop = c .before .before .hop in
+    let enum-told2 = c .enum-told2 in
+    rw (← loop .inv .1, last-step _ _ _ _ _ _ (loop-test .taken), ← hop .ensures, enum-told2 .given .1)
 
 sub-left-2 : tie.Need-sub-left-2 Inv-loop μ-loop
 sub-left-2 c = search needs
@@ -52,13 +70,23 @@ loop-less : tie.Need-loop-less Inv-loop μ-loop
 loop-less c = search needs
 
 loop-again : tie.Need-loop-again Inv-loop μ-loop
-loop-again c = (omega (arith, c .before .before .before .before .before .before .before .loop .inv .0), rw (c .entry-at .ensures, c .before .index-at .ensures) (rw (← c .before .before .before .before .before .hop .ensures, c .before .before .before .f .given .1) at (sym (last-step (c .before .before .before .before .before .before .before .before .before .args .base) (c .before .before .before .before .before .before .before .before .before .args .size) (c .before .before .before .before .before .before .before .before .before .args .mem .now) (c .before .before .before .before .before .before .before .loop .at) (c .before .before .before .before .before .before .before .before .before .args .g) (c .before .before .before .before .before .before .before .loop .left) (c .before .before .before .before .before .before .loop-test .taken)) ∙ c .before .before .before .before .before .before .before .loop .inv .1)))
+loop-again c =
+    let args = c .before .before .before .before .before .before .before .before .before .args in
+    let loop = c .before .before .before .before .before .before .before .loop in
+    let loop-test = c .before .before .before .before .before .before .loop-test in
+    let hop = c .before .before .before .before .before .hop in
+    let f = c .before .before .before .f in
+    let index-at = c .before .index-at in
+    let entry-at = c .entry-at in
+    (omega (arith, loop .inv .0), rw (entry-at .ensures, index-at .ensures) (rw (← hop .ensures, f .given .1) at (sym (last-step (args .base) (args .size) (args .mem .now) (loop .at) (args .g) (loop .left) (loop-test .taken)) ∙ loop .inv .1)))
 
 hop-requires-2 : tie.Need-hop-requires-2 Inv-loop μ-loop
 hop-requires-2 c κs = search needs
 
 returns-3 : tie.Need-returns-3 Inv-loop μ-loop
-returns-3 c = let z : c .before .before .loop .left ≡ 0 = omega arith in rw (← c .before .before .loop .inv .1, z, last-none) (c .hop2 .ensures)
+returns-3 c =
+    let z : c .before .before .loop .left ≡ 0 = omega arith in
+    rw (← c .before .before .loop .inv .1, z, last-none) (c .hop2 .ensures)
 
 pub last-table-spec : {M : Type 1} → statement M
 last-table-spec =

@@ -12,7 +12,12 @@ enum-known-way : tie.Need-enum-known-way
 enum-known-way c = search needs
 
 write-header-requires : tie.Need-write-header-requires
-write-header-requires c κs = let good = rw (c .before .before .way .given .1) at (rw (← c .before .before .before .before .before .before .take-frame .ensures) at (take-good (c .before .before .before .before .before .before .before .before .before .args .a) (c .before .before .before .before .before .before .before .before .before .args .p) (c .before .before .before .before .before .before .before .before .before .args .mem .now))) in omega arith
+write-header-requires c κs =
+    let args = c .before .before .before .before .before .before .before .before .before .args in
+    let take-frame = c .before .before .before .before .before .before .take-frame in
+    let way = c .before .before .way in
+    let good = rw (way .given .1) at (rw (← take-frame .ensures) at (take-good (args .a) (args .p) (args .mem .now))) in
+    omega arith
 
 enum-told : tie.Need-enum-told
 enum-told c = search needs
@@ -25,7 +30,11 @@ same-length c = search needs
 
 returns : tie.Need-returns
 unfolding tableOf
-returns c = rw (← c .before .before .before .before .before .before .before .before .before .take-frame .ensures, c .before .before .before .before .before .way .given .1, c .before .before .write-header .ensures)
+returns c =
+    let take-frame = c .before .before .before .before .before .before .before .before .before .take-frame in
+    let way = c .before .before .before .before .before .way in
+    let write-header = c .before .before .write-header in
+    rw (← take-frame .ensures, way .given .1, write-header .ensures)
 
 same-length-2 : tie.Need-same-length-2
 same-length-2 c = search needs

@@ -15,7 +15,13 @@ enum-known-way : tie.Need-enum-known-way
 enum-known-way c = search needs
 
 down-requires : tie.Need-down-requires
-down-requires c κs = let good = rw (c .before .before .way .given .1) at (rw (← c .before .before .before .before .before .before .before .enter .ensures) at (enter-fits (c .before .before .before .before .before .before .before .before .before .before .before .before .args .a) (c .before .before .before .before .before .before .before .before .before .before .before .before .args .p) (c .before .before .before .before .before .before .before .before .before .before .before .before .args .mem .now) (c .before .before .before .before .before .before .before .before .before .word-at .result))) in (omega arith, omega arith, omega arith, omega arith, omega arith)
+down-requires c κs =
+    let args = c .before .before .before .before .before .before .before .before .before .before .before .before .args in
+    let word-at = c .before .before .before .before .before .before .before .before .before .word-at in
+    let enter = c .before .before .before .before .before .before .before .enter in
+    let way = c .before .before .way in
+    let good = rw (way .given .1) at (rw (← enter .ensures) at (enter-fits (args .a) (args .p) (args .mem .now) (word-at .result))) in
+    (omega arith, omega arith, omega arith, omega arith, omega arith)
 
 enum-told : tie.Need-enum-told
 enum-told c = search needs
@@ -28,21 +34,34 @@ same-length c = search needs
 
 returns : tie.Need-returns
 unfolding placeOf
-returns c = rw (← c .before .before .before .before .before .before .before .before .before .before .before .before .word-at .ensures, ← c .before .before .before .before .before .before .before .before .before .before .enter .ensures, c .before .before .before .before .before .way .given .1) (c .before .before .down .ensures)
+returns c =
+    let word-at = c .before .before .before .before .before .before .before .before .before .before .before .before .word-at in
+    let enter = c .before .before .before .before .before .before .before .before .before .before .enter in
+    let way = c .before .before .before .before .before .way in
+    let down = c .before .before .down in
+    rw (← word-at .ensures, ← enter .ensures, way .given .1) (down .ensures)
 
 same-length-2 : tie.Need-same-length-2
 same-length-2 c = search needs
 
 returns-2 : tie.Need-returns-2
 unfolding placeOf
-returns-2 c = rw (← c .before .before .before .before .before .before .before .word-at .ensures, ← c .before .before .before .before .before .enter .ensures, c .enum-told .given .1)
+returns-2 c =
+    let word-at = c .before .before .before .before .before .before .before .word-at in
+    let enter = c .before .before .before .before .before .enter in
+    let enum-told = c .enum-told in
+    rw (← word-at .ensures, ← enter .ensures, enum-told .given .1)
 
 same-length-3 : tie.Need-same-length-3
 same-length-3 c = search needs
 
 returns-3 : tie.Need-returns-3
 unfolding placeOf
-returns-3 c = rw (← c .before .before .before .before .before .before .before .word-at .ensures, ← c .before .before .before .before .before .enter .ensures, c .enum-told2 .given .1)
+returns-3 c =
+    let word-at = c .before .before .before .before .before .before .before .word-at in
+    let enter = c .before .before .before .before .before .enter in
+    let enum-told2 = c .enum-told2 in
+    rw (← word-at .ensures, ← enter .ensures, enum-told2 .given .1)
 
 pub place-spec : {M : Type 1} → statement M
 place-spec =

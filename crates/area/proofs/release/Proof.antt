@@ -30,7 +30,12 @@ same-length : tie.Need-same-length Inv-loop μ-loop
 same-length c = search needs
 
 returns : tie.Need-returns Inv-loop μ-loop
-returns c = rw (release-step (c .before .before .before .before .before .before .before .before .before .before .args .a) (c .before .before .before .before .before .before .before .before .before .before .args .stays) (c .before .before .before .before .before .before .before .before .loop .cur) (c .before .before .before .before .before .before .before .before .loop .mem) (c .before .before .before .before .before .before .before .before .loop .links) (c .before .before .before .before .before .before .before .before .loop .t) (omega arith), ← c .before .before .before .before .before .unhang .ensures, c .enum-told .given .1) at (c .before .before .before .before .before .before .before .before .loop .inv .2)
+returns c =
+    let args = c .before .before .before .before .before .before .before .before .before .before .args in
+    let loop = c .before .before .before .before .before .before .before .before .loop in
+    let unhang = c .before .before .before .before .before .unhang in
+    let enum-told = c .enum-told in
+    rw (release-step (args .a) (args .stays) (loop .cur) (loop .mem) (loop .links) (loop .t) (omega arith), ← unhang .ensures, enum-told .given .1) at (loop .inv .2)
 
 enum-told-2 : tie.Need-enum-told-2 Inv-loop μ-loop
 enum-told-2 c = search needs
@@ -39,7 +44,12 @@ same-length-2 : tie.Need-same-length-2 Inv-loop μ-loop
 same-length-2 c = search needs
 
 returns-2 : tie.Need-returns-2 Inv-loop μ-loop
-returns-2 c = rw (release-step (c .before .before .before .before .before .before .before .before .before .before .args .a) (c .before .before .before .before .before .before .before .before .before .before .args .stays) (c .before .before .before .before .before .before .before .before .loop .cur) (c .before .before .before .before .before .before .before .before .loop .mem) (c .before .before .before .before .before .before .before .before .loop .links) (c .before .before .before .before .before .before .before .before .loop .t) (omega arith), ← c .before .before .before .before .before .unhang .ensures, c .enum-told2 .given .1) at (c .before .before .before .before .before .before .before .before .loop .inv .2)
+returns-2 c =
+    let args = c .before .before .before .before .before .before .before .before .before .before .args in
+    let loop = c .before .before .before .before .before .before .before .before .loop in
+    let unhang = c .before .before .before .before .before .unhang in
+    let enum-told2 = c .enum-told2 in
+    rw (release-step (args .a) (args .stays) (loop .cur) (loop .mem) (loop .links) (loop .t) (omega arith), ← unhang .ensures, enum-told2 .given .1) at (loop .inv .2)
 
 sub-links : tie.Need-sub-links Inv-loop μ-loop
 sub-links c = search needs
@@ -49,8 +59,12 @@ loop-less c = search needs
 
 loop-again : tie.Need-loop-again Inv-loop μ-loop
 loop-again c =
-    let good = rw (← c .before .before .before .before .before .before .unhang .ensures, c .before .way .given .1) at (unhang-good (c .before .before .before .before .before .before .before .before .before .before .before .args .a) (c .before .before .before .before .before .before .before .before .before .loop .cur) (c .before .before .before .before .before .before .before .before .before .loop .mem) (c .before .before .before .before .before .before .before .before .before .loop .t)) in
-    (omega (arith, good .1), c .before .before .before .before .before .before .unhang .kept .1 .1 .0 ∙ c .before .before .before .before .before .before .before .before .before .loop .inv .1, rw (release-step (c .before .before .before .before .before .before .before .before .before .before .before .args .a) (c .before .before .before .before .before .before .before .before .before .before .before .args .stays) (c .before .before .before .before .before .before .before .before .before .loop .cur) (c .before .before .before .before .before .before .before .before .before .loop .mem) (c .before .before .before .before .before .before .before .before .before .loop .links) (c .before .before .before .before .before .before .before .before .before .loop .t) (omega arith), ← c .before .before .before .before .before .before .unhang .ensures, c .before .way .given .1) at (c .before .before .before .before .before .before .before .before .before .loop .inv .2))
+    let args = c .before .before .before .before .before .before .before .before .before .before .before .args in
+    let loop = c .before .before .before .before .before .before .before .before .before .loop in
+    let unhang = c .before .before .before .before .before .before .unhang in
+    let way = c .before .way in
+    let good = rw (← unhang .ensures, way .given .1) at (unhang-good (args .a) (loop .cur) (loop .mem) (loop .t)) in
+    (omega (arith, good .1), unhang .kept .1 .1 .0 ∙ loop .inv .1, rw (release-step (args .a) (args .stays) (loop .cur) (loop .mem) (loop .links) (loop .t) (omega arith), ← unhang .ensures, way .given .1) at (loop .inv .2))
 
 shut-requires : tie.Need-shut-requires Inv-loop μ-loop
 shut-requires c κs = search needs
@@ -59,7 +73,11 @@ same-length-3 : tie.Need-same-length-3 Inv-loop μ-loop
 same-length-3 c = search needs
 
 returns-3 : tie.Need-returns-3 Inv-loop μ-loop
-returns-3 c = let z : c .before .before .before .before .before .loop .links ≡ 0 = omega arith in rw (← c .before .before .before .before .before .loop .inv .2, z, release-none) (c .before .before .shut .ensures)
+returns-3 c =
+    let loop = c .before .before .before .before .before .loop in
+    let shut = c .before .before .shut in
+    let z : loop .links ≡ 0 = omega arith in
+    rw (← loop .inv .2, z, release-none) (shut .ensures)
 
 pub release-spec : {M : Type 1} → statement M
 release-spec =

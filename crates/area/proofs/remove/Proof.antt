@@ -26,8 +26,13 @@ index-at-requires c κs = search needs
 
 clear-requires : tie.Need-clear-requires
 clear-requires c κs =
-    let good = rw (← c .before .before .before .before .before .last-table .ensures, c .before .before .before .f .given .1) at (last-small (c .before .before .before .before .before .before .before .before .before .args .a .base) (c .before .before .before .before .before .before .before .before .before .args .a .size) (c .before .before .before .before .before .before .before .before .before .args .mem .now) (c .before .before .before .before .before .before .before .top .result) (index (c .before .before .before .before .before .before .before .before .before .args .k - 1) (c .before .before .before .before .before .before .before .before .before .args .g)) (indexes (c .before .before .before .before .before .before .before .before .before .args .k - 1) (c .before .before .before .before .before .before .before .before .before .args .g))) in
-    let i = rw (← c .index-at .ensures) at (index-fits 0 (c .before .before .before .before .before .before .before .before .before .args .g)) in
+    let args = c .before .before .before .before .before .before .before .before .before .args in
+    let top = c .before .before .before .before .before .before .before .top in
+    let last-table = c .before .before .before .before .before .last-table in
+    let f = c .before .before .before .f in
+    let index-at = c .index-at in
+    let good = rw (← last-table .ensures, f .given .1) at (last-small (args .a .base) (args .a .size) (args .mem .now) (top .result) (index (args .k - 1) (args .g)) (indexes (args .k - 1) (args .g))) in
+    let i = rw (← index-at .ensures) at (index-fits 0 (args .g)) in
     (good, omega arith, i)
 
 enum-told : tie.Need-enum-told
@@ -41,21 +46,39 @@ same-length c = search needs
 
 returns : tie.Need-returns
 unfolding removeOf
-returns c = rw (indexes-step (c .before .before .before .before .before .before .before .before .before .before .before .before .args .k) (c .before .before .before .before .before .before .before .before .before .before .before .before .args .g) (omega arith), ← c .before .before .before .before .before .before .before .before .before .before .top .ensures, ← c .before .before .before .before .before .before .before .before .last-table .ensures, c .before .before .before .before .before .before .f .given .1, indexes-length, indexes-last, ← c .before .before .before .index-at .ensures) (c .before .before .clear .ensures)
+returns c =
+    let args = c .before .before .before .before .before .before .before .before .before .before .before .before .args in
+    let pre = c .before .before .before .before .before .before .before .before .before .before .before .before .pre in
+    let top = c .before .before .before .before .before .before .before .before .before .before .top in
+    let last-table = c .before .before .before .before .before .before .before .before .last-table in
+    let f = c .before .before .before .before .before .before .f in
+    let index-at = c .before .before .before .index-at in
+    let clear = c .before .before .clear in
+    rw (indexes-step (args .k) (args .g) (omega (arith, pre .1)), ← top .ensures, ← last-table .ensures, f .given .1, indexes-length, indexes-last, ← index-at .ensures) (clear .ensures)
 
 same-length-2 : tie.Need-same-length-2
 same-length-2 c = search needs
 
 returns-2 : tie.Need-returns-2
 unfolding removeOf
-returns-2 c = rw (indexes-step (c .before .before .before .before .before .before .args .k) (c .before .before .before .before .before .before .args .g) (omega arith), ← c .before .before .before .before .top .ensures, ← c .before .before .last-table .ensures, c .enum-told .given .1)
+returns-2 c =
+    let args = c .before .before .before .before .before .before .args in
+    let top = c .before .before .before .before .top in
+    let last-table = c .before .before .last-table in
+    let enum-told = c .enum-told in
+    rw (indexes-step (args .k) (args .g) (omega arith), ← top .ensures, ← last-table .ensures, enum-told .given .1)
 
 same-length-3 : tie.Need-same-length-3
 same-length-3 c = search needs
 
 returns-3 : tie.Need-returns-3
 unfolding removeOf
-returns-3 c = rw (indexes-step (c .before .before .before .before .before .before .args .k) (c .before .before .before .before .before .before .args .g) (omega arith), ← c .before .before .before .before .top .ensures, ← c .before .before .last-table .ensures, c .enum-told2 .given .1)
+returns-3 c =
+    let args = c .before .before .before .before .before .before .args in
+    let top = c .before .before .before .before .top in
+    let last-table = c .before .before .last-table in
+    let enum-told2 = c .enum-told2 in
+    rw (indexes-step (args .k) (args .g) (omega arith), ← top .ensures, ← last-table .ensures, enum-told2 .given .1)
 
 pub remove-spec : {M : Type 1} → statement M
 remove-spec =

@@ -9,9 +9,12 @@ use Rattle.area.proofs.room.Tie as tie
 
 counted : (c : tie.After-lookup) → LookGood (c .before .before .before .args .k) (c .lookup .result)
 counted c =
-    let a = c .before .before .before .args in
+    let args = c .before .before .before .args in
+    let top = c .before .top in
+    let lookup = c .lookup in
+    let a = args in
     let l = indexes-length (a .k) (a .g) in
-    rw (← c .lookup .ensures) at (look-good (a .a .base) (a .a .size) (a .mem .now) (c .before .top .result) (indexes (a .k) (a .g)) 0 (a .k) (omega arith))
+    rw (← lookup .ensures) at (look-good (a .a .base) (a .a .size) (a .mem .now) (top .result) (indexes (a .k) (a .g)) 0 (a .k) (omega arith))
 
 top-requires : tie.Need-top-requires
 top-requires c κs = search needs
@@ -23,24 +26,40 @@ enum-known-e : tie.Need-enum-known-e
 enum-known-e c = search needs
 
 sub-fits : tie.Need-sub-fits
-sub-fits c = let n = rw (c .before .e .given .1) at (counted (c .before .before .before)) in omega arith
+sub-fits c =
+    let n = rw (c .before .e .given .1) at (counted (c .before .before .before)) in
+    omega arith
 
 fits-requires : tie.Need-fits-requires
 fits-requires c κs = search needs
 
 sub-t14 : tie.Need-sub-t14
-sub-t14 c = let n = rw (c .before .before .before .e .given .1) at (counted (c .before .before .before .before .before)) in omega arith
+sub-t14 c =
+    let n = rw (c .before .before .before .e .given .1) at (counted (c .before .before .before .before .before)) in
+    omega arith
 
 enum-told : tie.Need-enum-told
 enum-told c = search needs
 
 returns : tie.Need-returns
 unfolding roomOf
-returns c = rw (indexes-length, ← c .before .before .before .before .before .before .top .ensures, ← c .before .before .before .before .before .lookup .ensures, c .before .before .before .e .given .1, ← c .before .fits2 .ensures, c .if1 .taken)
+returns c =
+    let top = c .before .before .before .before .before .before .top in
+    let lookup = c .before .before .before .before .before .lookup in
+    let e = c .before .before .before .e in
+    let fits2 = c .before .fits2 in
+    let if1 = c .if1 in
+    rw (indexes-length, ← top .ensures, ← lookup .ensures, e .given .1, ← fits2 .ensures, if1 .taken)
 
 returns-2 : tie.Need-returns-2
 unfolding roomOf
-returns-2 c = rw (indexes-length, ← c .before .before .before .before .before .before .top .ensures, ← c .before .before .before .before .before .lookup .ensures, c .before .before .before .e .given .1, ← c .before .fits2 .ensures, c .if1 .left)
+returns-2 c =
+    let top = c .before .before .before .before .before .before .top in
+    let lookup = c .before .before .before .before .before .lookup in
+    let e = c .before .before .before .e in
+    let fits2 = c .before .fits2 in
+    let if1 = c .if1 in
+    rw (indexes-length, ← top .ensures, ← lookup .ensures, e .given .1, ← fits2 .ensures, if1 .left)
 
 returns-3 : tie.Need-returns-3
 unfolding roomOf

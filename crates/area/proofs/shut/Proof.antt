@@ -21,7 +21,13 @@ same-length c = search needs
 
 returns-2 : tie.Need-returns-2
 unfolding shutOf
-returns-2 c = rw (c .before .before .before .before .before .before .before .before .if1 .left, ← c .before .before .before .before .before .before .bare .ensures, c .before .before .before .before .before .if2 .taken, c .no-tables .ensures, c .before .before .before .set-in .ensures)
+returns-2 c =
+    let if1 = c .before .before .before .before .before .before .before .before .if1 in
+    let bare = c .before .before .before .before .before .before .bare in
+    let if2 = c .before .before .before .before .before .if2 in
+    let set-in = c .before .before .before .set-in in
+    let no-tables = c .no-tables in
+    rw (if1 .left, ← bare .ensures, if2 .taken, no-tables .ensures, set-in .ensures)
 
 same-length-2 : tie.Need-same-length-2
 same-length-2 c = search needs

@@ -13,7 +13,12 @@ enum-known-f : tie.Need-enum-known-f
 enum-known-f c = search needs
 
 take-freed-requires : tie.Need-take-freed-requires
-take-freed-requires c κs = let good = rw (← c .before .before .before .before .hop .ensures, c .before .before .f .given .1) at (hop-good (c .before .before .before .before .before .before .before .before .before .args .a .base) (c .before .before .before .before .before .before .before .before .before .args .a .size) (c .before .before .before .before .before .before .before .before .before .args .p .free)) in (omega arith, omega arith)
+take-freed-requires c κs =
+    let args = c .before .before .before .before .before .before .before .before .before .args in
+    let hop = c .before .before .before .before .hop in
+    let f = c .before .before .f in
+    let good = rw (← hop .ensures, f .given .1) at (hop-good (args .a .base) (args .a .size) (args .p .free)) in
+    (omega arith, omega arith)
 
 enum-told : tie.Need-enum-told
 enum-told c = search needs
@@ -29,14 +34,24 @@ same-length c = search needs
 
 returns : tie.Need-returns
 unfolding takeOf
-returns c = rw (lt-ltb _ _ (c .before .before .before .before .before .before .before .before .if1 .taken), ← c .before .before .before .before .before .before .before .hop .ensures, c .before .before .before .before .before .f .given .1) (c .before .before .take-freed .ensures)
+returns c =
+    let if1 = c .before .before .before .before .before .before .before .before .if1 in
+    let hop = c .before .before .before .before .before .before .before .hop in
+    let f = c .before .before .before .before .before .f in
+    let take-freed = c .before .before .take-freed in
+    rw (lt-ltb _ _ (if1 .taken), ← hop .ensures, f .given .1) (take-freed .ensures)
 
 same-length-2 : tie.Need-same-length-2
 same-length-2 c = search needs
 
 returns-2 : tie.Need-returns-2
 unfolding takeOf
-returns-2 c = rw (lt-ltb _ _ (c .before .before .before .before .before .before .before .if1 .taken), ← c .before .before .before .before .before .before .hop .ensures, c .before .before .before .before .enum-told .given .1) (c .before .before .take-fresh .ensures)
+returns-2 c =
+    let if1 = c .before .before .before .before .before .before .before .if1 in
+    let hop = c .before .before .before .before .before .before .hop in
+    let enum-told = c .before .before .before .before .enum-told in
+    let take-fresh = c .before .before .take-fresh in
+    rw (lt-ltb _ _ (if1 .taken), ← hop .ensures, enum-told .given .1) (take-fresh .ensures)
 
 returns-3 : tie.Need-returns-3
 unfolding takeOf

@@ -21,7 +21,10 @@ same-length c = search needs
 
 returns : tie.Need-returns
 unfolding freshOf
-returns c = rw (lt-ltb _ _ (c .before .before .before .before .before .before .before .before .if1 .taken), c .before .before .before .before .zero-frame .ensures)
+returns c =
+    let if1 = c .before .before .before .before .before .before .before .before .if1 in
+    let zero-frame = c .before .before .before .before .zero-frame in
+    rw (lt-ltb _ _ (if1 .taken), zero-frame .ensures)
 
 returns-2 : tie.Need-returns-2
 unfolding freshOf

@@ -18,7 +18,13 @@ slot-requires : tie.Need-slot-requires
 slot-requires c κs = search needs
 
 put-entry-requires : tie.Need-put-entry-requires
-put-entry-requires c κs = let p = parent-small (c .before .before .before .before .before .before .before .before .before .before .before .args .mem .now) (c .before .before .before .before .before .before .before .before .before .before .before .args .f) in let s = slot-small (c .before .before .before .before .before .before .before .before .before .before .before .args .mem .now) (c .before .before .before .before .before .before .before .before .before .before .before .args .f) in (omega (arith, c .before .before .before .before .before .parent .ensures), omega (arith, c .before .slot .ensures))
+put-entry-requires c κs =
+    let args = c .before .before .before .before .before .before .before .before .before .before .before .args in
+    let parent = c .before .before .before .before .before .parent in
+    let slot = c .before .slot in
+    let p = parent-small (args .mem .now) (args .f) in
+    let s = slot-small (args .mem .now) (args .f) in
+    (omega (arith, parent .ensures), omega (arith, slot .ensures))
 
 back-requires : tie.Need-back-requires
 back-requires c κs = search needs
@@ -31,14 +37,30 @@ same-length c = search needs
 
 returns : tie.Need-returns
 unfolding unhangOf
-returns c = rw (← c .before .before .before .before .before .before .before .before .before .before .before .before .before .before .before .before .bare .ensures, c .before .before .before .before .before .before .before .before .before .before .before .before .before .before .before .if1 .taken, ← c .before .before .before .before .before .before .before .before .before .before .before .before .before .parent .ensures, ← c .before .before .before .before .before .before .before .before .before .before .before .before .inside .ensures, c .before .before .before .before .before .before .before .before .before .before .before .if2 .taken, ← c .before .before .before .before .before .before .before .before .before .slot .ensures, c .given .ensures, c .before .before .before .back .ensures, c .before .before .before .before .before .before .before .put-entry .ensures)
+returns c =
+    let bare = c .before .before .before .before .before .before .before .before .before .before .before .before .before .before .before .before .bare in
+    let if1 = c .before .before .before .before .before .before .before .before .before .before .before .before .before .before .before .if1 in
+    let parent = c .before .before .before .before .before .before .before .before .before .before .before .before .before .parent in
+    let inside = c .before .before .before .before .before .before .before .before .before .before .before .before .inside in
+    let if2 = c .before .before .before .before .before .before .before .before .before .before .before .if2 in
+    let slot = c .before .before .before .before .before .before .before .before .before .slot in
+    let put-entry = c .before .before .before .before .before .before .before .put-entry in
+    let back = c .before .before .before .back in
+    let given = c .given in
+    rw (← bare .ensures, if1 .taken, ← parent .ensures, ← inside .ensures, if2 .taken, ← slot .ensures, given .ensures, back .ensures, put-entry .ensures)
 
 same-length-2 : tie.Need-same-length-2
 same-length-2 c = search needs
 
 returns-2 : tie.Need-returns-2
 unfolding unhangOf
-returns-2 c = rw (← c .before .before .before .before .before .bare .ensures, c .before .before .before .before .if1 .taken, ← c .before .before .parent .ensures, ← c .before .inside .ensures, c .if2 .left)
+returns-2 c =
+    let bare = c .before .before .before .before .before .bare in
+    let if1 = c .before .before .before .before .if1 in
+    let parent = c .before .before .parent in
+    let inside = c .before .inside in
+    let if2 = c .if2 in
+    rw (← bare .ensures, if1 .taken, ← parent .ensures, ← inside .ensures, if2 .left)
 
 same-length-3 : tie.Need-same-length-3
 same-length-3 c = search needs

@@ -1,8 +1,7 @@
 -- Each refusal by its test, in their order. Assumes nothing.
 use mathlib.Core.Path.{sym, _∙_}
-use Prim.Native.Nat.{_<_}
 use native.Mathlib.Omega.{arith}
-use borrow.Author.Tests.{not-true, not-false, lt-ltb, le-ltb}
+use borrow.Author.Tests.{not-true, not-false}
 use Rattle.marks.proofs.Ascending.{level-below}
 use Rattle.marks.specs.Table.{clearRefusal}
 use borrow.Author.Needs.{needs}

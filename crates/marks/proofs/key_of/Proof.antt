@@ -1,6 +1,5 @@
 -- A shift makes no number greater, so the sum fits. Assumes nothing.
-use mathlib.Core.Path.{refl}
-use Prim.Native.Nat.{_*_, _/_}
+use Prim.Native.Nat.{_*_}
 use native.Mathlib.Omega.{arith}
 use lib.Pow.{shr-le}
 use Rattle.spec.specs.Entry.{pageOf}
@@ -9,6 +8,9 @@ use borrow.Author.Needs.{needs}
 use Rattle.marks.proofs.key_of.Statement.{statement}
 use Rattle.marks.proofs.key_of.Tie as tie
 
+page-requires : tie.Need-page-requires
+page-requires c κs = search needs
+
 mul-result : tie.Need-mul-result
 mul-result c = search needs
 
@@ -16,14 +18,17 @@ shr-result : tie.Need-shr-result
 shr-result c = search needs
 
 mul-result-2 : tie.Need-mul-result-2
-mul-result-2 c = omega (arith, shr-le (c .before .args .address .0 / 4096) (9 * c .before .args .level))
+unfolding pageOf
+mul-result-2 c = omega (arith, shr-le (c .page .result) (9 * c .before .args .level), c .page .ensures)
 
 add-result : tie.Need-add-result
-add-result c = omega (arith, shr-le (c .before .args .address .0 / 4096) (9 * c .before .args .level))
+unfolding pageOf
+add-result c = omega (arith, shr-le (c .page .result) (9 * c .before .args .level), c .page .ensures)
 
 returns : tie.Need-returns
-unfolding keyOf pageOf
-returns c = refl
+unfolding keyOf
+returns c = rw (c .page .ensures)
 
 pub key-of-spec : {M : Type 1} → statement M
-key-of-spec = tie.close (tie.spec mul-result shr-result mul-result-2 add-result returns)
+key-of-spec =
+    tie.close (tie.spec page-requires mul-result shr-result mul-result-2 add-result returns)
