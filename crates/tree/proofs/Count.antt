@@ -379,7 +379,7 @@ module _ {a : Area} {p : Pool} {ts : List ℕ → Option ℕ} {lv guest : List �
       go (some f) e rest = omega arith
 
 -- a prefix of a path, as the specification tests it
-propers-begins : (q is : List ℕ) → In q (propers is) → T (begins q is)
+pub propers-begins : (q is : List ℕ) → In q (propers is) → T (begins q is)
 propers-begins q [] h = absurd h
 propers-begins q (i ∷ is) h = elim (or-cases (same q []) (any (same q) (consAll i (propers is))) h) [
   | inl a ↦ subst (λ z. T (begins z (i ∷ is))) (sym (same-is q [] a)) tt
@@ -387,7 +387,7 @@ propers-begins q (i ∷ is) h = elim (or-cases (same q []) (any (same q) (consAl
       subst (λ z. T (begins z (i ∷ is))) (sym (t .whole)) (both (eqb i i) (begins (t .rest) is) (eqb-refl i) (propers-begins (t .rest) is (t .inside))))
 ]
 
-begins-propers : (q is : List ℕ) → T (begins q is) → (q ≡ is) ⊎ In q (propers is)
+pub begins-propers : (q is : List ℕ) → T (begins q is) → (q ≡ is) ⊎ In q (propers is)
 begins-propers [] [] h = inl refl
 begins-propers [] (i ∷ is) h = inr tt
 begins-propers (x ∷ q) [] h = absurd h

@@ -79,7 +79,7 @@ unfolding Even hostMap
 host-even c [] = tt
 host-even c (x ∷ xs) = (indexes-length (c .levels) (x .guest), host-even c xs)
 
-eqb-sym : (a b : ℕ) → eqb a b ≡ eqb b a
+pub eqb-sym : (a b : ℕ) → eqb a b ≡ eqb b a
 eqb-sym a b = go (eqb a b) refl
   where
     go : (t : Bool) → eqb a b ≡ t → t ≡ eqb b a

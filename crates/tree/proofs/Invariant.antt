@@ -60,7 +60,7 @@ pub link-inj : (f g : ℕ) → link f ≡ link g → f ≡ g
 unfolding link
 link-inj f g e = omega arith
 
-frame-link : (f : ℕ) → f < 65536 → frameOf (link f) ≡ f
+pub frame-link : (f : ℕ) → f < 65536 → frameOf (link f) ≡ f
 unfolding frameOf link
 frame-link f l = omega arith
 

@@ -58,6 +58,8 @@ pub record Released (a : Area) (stays : Bool) (p : Pool) (m : List ℕ) (ts : Li
   pub tables : Tables a pool tabs lv guest list pres memory
   pub exact : Exact stays tabs lv
   pub top : T stays → IsSome (tabs [])
+  -- while the top table stands, as many frames were handed out as before
+  pub fresh : IsSome (tabs []) → pool .fresh ≡ p .fresh
   pub less : (y : List ℕ) (f : ℕ) → tabs y ≡ some f → ts y ≡ some f
   -- of the frames handed out before, each is no table or one that is left
   pub each : (f : ℕ) → a .base ≤ f → f < a .base + p .fresh → (levelOf memory f ≡ 0) ⊎ ((y : List ℕ) × (tabs y ≡ some f))
@@ -120,6 +122,7 @@ module _ {a : Area} {p : Pool} {ts : List ℕ → Option ℕ} {lv guest : List �
     tables = g;
     exact = ex;
     top = λ k. top;
+    fresh = λ k. refl;
     less = λ y h e. e;
     each = g .each;
     beside = beside-refl a m;
@@ -149,6 +152,7 @@ module _ {a : Area} {p : Pool} {ts : List ℕ → Option ℕ} {lv guest : List �
             tables = s .tables;
             exact = λ y k. absurd k;
             top = λ k. absurd k;
+            fresh = λ k. absurd k;
             less = λ y f c. absurd (not-some refl c);
             each = λ f lo hi. inl (s .levels f lo hi);
             beside = s .beside;
@@ -196,6 +200,7 @@ release-is {a = a} {p = p} {ts = ts} {lv = lv} {guest = guest} {m = m} g stays (
           tables = d .tables;
           exact = d .exact;
           top = d .top;
+          fresh = λ k. d .fresh k ∙ fresh-give p f;
           less = λ y h t. fewer y h (d .less y h t) (eq? (i ∷ x) y);
           each = λ h lo hi. d .each h lo (rw fresh-give hi);
           beside = beside-trans (u .beside) (d .beside);

@@ -24,32 +24,33 @@ use Rattle.tree.proofs.Grow.{clear-leaf, put-beside}
 use Rattle.tree.proofs.Release.{Released, release-is, exact-but, but-clear}
 
 -- the path without its last index, as a prefix
-unfoldable front : List ℕ → ℕ → List ℕ → List ℕ
+unfoldable pub front : List ℕ → ℕ → List ℕ → List ℕ
 front x i [] = x
 front x i (j ∷ is) = front (i ∷ x) j is
 
-front-last : (x : List ℕ) (i : ℕ) (is : List ℕ) → onto x (i ∷ is) ≡ lastIndex i is ∷ front x i is
+pub front-last : (x : List ℕ) (i : ℕ) (is : List ℕ) → onto x (i ∷ is) ≡ lastIndex i is ∷ front x i is
 unfolding onto front lastIndex
 front-last x i [] = refl
 front-last x i (j ∷ is) = front-last (i ∷ x) j is
 
-front-long : (x : List ℕ) (i : ℕ) (is : List ℕ) → length (front x i is) ≡ length is + length x
+pub front-long : (x : List ℕ) (i : ℕ) (is : List ℕ) → length (front x i is) ≡ length is + length x
 unfolding front
 front-long x i [] = omega arith
 front-long x i (j ∷ is) = let e = front-long (i ∷ x) j is in omega arith
 
-last-small : (i : ℕ) (is : List ℕ) → Small (i ∷ is) → lastIndex i is < 512
+pub last-small : (i : ℕ) (is : List ℕ) → Small (i ∷ is) → lastIndex i is < 512
 unfolding lastIndex
 last-small i [] l = l .0
 last-small i (j ∷ is) l = last-small j is (l .1)
 
-abbrev way : Option ℕ → Way
+-- the table that a step leads to
+abbrev pub way : Option ℕ → Way
 way none = Not
 way (some f) = To f
 
 module _ {a : Area} {p : Pool} {ts : List ℕ → Option ℕ} {lv guest : List ℕ → ℕ} {fl : List ℕ} {ps : List (List ℕ)} {m : List ℕ}
     (g : Tables a p ts lv guest fl ps m) where
-  front-none : (x : List ℕ) (i : ℕ) (is : List ℕ) → ts x ≡ none → ts (front x i is) ≡ none
+  pub front-none : (x : List ℕ) (i : ℕ) (is : List ℕ) → ts x ≡ none → ts (front x i is) ≡ none
   unfolding front
   front-none x i [] e = e
   front-none x i (j ∷ is) e = front-none (i ∷ x) j is (none-below g i x e)
@@ -136,6 +137,7 @@ module _ {a : Area} {p : Pool} {ts : List ℕ → Option ℕ} {lv guest : List �
               tables = d .tables;
               exact = d .exact;
               top = d .top;
+              fresh = d .fresh;
               less = d .less;
               each = d .each;
               beside = beside-trans (put-beside g f i x 0 e index) (d .beside);

@@ -1,0 +1,158 @@
+-- A fill is the book's: the new path stands, and the others with it exactly if the tables find room.
+-- Assumes nothing.
+use mathlib.Core.Path.{_≡_, refl, sym, ap, ap₂, _∙_, subst}
+use mathlib.Core.Logic.{_≢_, _⊎_, inl, inr}
+use Prim.Native.Nat.{ℕ, suc, _+_, _<_, _≤_}
+use native.Mathlib.Omega.{arith}
+use mathlib.Core.Bool.{Bool, true, false, cond}
+use mathlib.Core.List.{List, [], _∷_}
+use mathlib.Core.Option.{Option, none, some}
+use lib.Dec.{leb}
+use lib.ListN.{length, getD, set, length-set, replicate}
+use lib.Seq.{getD-set-other, getD-set-same}
+use borrow.Author.Tests.{leb-true, leb-false}
+use Rattle.spec.specs.Config.{Config, guestBase}
+use Rattle.spec.specs.Entry.{present, frameOf}
+use Rattle.spec.specs.Prefix.{tablesOf}
+use Rattle.spec.specs.Walk.{World}
+use Rattle.spec.specs.Book.{Held, paths, shadowTables, fill}
+use Rattle.laws.proofs.Lists.{All, all-map}
+use Rattle.laws.proofs.Trail.{frameIn, frameAt}
+use Rattle.words.specs.Words.{wordIn}
+use Rattle.area.specs.declared.Pool.{Pool}
+use Rattle.area.specs.Pool.{End, noneOf}
+use Rattle.area.specs.Tree.{insertOf}
+use Rattle.host.specs.declared.HostWalk.{HostWalk}
+use Rattle.host.specs.declared.HostWalk.the-variants.{Found, Absent, Damaged}
+use Rattle.host.specs.Walk.{hostWalkOf}
+use Rattle.host.proofs.Laws.{HostFits, host-fits}
+use Rattle.walk.specs.Memory.{placeOf, memoryWorld}
+use Rattle.tree.specs.Run as run
+use Rattle.tree.proofs.Change.{upd}
+use Rattle.tree.proofs.Paths.{onto, Pre, Ext, pre-ext, Guests}
+use Rattle.tree.proofs.Whole.{Holds, Fits, Next, next-leaves, first-insert}
+use Rattle.tree.proofs.Count.{Lists, insert-next, insert-not}
+use Rattle.tree.proofs.Claim.{leaves, Solid, map-lists, leaves-put}
+use Rattle.shadow.specs.Held.{shadowArea}
+use Rattle.shadow.specs.Fill.{frameFound, mappedOf, belowOf, trailFrom, trailOf, insertedOf, fillOf}
+use Rattle.drops.proofs.Held.{entries, leafAt, Stands, AllStand}
+
+-- ---- the guest tables on the way, as the walk over memory goes through them
+found-place : (r : HostWalk) → frameFound r ≡ frameIn (placeOf r)
+found-place (Found p w) = refl
+found-place (Absent n) = refl
+found-place Damaged = refl
+
+found-small : (c : Config) (r : HostWalk) → c .frames ≤ 65536 → HostFits c r → frameIn (placeOf r) < 65536
+found-small c (Found p w) l h = omega (arith, h .1)
+found-small c (Absent n) l h = omega arith
+found-small c Damaged l h = omega arith
+
+module _ (c : Config) (m : List ℕ) where
+  mapped-is : (g : ℕ) → mappedOf c m g ≡ frameIn (memoryWorld c m .hostAt g)
+  unfolding mappedOf memoryWorld
+  mapped-is g = found-place (hostWalkOf c m g)
+
+  mapped-small : c .frames ≤ 65536 → (g : ℕ) → frameIn (memoryWorld c m .hostAt g) < 65536
+  unfolding memoryWorld
+  mapped-small l g = found-small c (hostWalkOf c m g) l (host-fits c m g)
+
+  frame-small : c .frames ≤ 65536 → (root : ℕ) (x : List ℕ) → frameAt (memoryWorld c m) root x < 65536
+  unfolding frameAt
+  frame-small l root [] = mapped-small l root
+  frame-small l root (i ∷ x) = mapped-small l (frameOf (memoryWorld c m .wordAt (frameAt (memoryWorld c m) root x) i))
+
+  below-is : (root t i : ℕ) (x : List ℕ) → t ≡ frameAt (memoryWorld c m) root x → belowOf c m t i ≡ frameAt (memoryWorld c m) root (i ∷ x)
+  unfolding belowOf frameAt memoryWorld
+  below-is root t i x e = mapped-is (frameOf (wordIn m t i)) ∙ ap (λ z. frameIn (memoryWorld c m .hostAt (frameOf (wordIn m z i)))) e
+
+  -- what is noted stays
+  trail-keep : (is ts : List ℕ) (d t i k : ℕ) → k ≤ d → getD (trailFrom c m ts d t i is) k 0 ≡ getD ts k 0
+  unfolding trailFrom
+  trail-keep [] ts d t i k l = refl
+  trail-keep (j ∷ is) ts d t i k l =
+      trail-keep is (set ts (d + 1) (belowOf c m t i)) (d + 1) (belowOf c m t i) j k (omega arith) ∙ getD-set-other ts (d + 1) k (belowOf c m t i) 0 (λ e. omega arith)
+
+  trail-from : c .frames ≤ 65536 → (root : ℕ) (is ts : List ℕ) (d t i : ℕ) (x : List ℕ) → length ts ≡ 8 → d + length (i ∷ is) ≤ 8 → t ≡ frameAt (memoryWorld c m) root x
+      → getD ts d 0 ≡ t → Guests (frameAt (memoryWorld c m) root) (trailFrom c m ts d t i is) d x (i ∷ is)
+  unfolding trailFrom
+  trail-from l root [] ts d t i x e b q r = (r ∙ q, frame-small l root x, tt)
+  trail-from l root (j ∷ is) ts d t i x e b q r = (
+    trail-keep (j ∷ is) ts d t i d (omega arith) ∙ r ∙ q,
+    frame-small l root x,
+    trail-from l root is (set ts (d + 1) (belowOf c m t i)) (d + 1) (belowOf c m t i) j (i ∷ x) (length-set ts (d + 1) (belowOf c m t i) ∙ e) (omega arith) (below-is root t i x q)
+        (getD-set-same ts (d + 1) (belowOf c m t i) 0 (omega arith)),
+  )
+
+  -- at each depth the host frame of the guest table, as `frameAt` has it
+  pub trail-is : c .frames ≤ 65536 → (root : ℕ) (is : List ℕ) → length is ≤ 8 → Guests (frameAt (memoryWorld c m) root) (trailOf c m root is) 0 [] is
+  unfolding trailOf frameAt
+  trail-is l root [] b = tt
+  trail-is l root (i ∷ is) b =
+      trail-from l root is (set (replicate 8 0) 0 (mappedOf c m root)) 0 (mappedOf c m root) i [] (length-set (replicate 8 0) 0 (mappedOf c m root)) (omega arith) (mapped-is root)
+      (getD-set-same (replicate 8 0) 0 (mappedOf c m root) 0 (omega arith))
+
+-- only the tables on the way matter
+pub guests-agree : (F G : List ℕ → ℕ) (gs : List ℕ) (d : ℕ) (x is : List ℕ) → ((y : List ℕ) → Pre y x is → G y ≡ F y) → Guests F gs d x is → Guests G gs d x is
+guests-agree F G gs d x [] e h = tt
+guests-agree F G gs d x (i ∷ is) e h =
+    (h .0 ∙ sym (e x (inl refl)), subst (λ f. f < 65536) (sym (e x (inl refl))) (h .1), guests-agree F G gs (d + 1) (i ∷ x) is (λ y k. e y (inr k)) (h .2))
+
+-- ---- the paths of the list
+entries-paths : (w : Held → ℕ) (hs : List Held) → run.paths (entries w hs) ≡ paths hs
+unfolding run.paths entries
+entries-paths w [] = refl
+entries-paths w (h ∷ hs) = ap (λ ps. h .path ∷ ps) (entries-paths w hs)
+
+entries-solid : (w : Held → ℕ) (hs : List Held) → All (λ h. present (w h) ≡ true) hs → Solid (entries w hs)
+unfolding entries Solid
+entries-solid w [] a = tt
+entries-solid w (h ∷ hs) a = (a .0, entries-solid w hs (a .1))
+
+-- with one more path
+leaf-put : (w : Held → ℕ) (k : Held) (hs : List Held) (y : List ℕ) → upd (leafAt w hs) (onto [] (k .path)) (w k) y ≡ leafAt w (k ∷ hs) y
+unfolding entries
+leaf-put w k hs y = leaves-put (entries w hs) (k .path) (w k) y
+
+leaf-only : (w : Held → ℕ) (k : Held) (y : List ℕ) → upd (λ x. 0) (onto [] (k .path)) (w k) y ≡ leafAt w (k ∷ []) y
+unfolding entries run.get
+leaf-only w k y = leaves-put [] (k .path) (w k) y
+
+module _ {c : Config} {p : Pool} {m : List ℕ} {guest G : List ℕ → ℕ} {root : ℕ} {w : Held → ℕ} {hs : List Held} (h : Holds (shadowArea c) false p m (leafAt w hs) guest)
+    (a : AllStand c guest G root w hs) (k : Held) (f : Fits (shadowArea c) (leafAt w hs) (k .path)) (gs : List ℕ) (gg : Guests guest gs 0 [] (k .path))
+    (thin : w k < 4503599627370496) (present-new : present (w k) ≡ true) (room : c .levels ≤ c .shadows) where
+  listed : Lists (upd (leafAt w hs) (onto [] (k .path)) (w k)) (paths (k ∷ hs))
+  listed = subst (Lists (upd (leafAt w hs) (onto [] (k .path)) (w k))) (entries-paths w (k ∷ hs))
+      (subst (λ lw. Lists lw (run.paths (entries w (k ∷ hs)))) (λ i y. sym (leaf-put w k hs y) i)
+      (map-lists (entries w (k ∷ hs)) (entries-solid w (k ∷ hs) (present-new, all-map _ _ hs (λ h s. s .set) (a .all)))))
+
+  -- "If a new path would make them more than S, all held paths are dropped first"
+  pub inserted-is : Next (shadowArea c) false p m (leafAt w (fill c k hs)) guest (insertedOf (shadowArea c) gs p m (k .path) (w k))
+  unfolding insertedOf
+  inserted-is = go (leb (shadowTables (k ∷ hs)) (c .shadows)) refl
+    where
+      fits : (n : Next (shadowArea c) false p m (upd (leafAt w hs) (onto [] (k .path)) (w k)) guest (insertOf (shadowArea c) gs p m (k .path) (w k)))
+          → Next (shadowArea c) false p m (leafAt w (k ∷ hs)) guest (insertedOf (shadowArea c) gs p m (k .path) (w k))
+      fits n = rw (n .done) (next-leaves (leafAt w (k ∷ hs)) (leaf-put w k hs) (record { pool = n .pool; memory = n .memory; frame = n .frame; done = refl; holds = n .holds; beside = n .beside }))
+
+      first : (n : Next (shadowArea c) false noneOf m (upd (λ x. 0) (onto [] (k .path)) (w k)) guest (insertOf (shadowArea c) gs noneOf m (k .path) (w k)))
+          → Next (shadowArea c) false p m (leafAt w (k ∷ [])) guest (insertOf (shadowArea c) gs noneOf m (k .path) (w k))
+      first n = next-leaves (leafAt w (k ∷ [])) (leaf-only w k) (record { pool = n .pool; memory = n .memory; frame = n .frame; done = n .done; holds = n .holds; beside = n .beside })
+
+      go : (b : Bool) → leb (shadowTables (k ∷ hs)) (c .shadows) ≡ b
+          → Next (shadowArea c) false p m (leafAt w (cond b (k ∷ hs) (k ∷ []))) guest (insertedOf (shadowArea c) gs p m (k .path) (w k))
+      go true e = fits (insert-next h gs (k .path) (w k) f gg present-new (paths (k ∷ hs)) listed thin (leb-true _ _ e))
+      go false e = rw (insert-not h gs (k .path) (w k) f gg present-new (paths (k ∷ hs)) listed (leb-false _ _ e))
+          (first (first-insert (shadowArea c) guest gs m (k .path) (w k) (h .tables .small) (h .tables .flat) (h .tables .long) (f .nonempty) (f .short) (let s = f .short in omega arith) (f .small) gg thin present-new))
+
+-- the new tables' headers name the guest tables of the walk over memory
+pub fill-is : {c : Config} {p : Pool} {m : List ℕ} {guest G : List ℕ → ℕ} {root : ℕ} {w : Held → ℕ} {hs : List Held} → Holds (shadowArea c) false p m (leafAt w hs) guest
+    → AllStand c guest G root w hs → (k : Held) → Fits (shadowArea c) (leafAt w hs) (k .path)
+    → ((y : List ℕ) → Ext y (onto [] (k .path)) → guest y ≡ frameAt (memoryWorld c m) root y)
+    → w k < 4503599627370496 → present (w k) ≡ true → c .levels ≤ c .shadows → c .frames ≤ 65536
+    → Next (shadowArea c) false p m (leafAt w (fill c k hs)) guest (fillOf c p m root (k .path) (w k))
+unfolding fillOf
+fill-is {c = c} {m = m} {guest = guest} {root = root} h a k f e thin set room few =
+    inserted-is h a k f (trailOf c m root (k .path))
+    (guests-agree (frameAt (memoryWorld c m) root) guest (trailOf c m root (k .path)) 0 [] (k .path) (λ y q. e y (pre-ext y [] (k .path) q))
+    (trail-is c m few root (k .path) (let s = f .short in omega (arith, h .tables .flat)))) thin set room
