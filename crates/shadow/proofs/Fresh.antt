@@ -112,7 +112,7 @@ module _ (a : Area) where
       fits = descend-fits p m (getD guests (d + 1) 0) (a .levels - (d + 1)) f i h
 
       go : (w : Way) → ((g : ℕ) → Fits (downOf a guests (t .went .pool) (t .memory) (d + 1) g j is e))
-          → Fits (onWay w (end (t .went .pool) way.Not (t .memory)) (end (t .went .pool) way.Bad (t .memory)) (λ g. downOf a guests (t .went .pool) (t .memory) (d + 1) g j is e))
+          → Fits (onWay w (end (t .went .pool) way.Bad (t .memory)) (end (t .went .pool) way.Bad (t .memory)) (λ g. downOf a guests (t .went .pool) (t .memory) (d + 1) g j is e))
       go (way.To g) next = next g
       go way.Not next = fits
       go way.Bad next = fits
@@ -127,7 +127,7 @@ module _ (a : Area) where
       fits : Fits t
       fits = enter-fits p m (getD guests 0 0) h
 
-      go : (w : Way) → Fits (onWay w (end (t .went .pool) way.Not (t .memory)) (end (t .went .pool) way.Bad (t .memory)) (λ f. downOf a guests (t .went .pool) (t .memory) 0 f i is e))
+      go : (w : Way) → Fits (onWay w (end (t .went .pool) way.Bad (t .memory)) (end (t .went .pool) way.Bad (t .memory)) (λ f. downOf a guests (t .went .pool) (t .memory) 0 f i is e))
       go (way.To f) = down-fits is guests (t .went .pool) (t .memory) 0 f i e fits
       go way.Not = fits
       go way.Bad = fits

@@ -4,7 +4,7 @@ use native.Mathlib.Omega.{arith}
 use Rattle.host.specs.Walk.{config}
 use Rattle.spec.specs.Entry.{index, indexes}
 use Rattle.shadow.specs.Drop.{holderFrom}
-use Rattle.area.proofs.Laws.{index-small}
+use Rattle.entry.proofs.Entries.{index-fits}
 use Rattle.shadow.proofs.Laws.{named-small, holder-step, holder-none}
 use borrow.Author.Needs.{needs}
 use Rattle.shadow.proofs.holder.Statement.{statement}
@@ -32,7 +32,7 @@ index-at-requires : tie.Need-index-at-requires Inv-loop μ-loop
 index-at-requires c κs = search needs
 
 entry-at-requires : tie.Need-entry-at-requires Inv-loop μ-loop
-entry-at-requires c κs = let g = rw (← c .before .before .before .before .table-named .ensures, c .before .before .f .given .1) at (named-small (config (c .before .before .before .before .before .before .before .before .args .l)) (c .before .before .before .before .before .before .loop .at)) in let i = rw (← c .index-at .ensures) at (index-small (c .before .before .before .before .before .before .loop .left) (c .before .before .before .before .before .before .before .before .args .path)) in (g, i)
+entry-at-requires c κs = let g = rw (← c .before .before .before .before .table-named .ensures, c .before .before .f .given .1) at (named-small (config (c .before .before .before .before .before .before .before .before .args .l)) (c .before .before .before .before .before .before .loop .at)) in let i = rw (← c .index-at .ensures) at (index-fits (c .before .before .before .before .before .before .loop .left) (c .before .before .before .before .before .before .before .before .args .path)) in (g, i)
 
 enum-told : tie.Need-enum-told Inv-loop μ-loop
 enum-told c = search needs

@@ -5,7 +5,7 @@ use Rattle.host.specs.Walk.{config}
 use lib.ListN.{length}
 use Rattle.spec.specs.Entry.{index, indexes}
 use Rattle.shadow.specs.Fill.{trailFrom}
-use Rattle.area.proofs.Laws.{index-small}
+use Rattle.entry.proofs.Entries.{index-fits}
 use Rattle.shadow.proofs.Laws.{mapped-small, below-small, trail-start, trail-step, trail-last}
 use borrow.Author.Needs.{needs}
 use Rattle.shadow.proofs.trail.Statement.{statement}
@@ -33,7 +33,7 @@ index-at-requires : tie.Need-index-at-requires Inv-loop μ-loop
 index-at-requires c κs = omega (arith, c .before .loop .inv .0, c .before .before .before .before .pre)
 
 table-below-requires : tie.Need-table-below-requires Inv-loop μ-loop
-table-below-requires c κs = let i = rw (← c .index-at .ensures) at (index-small (c .before .before .loop .left) (c .before .before .before .before .before .args .path)) in (c .before .before .before .before .before .pre .0, c .before .before .loop .inv .1, i)
+table-below-requires c κs = let i = rw (← c .index-at .ensures) at (index-fits (c .before .before .loop .left) (c .before .before .before .before .before .args .path)) in (c .before .before .before .before .before .pre .0, c .before .before .loop .inv .1, i)
 
 add-depth : tie.Need-add-depth Inv-loop μ-loop
 add-depth c = omega (arith, c .before .before .before .loop .inv .0, c .before .before .before .before .before .before .pre)
