@@ -43,7 +43,7 @@ use Rattle.shadow.specs.Held.{shadowArea}
 use Rattle.shadow.specs.Cut.{cutOf, kindOf}
 use Rattle.shadow.specs.Drop.{Outcome, outcome, scanOf, tableBy, tableNamed, holderFrom, dropPrefixOf}
 use Rattle.drops.proofs.Scan.{under, kindAt, slot-kind, Cuts, Dropped, scan-drops}
-use Rattle.drops.proofs.Held.{leafAt, leaf-none, AllStand, leaves-are, cutWord, cutNames, cutPrefix, under-prefix, word-drop, names-drop, prefix-drop}
+use Rattle.drops.proofs.Held.{leafAt, leaf-none, HeldEntries, leaves-are, cutWord, cutNames, cutPrefix, under-prefix, word-drop, names-drop, prefix-drop}
 use Rattle.drops.proofs.Watch.{guest-inside}
 
 -- the guest frame that the guest entry at the end of a prefix names, by the words of memory
@@ -71,12 +71,12 @@ prefix-all hs = keep-none (λ h. not (begins [] (h .path))) hs (all-any _ hs (λ
 uses-root : (root : ℕ) (G : List ℕ → ℕ) (h : Held) → h .uses ≡ root ∷ usesFrom G [] (h .path) → (g : ℕ) → usesMapping g h ≡ (eqb g root || any (eqb g) (usesFrom G [] (h .path)))
 uses-root root G h e g = ap (any (eqb g)) e
 
-pub mapping-all : {c : Config} {F G : List ℕ → ℕ} {root : ℕ} {w : Held → ℕ} {hs : List Held} → AllStand c F G root w hs → dropMapping root hs ≡ []
+pub mapping-all : {c : Config} {F G : List ℕ → ℕ} {root : ℕ} {w : Held → ℕ} {hs : List Held} → HeldEntries c F G root w hs → dropMapping root hs ≡ []
 mapping-all {G = G} {root = root} {hs = hs} a =
     keep-none (λ h. not (usesMapping root h)) hs (all-map _ _ hs (λ h s. ap not (uses-root root G h (s .uses) root ∙ ap (λ b. b || any (eqb root) (usesFrom G [] (h .path))) (is-true (eqb root root) (eqb-refl root)))) (a .all))
 
 module _ {c : Config} {p : Pool} {m : List ℕ} {guest G : List ℕ → ℕ} {root : ℕ} {w : Held → ℕ} {hs : List Held}
-    (h : Holds (shadowArea c) false p m (leafAt w hs) guest) (a : AllStand c guest G root w hs) where
+    (h : Holds (shadowArea c) false p m (leafAt w hs) guest) (a : HeldEntries c guest G root w hs) where
   drop-by : (x : Cut) (C : List ℕ → Bool) (ks : List Held) → Cuts c x C (h .tabs) guest m → ((q : List ℕ) → leafAt w ks q ≡ cond (under C q) 0 (leafAt w hs q))
       → Dropped c m (leafAt w ks) guest (scanOf c x p m)
   drop-by x C ks cuts e = dropped-leaves (leafAt w ks) (λ y. sym (e y)) (scan-drops h x C (leaves-are a) cuts)
@@ -192,7 +192,7 @@ module _ {c : Config} {p : Pool} {m : List ℕ} {guest G : List ℕ → ℕ} {ro
 
 -- "Mapping or unmapping a guest frame drops every held path whose shadow part used its mapping"; for the root's see `mapping-all`
 pub drop-mapping : {c : Config} {p : Pool} {m : List ℕ} {guest : List ℕ → ℕ} {root : ℕ} {w : Held → ℕ} {hs : List Held} → Holds (shadowArea c) false p m (leafAt w hs) guest
-    → AllStand c guest (namedIn m guest) root w hs → (g : ℕ) → g ≢ root → Dropped c m (leafAt w (dropMapping g hs)) guest (scanOf c (Names (guestFrame g)) p m)
+    → HeldEntries c guest (namedIn m guest) root w hs → (g : ℕ) → g ≢ root → Dropped c m (leafAt w (dropMapping g hs)) guest (scanOf c (Names (guestFrame g)) p m)
 unfolding namedIn
 drop-mapping {c = c} {m = m} {guest = guest} {root = root} {w = w} {hs = hs} h a g n =
     drop-by h a (Names (guestFrame g)) (cutNames g (namedIn m guest)) (dropMapping g hs) cuts

@@ -8,8 +8,7 @@ use mathlib.Core.Bool.{Bool, true, false, cond}
 use mathlib.Core.List.{List, [], _∷_}
 use mathlib.Core.Option.{Option, none, some}
 use lib.Dec.{leb}
-use lib.ListN.{length, getD, set, length-set, replicate}
-use lib.Seq.{getD-set-other, getD-set-same}
+use lib.ListN.{length, getD, take}
 use borrow.Author.Tests.{leb-true, leb-false}
 use Rattle.spec.specs.Config.{Config, guestBase}
 use Rattle.spec.specs.Entry.{present, frameOf}
@@ -34,8 +33,9 @@ use Rattle.tree.proofs.Whole.{Holds, Fits, Next, next-leaves, first-insert}
 use Rattle.tree.proofs.Count.{Lists, insert-next, insert-not}
 use Rattle.tree.proofs.Claim.{leaves, Solid, map-lists, leaves-put}
 use Rattle.shadow.specs.Held.{shadowArea}
-use Rattle.shadow.specs.Fill.{frameFound, mappedOf, belowOf, trailFrom, trailOf, insertedOf, fillOf}
-use Rattle.drops.proofs.Held.{entries, leafAt, Stands, AllStand}
+use Rattle.shadow.specs.Fill.{frameFound, mappedOf, belowOf, tableAfter, trailOf, insertedOf, fillOf}
+use Rattle.shadow.proofs.Parts.{trail-at}
+use Rattle.drops.proofs.Held.{entries, leafAt, HeldEntry, HeldEntries}
 
 -- ---- the guest tables on the way, as the walk over memory goes through them
 found-place : (r : HostWalk) → frameFound r ≡ frameIn (placeOf r)
@@ -47,6 +47,16 @@ found-small : (c : Config) (r : HostWalk) → c .frames ≤ 65536 → HostFits c
 found-small c (Found p w) l h = omega (arith, h .1)
 found-small c (Absent n) l h = omega arith
 found-small c Damaged l h = omega arith
+
+guests-by : (F : List ℕ → ℕ) → ((y : List ℕ) → F y < 65536) → (gs is : List ℕ) (d : ℕ) (x : List ℕ) → ((j : ℕ) → j < length is → getD gs (d + j) 0 ≡ F (onto x (take j is)))
+    → Guests F gs d x is
+unfolding onto
+guests-by F s gs [] d x h = tt
+guests-by F s gs (i ∷ is) d x h = (
+  (let z : d + 0 ≡ d = omega arith in ap (λ k. getD gs k 0) (sym z) ∙ h 0 (omega arith)),
+  s x,
+  guests-by F s gs is (d + 1) (i ∷ x) (λ j l. let z : d + 1 + j ≡ d + suc j = omega arith in ap (λ k. getD gs k 0) z ∙ h (suc j) (omega arith)),
+)
 
 module _ (c : Config) (m : List ℕ) where
   mapped-is : (g : ℕ) → mappedOf c m g ≡ frameIn (memoryWorld c m .hostAt g)
@@ -66,31 +76,16 @@ module _ (c : Config) (m : List ℕ) where
   unfolding belowOf frameAt memoryWorld
   below-is root t i x e = mapped-is (frameOf (wordIn m t i)) ∙ ap (λ z. frameIn (memoryWorld c m .hostAt (frameOf (wordIn m z i)))) e
 
-  -- what is noted stays
-  trail-keep : (is ts : List ℕ) (d t i k : ℕ) → k ≤ d → getD (trailFrom c m ts d t i is) k 0 ≡ getD ts k 0
-  unfolding trailFrom
-  trail-keep [] ts d t i k l = refl
-  trail-keep (j ∷ is) ts d t i k l =
-      trail-keep is (set ts (d + 1) (belowOf c m t i)) (d + 1) (belowOf c m t i) j k (omega arith) ∙ getD-set-other ts (d + 1) k (belowOf c m t i) 0 (λ e. omega arith)
-
-  trail-from : c .frames ≤ 65536 → (root : ℕ) (is ts : List ℕ) (d t i : ℕ) (x : List ℕ) → length ts ≡ 8 → d + length (i ∷ is) ≤ 8 → t ≡ frameAt (memoryWorld c m) root x
-      → getD ts d 0 ≡ t → Guests (frameAt (memoryWorld c m) root) (trailFrom c m ts d t i is) d x (i ∷ is)
-  unfolding trailFrom
-  trail-from l root [] ts d t i x e b q r = (r ∙ q, frame-small l root x, tt)
-  trail-from l root (j ∷ is) ts d t i x e b q r = (
-    trail-keep (j ∷ is) ts d t i d (omega arith) ∙ r ∙ q,
-    frame-small l root x,
-    trail-from l root is (set ts (d + 1) (belowOf c m t i)) (d + 1) (belowOf c m t i) j (i ∷ x) (length-set ts (d + 1) (belowOf c m t i) ∙ e) (omega arith) (below-is root t i x q)
-        (getD-set-same ts (d + 1) (belowOf c m t i) 0 (omega arith)),
-  )
+  after-is : (root t : ℕ) (x is : List ℕ) → t ≡ frameAt (memoryWorld c m) root x → tableAfter c m t is ≡ frameAt (memoryWorld c m) root (onto x is)
+  unfolding tableAfter onto
+  after-is root t x [] e = e
+  after-is root t x (i ∷ is) e = after-is root (belowOf c m t i) (i ∷ x) is (below-is root t i x e)
 
   -- at each depth the host frame of the guest table, as `frameAt` has it
   pub trail-is : c .frames ≤ 65536 → (root : ℕ) (is : List ℕ) → length is ≤ 8 → Guests (frameAt (memoryWorld c m) root) (trailOf c m root is) 0 [] is
-  unfolding trailOf frameAt
-  trail-is l root [] b = tt
-  trail-is l root (i ∷ is) b =
-      trail-from l root is (set (replicate 8 0) 0 (mappedOf c m root)) 0 (mappedOf c m root) i [] (length-set (replicate 8 0) 0 (mappedOf c m root)) (omega arith) (mapped-is root)
-      (getD-set-same (replicate 8 0) 0 (mappedOf c m root) 0 (omega arith))
+  unfolding frameAt
+  trail-is l root is b = guests-by (frameAt (memoryWorld c m) root) (frame-small l root) (trailOf c m root is) is 0 []
+      (λ j k. let z : 0 + j ≡ j = omega arith in ap (λ i. getD (trailOf c m root is) i 0) z ∙ trail-at c m root is j b k ∙ after-is root (mappedOf c m root) [] (take j is) (mapped-is root))
 
 -- only the tables on the way matter
 pub guests-agree : (F G : List ℕ → ℕ) (gs : List ℕ) (d : ℕ) (x is : List ℕ) → ((y : List ℕ) → Pre y x is → G y ≡ F y) → Guests F gs d x is → Guests G gs d x is
@@ -119,7 +114,7 @@ unfolding entries run.get
 leaf-only w k y = leaves-put [] (k .path) (w k) y
 
 module _ {c : Config} {p : Pool} {m : List ℕ} {guest G : List ℕ → ℕ} {root : ℕ} {w : Held → ℕ} {hs : List Held} (h : Holds (shadowArea c) false p m (leafAt w hs) guest)
-    (a : AllStand c guest G root w hs) (k : Held) (f : Fits (shadowArea c) (leafAt w hs) (k .path)) (gs : List ℕ) (gg : Guests guest gs 0 [] (k .path))
+    (a : HeldEntries c guest G root w hs) (k : Held) (f : Fits (shadowArea c) (leafAt w hs) (k .path)) (gs : List ℕ) (gg : Guests guest gs 0 [] (k .path))
     (thin : w k < 4503599627370496) (present-new : present (w k) ≡ true) (room : c .levels ≤ c .shadows) where
   listed : Lists (upd (leafAt w hs) (onto [] (k .path)) (w k)) (paths (k ∷ hs))
   listed = subst (Lists (upd (leafAt w hs) (onto [] (k .path)) (w k))) (entries-paths w (k ∷ hs))
@@ -141,13 +136,13 @@ module _ {c : Config} {p : Pool} {m : List ℕ} {guest G : List ℕ → ℕ} {ro
 
       go : (b : Bool) → leb (shadowTables (k ∷ hs)) (c .shadows) ≡ b
           → Next (shadowArea c) false p m (leafAt w (cond b (k ∷ hs) (k ∷ []))) guest (insertedOf (shadowArea c) gs p m (k .path) (w k))
-      go true e = fits (insert-next h gs (k .path) (w k) f gg present-new (paths (k ∷ hs)) listed thin (leb-true _ _ e))
-      go false e = rw (insert-not h gs (k .path) (w k) f gg present-new (paths (k ∷ hs)) listed (leb-false _ _ e))
+      go true e = fits (insert-next h (k .path) (w k) f present-new (paths (k ∷ hs)) listed gs gg thin (leb-true _ _ e))
+      go false e = rw (insert-not h (k .path) (w k) f present-new (paths (k ∷ hs)) listed gs gg (leb-false _ _ e))
           (first (first-insert (shadowArea c) guest gs m (k .path) (w k) (h .tables .small) (h .tables .flat) (h .tables .long) (f .nonempty) (f .short) (let s = f .short in omega arith) (f .small) gg thin present-new))
 
 -- the new tables' headers name the guest tables of the walk over memory
 pub fill-is : {c : Config} {p : Pool} {m : List ℕ} {guest G : List ℕ → ℕ} {root : ℕ} {w : Held → ℕ} {hs : List Held} → Holds (shadowArea c) false p m (leafAt w hs) guest
-    → AllStand c guest G root w hs → (k : Held) → Fits (shadowArea c) (leafAt w hs) (k .path)
+    → HeldEntries c guest G root w hs → (k : Held) → Fits (shadowArea c) (leafAt w hs) (k .path)
     → ((y : List ℕ) → Ext y (onto [] (k .path)) → guest y ≡ frameAt (memoryWorld c m) root y)
     → w k < 4503599627370496 → present (w k) ≡ true → c .levels ≤ c .shadows → c .frames ≤ 65536
     → Next (shadowArea c) false p m (leafAt w (fill c k hs)) guest (fillOf c p m root (k .path) (w k))

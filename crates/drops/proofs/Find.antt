@@ -1,30 +1,32 @@
--- A held path is found in the shadow tables exactly if the book holds it; the bits of its entry.
+-- A held path is found in the shadow tables exactly if the book holds it.
 -- Assumes nothing.
 use mathlib.Core.Path.{_≡_, refl, sym, ap, _∙_, subst}
 use mathlib.Core.Logic.{_≢_}
-use Prim.Native.Nat.{ℕ, _+_, _*_, _/_, _%_, _^_, _<_}
+use Prim.Native.Nat.{ℕ, _<_, _≤_}
 use native.Mathlib.Omega.{arith}
+use native.Mathlib.Decide.{ℕ-discrete}
 use mathlib.Core.Bool.{Bool, true, false, cond}
 use mathlib.Core.List.{List, [], _∷_}
 use mathlib.Core.Option.{Option, none, some}
-use lib.Dec.{T, eqb}
+use lib.Dec.{T}
+use lib.ListN.{length}
 use Rattle.spec.specs.Config.{Config}
-use Rattle.spec.specs.Entry.{bitSet, present, writable, switch, frameOf}
-use Rattle.spec.specs.Prefix.{same}
+use Rattle.spec.specs.Entry.{writable, frameOf}
+use Rattle.spec.specs.Prefix.{begins, same}
 use Rattle.spec.specs.Book.{Held, find}
 use Rattle.laws.proofs.Lists.{All, same-is, same-refl}
 use Rattle.area.specs.declared.Pool.{Pool}
 use Rattle.host.specs.declared.HostWalk.{HostWalk}
 use Rattle.host.specs.declared.HostWalk.the-variants.{Found, Absent}
-use Rattle.host.specs.Walk.{page, leafOf, hostBy}
+use Rattle.host.specs.Walk.{page, leafOf}
 use Rattle.tree.specs.Run.{get}
-use Rattle.tree.proofs.Paths.{onto, turn-turn}
+use Rattle.tree.proofs.Paths.{onto, turn-turn, Small, Ext, ext-long}
 use Rattle.tree.proofs.Invariant.{present-zero, present-set}
 use Rattle.tree.proofs.Find.{steps}
 use Rattle.tree.proofs.Whole.{Holds, Fits, holds-look}
-use Rattle.shadow.specs.Held.{shadowArea, heldOf, entryFor}
+use Rattle.shadow.specs.Held.{shadowArea, heldOf}
 use Rattle.drops.proofs.Scan.{Leaves}
-use Rattle.drops.proofs.Held.{both-tests, entries, leafAt, AllStand, leaves-are}
+use Rattle.drops.proofs.Held.{both-tests, entries, leafAt, HeldEntries, HeldAt, leaf-held, leaves-are, ext-begins}
 
 -- ---- by leaves
 module _ (c : Config) {p : Pool} {m : List ℕ} {lv guest : List ℕ → ℕ} (h : Holds (shadowArea c) false p m lv guest) (is : List ℕ) (f : Fits (shadowArea c) lv is) where
@@ -37,6 +39,36 @@ module _ (c : Config) {p : Pool} {m : List ℕ} {lv guest : List ℕ → ℕ} (h
   leaf-absent e = rw (holds-look h is f, e, present-zero)
 
 -- ---- by the book
+-- a path that is no proper prefix of a held one, and of which none is one
+abbrev pub Apart : List ℕ → Held → Type 0
+Apart is h = (T (begins (h .path) is) → h .path ≡ is) × (T (begins is (h .path)) → is ≡ h .path)
+
+pub path-fits : (c : Config) (w : Held → ℕ) (hs : List Held) (is : List ℕ) → 0 < length is → length is ≤ c .levels → Small is → All (Apart is) hs
+    → Fits (shadowArea c) (leafAt w hs) is
+path-fits c w hs is n l s a = record {
+  nonempty = n;
+  short = l;
+  small = s;
+  apart = λ y. ((λ e. bare y (above y e) (ℕ-discrete (leafAt w hs y) 0)), (λ e. bare y (below y e) (ℕ-discrete (leafAt w hs y) 0)));
+}
+  where
+    bare : (y : List ℕ) → (HeldAt (Apart is) w hs y → ⊥) → Dec (leafAt w hs y ≡ 0) → leafAt w hs y ≡ 0
+    bare y f (yes e) = e
+    bare y f (no e) = absurd (f (leaf-held (Apart is) w hs y a e))
+
+    longer : (p q : List ℕ) → Ext (onto [] p) (onto [] q) → p ≢ q
+    longer p q e r = let k = ext-long (onto [] p) (onto [] q) e in let u = ap (λ z. length (onto [] z)) r in omega arith
+
+    above : (y : List ℕ) → Ext y (onto [] is) → HeldAt (Apart is) w hs y → ⊥
+    above y e r =
+        let k : Ext (onto [] (r .held .path)) (onto [] is) = subst (λ z. Ext z (onto [] is)) (sym (r .path)) e in
+        longer (r .held .path) is k (r .fact .0 (ext-begins (r .held .path) is k))
+
+    below : (y : List ℕ) → Ext (onto [] is) y → HeldAt (Apart is) w hs y → ⊥
+    below y e r =
+        let k : Ext (onto [] is) (onto [] (r .held .path)) = subst (Ext (onto [] is)) (sym (r .path)) e in
+        longer is (r .held .path) k (r .fact .1 (ext-begins is (r .held .path) k))
+
 -- the entry of what is found, and the answer to it; n words were read if there is none
 abbrev pub entryFound : (Held → ℕ) → Option Held → ℕ
 entryFound w none = 0
@@ -73,7 +105,7 @@ find-all P is k (h ∷ hs) a e = go (same is (h .path)) e (find-all P is k hs (a
 
 -- the tables answer as the book does: found if held, else absent, never damaged
 pub held-is : {c : Config} {p : Pool} {m : List ℕ} {guest G : List ℕ → ℕ} {root : ℕ} {w : Held → ℕ} {hs : List Held} (h : Holds (shadowArea c) false p m (leafAt w hs) guest)
-    → AllStand c guest G root w hs → (is : List ℕ) → Fits (shadowArea c) (leafAt w hs) is → heldOf c m (p .fresh) is ≡ answerFound w (find is hs) (steps (h .tabs) [] is)
+    → HeldEntries c guest G root w hs → (is : List ℕ) → Fits (shadowArea c) (leafAt w hs) is → heldOf c m (p .fresh) is ≡ answerFound w (find is hs) (steps (h .tabs) [] is)
 held-is {c = c} {p = p} {m = m} {w = w} {hs = hs} h a is f = go (find is hs) refl
   where
     go : (o : Option Held) → find is hs ≡ o → heldOf c m (p .fresh) is ≡ answerFound w o (steps (h .tabs) [] is)
@@ -81,54 +113,3 @@ held-is {c = c} {p = p} {m = m} {w = w} {hs = hs} h a is f = go (find is hs) ref
     go (some k) e =
         let q : leafAt w hs (onto [] is) ≡ w k = leaf-find w hs is ∙ ap (entryFound w) e in
         leaf-found c h is f (leaves-are a) (λ z. present-set (w k) (find-all _ is k hs (a .all) e .set) (sym q ∙ z)) ∙ ap (λ v. Found (page (frameOf v)) (writable v)) q
-
--- ---- the entry of a held path
-bit : (k : ℕ) (b : Bool) → k ≡ cond b 1 0 → eqb k 1 ≡ b
-bit k true e = rw e
-bit k false e = rw e
-
-module _ (f : ℕ) where
-  present-bit : (s v : Bool) → (f * 4096 + cond s 512 0 + cond v 2 0 + 1) / 2 ^ 0 % 2 ≡ cond true 1 0
-  present-bit true true = omega arith
-  present-bit true false = omega arith
-  present-bit false true = omega arith
-  present-bit false false = omega arith
-
-  pub entry-present : (s v : Bool) → present (entryFor f s v) ≡ true
-  unfolding entryFor present bitSet
-  entry-present s v = bit _ true (present-bit s v)
-
-  writable-bit : (s v : Bool) → (f * 4096 + cond s 512 0 + cond v 2 0 + 1) / 2 ^ 1 % 2 ≡ cond v 1 0
-  writable-bit true true = omega arith
-  writable-bit true false = omega arith
-  writable-bit false true = omega arith
-  writable-bit false false = omega arith
-
-  pub entry-writable : (s v : Bool) → writable (entryFor f s v) ≡ v
-  unfolding entryFor writable bitSet
-  entry-writable s v = bit _ v (writable-bit s v)
-
-  switch-bit : (s v : Bool) → (f * 4096 + cond s 512 0 + cond v 2 0 + 1) / 2 ^ 9 % 2 ≡ cond s 1 0
-  switch-bit true true = omega arith
-  switch-bit true false = omega arith
-  switch-bit false true = omega arith
-  switch-bit false false = omega arith
-
-  pub entry-switch : (s v : Bool) → switch (entryFor f s v) ≡ s
-  unfolding entryFor switch bitSet
-  entry-switch s v = bit _ s (switch-bit s v)
-
-  pub entry-frame : (s v : Bool) → f < 1099511627776 → frameOf (entryFor f s v) ≡ f
-  unfolding entryFor frameOf
-  entry-frame true true l = omega arith
-  entry-frame true false l = omega arith
-  entry-frame false true l = omega arith
-  entry-frame false false l = omega arith
-
-  -- it leaves the header's bits alone
-  pub entry-small : (s v : Bool) → f < 1099511627776 → entryFor f s v < 4503599627370496
-  unfolding entryFor
-  entry-small true true l = omega arith
-  entry-small true false l = omega arith
-  entry-small false true l = omega arith
-  entry-small false false l = omega arith

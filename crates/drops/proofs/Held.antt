@@ -1,7 +1,7 @@
 -- The held paths of the book as leaves of the shadow tables. What a drop of the book leaves is what is under no cut.
 -- A path or prefix of a table is written last index first, a held path from the top.
 -- Assumes nothing.
-use mathlib.Core.Path.{_≡_, refl, sym, ap, _∙_, subst}
+use mathlib.Core.Path.{_≡_, refl, sym, ap, ap₂, _∙_, subst}
 use mathlib.Core.Logic.{_≢_, _⊎_, inl, inr}
 use Prim.Native.Nat.{ℕ, _≤_}
 use native.Mathlib.Omega.{arith}
@@ -15,6 +15,7 @@ use Rattle.spec.specs.Prefix.{begins, same, any, keep, propers}
 use Rattle.spec.specs.Refusal.{inGuestArea}
 use Rattle.spec.specs.Book.{Held, readsWord, usesMapping, dropWord, dropMapping, dropPrefix}
 use Rattle.laws.proofs.Lists.{All, all-map, all-any, all-keep, begins-refl, same-is, same-refl, is-true, is-false, or-cases, or-left, or-right}
+use Rattle.laws.proofs.Distinct.{In}
 use Rattle.laws.proofs.Trail.{readsFrom, usesFrom}
 use Rattle.tree.specs.Run.{Map, get}
 use Rattle.tree.proofs.Change.{differ, no-empty}
@@ -44,7 +45,7 @@ leaf-none w q = refl
 
 -- a held path and its entry e, as the shadow tables have it: T gives the host frames of the guest tables, G the guest frames
 -- that guest entries name, both by prefix
-pub record Stands (c : Config) (T G : List ℕ → ℕ) (root e : ℕ) (h : Held) : Type 0 where
+pub record HeldEntry (c : Config) (T G : List ℕ → ℕ) (root e : ℕ) (h : Held) : Type 0 where
   pub set : present e ≡ true
   pub area : inGuestArea c (frameOf e) ≡ true
   pub ends : switch e ≡ ltb (length (h .path)) (c .levels)
@@ -54,11 +55,11 @@ pub record Stands (c : Config) (T G : List ℕ → ℕ) (root e : ℕ) (h : Held
   pub inside : All (λ r. guestBase c ≤ r .0) (h .reads)
 
 -- all of them
-pub record AllStand (c : Config) (T G : List ℕ → ℕ) (root : ℕ) (w : Held → ℕ) (hs : List Held) : Type 0 where
-  pub all : All (λ h. Stands c T G root (w h) h) hs
+pub record HeldEntries (c : Config) (T G : List ℕ → ℕ) (root : ℕ) (w : Held → ℕ) (hs : List Held) : Type 0 where
+  pub all : All (λ h. HeldEntry c T G root (w h) h) hs
 
-pub keep-stand : {c : Config} {F G : List ℕ → ℕ} {root : ℕ} {w : Held → ℕ} {hs : List Held} (f : Held → Bool) → AllStand c F G root w hs → AllStand c F G root w (keep f hs)
-keep-stand {hs = hs} f a = record { all = all-map _ _ (keep f hs) (λ h k. k .0) (all-keep _ f hs (a .all)) }
+pub entries-keep : {c : Config} {F G : List ℕ → ℕ} {root : ℕ} {w : Held → ℕ} {hs : List Held} (f : Held → Bool) → HeldEntries c F G root w hs → HeldEntries c F G root w (keep f hs)
+entries-keep {hs = hs} f a = record { all = all-map _ _ (keep f hs) (λ h k. k .0) (all-keep _ f hs (a .all)) }
 
 -- where a leaf stands a path is held
 pub record HeldAt (P : Held → Type 0) (w : Held → ℕ) (hs : List Held) (q : List ℕ) : Type 0 where
@@ -115,7 +116,7 @@ any-leaf P w D s (h ∷ hs) a n = elim (or-cases (D h) (any D hs) n) [
         go true = s h (a .0)
         go false = r .leaf
 
-pub leaves-are : {c : Config} {F G : List ℕ → ℕ} {root : ℕ} {w : Held → ℕ} {hs : List Held} → AllStand c F G root w hs → Leaves c (leafAt w hs)
+pub leaves-are : {c : Config} {F G : List ℕ → ℕ} {root : ℕ} {w : Held → ℕ} {hs : List Held} → HeldEntries c F G root w hs → Leaves c (leafAt w hs)
 leaves-are {c = c} {w = w} {hs = hs} a = record {
   area = λ y n. let r = leaf-held _ w hs y (a .all) n in rw (r .entry) (r .fact .area);
   ends = λ y n.
@@ -125,6 +126,12 @@ leaves-are {c = c} {w = w} {hs = hs} a = record {
       let e : length (r .held .path) ≡ length y = omega arith in
       rw (r .entry) (r .fact .ends ∙ ap (λ k. ltb k (c .levels)) e);
 }
+
+-- the same entries, the same leaves
+pub leaf-same : (w v : Held → ℕ) (hs : List Held) → All (λ h. w h ≡ v h) hs → (q : List ℕ) → leafAt w hs q ≡ leafAt v hs q
+unfolding entries get
+leaf-same w v [] a q = refl
+leaf-same w v (h ∷ hs) a q = ap₂ (cond (same (h .path) (onto [] q))) (a .0) (leaf-same w v hs (a .1) q)
 
 -- ---- what a drop leaves
 pub keep-leaf : (w : Held → ℕ) (C : List ℕ → Bool) (D : Held → Bool) (hs : List Held) (q : List ℕ) → All (λ h. D h ≡ under C (onto [] (h .path))) hs
@@ -209,6 +216,10 @@ prefix-under z (i ∷ q) n h = go (same (i ∷ q) z) refl h (prefix-under z q n)
     go false e (inl k) ih = differ (sym (ap (same (i ∷ q)) k ∙ is-true (same (i ∷ q) (i ∷ q)) (same-refl (i ∷ q))) ∙ e)
     go false e (inr k) ih = ih k
 
+-- a proper prefix, from the top and last index first
+pub ext-begins : (p q : List ℕ) → Ext (onto [] p) (onto [] q) → T (begins p q)
+ext-begins p q e = propers-begins p q (subst (λ z. In z (propers q)) (turn-turn p) (ext-propers (onto [] p) q e))
+
 pub prefix-cut : (is : List ℕ) (h : Held) → is ≢ [] → begins is (h .path) ≡ under (cutPrefix (onto [] is)) (onto [] (h .path))
 prefix-cut is h n = both-tests _ _ there back
   where
@@ -220,12 +231,9 @@ prefix-cut is h n = both-tests _ _ there back
 
     back : T (under (cutPrefix (onto [] is)) (onto [] (h .path))) → T (begins is (h .path))
     back b = elim (under-prefix (onto [] is) (onto [] (h .path)) b) [
-      | inl e ↦ begins-same is (h .path) (sym (turn-turn is) ∙ ap (onto []) e ∙ turn-turn (h .path))
-      | inr e ↦ propers-begins is (h .path) (subst (λ z. T (any (same z) (propers (h .path)))) (turn-turn is) (ext-propers (onto [] is) (h .path) e))
+      | inl e ↦ subst (λ z. T (begins is z)) (sym (turn-turn is) ∙ ap (onto []) e ∙ turn-turn (h .path)) (begins-refl is)
+      | inr e ↦ ext-begins is (h .path) e
     ]
-      where
-        begins-same : (p q : List ℕ) → p ≡ q → T (begins p q)
-        begins-same p q e = subst (λ z. T (begins p z)) e (begins-refl p)
 
 -- ---- the three drops of the book
 module _ (w : Held → ℕ) (hs : List Held) (q : List ℕ) where

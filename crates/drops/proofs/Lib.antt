@@ -4,3 +4,4 @@ pub mod Watch
 pub mod Find
 pub mod Drops
 pub mod Fill
+pub mod Valid

@@ -33,6 +33,7 @@ use Rattle.shadow.specs.Held.{shadowArea}
 use Rattle.shadow.specs.Cut.{isLeaf, kindOf, cutOf, lowOf, endOf, touchOf, aboveOf, upBy, upFrom}
 use Rattle.shadow.specs.Drop as drop
 use Rattle.shadow.specs.Drop.{Outcome, cleared, outcome, clearBy, goesOf, clearOne, clearFrom, settleOf, sweepOf, visitBy, visitOf, scanFrom, scanOf}
+use Rattle.shadow.proofs.Laws.{range-fits}
 
 -- is the entry at a path, or one above it, cut?
 abbrev pub under : (List ℕ → Bool) → List ℕ → Bool
@@ -120,11 +121,6 @@ cut-range m (Slot t i) f j l e = go (eqb j (i % 512)) refl e
     go : (b : Bool) → eqb j (i % 512) ≡ b → cond b (eqb f (t .0)) false ≡ true → Range m (Slot t i) f j
     go true q h = let s = eqb-true j (i % 512) q in record { touched = h; from = omega arith; to = omega arith }
     go false q h = differ (sym h)
-
-pub range-fits : (x : Cut) → (lowOf x ≤ endOf x) × (endOf x ≤ 512)
-range-fits (Word t i) = (omega arith, omega arith)
-range-fits (Names g) = (omega arith, omega arith)
-range-fits (Slot t i) = (omega arith, omega arith)
 
 -- the cut x is C at each entry of the tables ts, also in a memory that differs in the area of shadow tables
 abbrev pub Cuts : Config → Cut → (List ℕ → Bool) → (List ℕ → Option ℕ) → (List ℕ → ℕ) → List ℕ → Type 0

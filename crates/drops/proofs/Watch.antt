@@ -24,7 +24,7 @@ use Rattle.tree.proofs.Invariant.{present-set, Leaf}
 use Rattle.tree.proofs.Whole.{Holds, above-leaf}
 use Rattle.shadow.specs.Held.{shadowArea}
 use Rattle.shadow.specs.Cut.{watchesOf, watchedFrom, watchedOf}
-use Rattle.drops.proofs.Held.{both-tests, leafAt, Stands, AllStand, leaf-any, leaf-held, any-leaf}
+use Rattle.drops.proofs.Held.{both-tests, leafAt, HeldEntry, HeldEntries, leaf-any, leaf-held, any-leaf}
 
 -- ---- the guest tables whose words are read on the way of a path: those of its proper prefixes
 record ReadAt (t : ℕ) (F : List ℕ → ℕ) (x is : List ℕ) : Type 0 where
@@ -50,11 +50,11 @@ pre-inside P F (i ∷ is) x y a (inl h) = subst (λ z. P (F z)) (sym h) (a .0)
 pre-inside P F (i ∷ is) x y a (inr h) = pre-inside P F is (i ∷ x) y (a .1) h
 
 -- a proper prefix, from the empty one on
-ext-on : (y is : List ℕ) → Ext y (onto [] is) → Pre y [] is
+pub ext-on : (y is : List ℕ) → Ext y (onto [] is) → Pre y [] is
 ext-on y is h = elim (ext-pre y [] is h) [ inl k ↦ absurd k | inr k ↦ k ]
 
 -- the guest table of a prefix above a leaf is in the guest area
-pub guest-inside : {c : Config} {F G : List ℕ → ℕ} {root : ℕ} {w : Held → ℕ} {hs : List Held} → AllStand c F G root w hs → (y : List ℕ) → Leaf (leafAt w hs) y → guestBase c ≤ F y
+pub guest-inside : {c : Config} {F G : List ℕ → ℕ} {root : ℕ} {w : Held → ℕ} {hs : List Held} → HeldEntries c F G root w hs → (y : List ℕ) → Leaf (leafAt w hs) y → guestBase c ≤ F y
 guest-inside {c = c} {F = F} {w = w} {hs = hs} a y l =
     let r = leaf-held _ w hs (l .path) (a .all) (l .set) in
     pre-inside (λ f. guestBase c ≤ f) F (r .held .path) [] y (subst (All (λ (x : ℕ × ℕ). guestBase c ≤ x .0)) (r .fact .reads) (r .fact .inside))
@@ -97,7 +97,7 @@ found-watched m b t (suc k) f lo hi n e = go (ℕ-discrete f (b + k)) (λ l. fou
 
 -- "A host frame is watched while the shadow part of some held path reads a guest entry in it"
 pub watched-is : {c : Config} {p : Pool} {m : List ℕ} {guest G : List ℕ → ℕ} {root : ℕ} {w : Held → ℕ} {hs : List Held}
-    → Holds (shadowArea c) false p m (leafAt w hs) guest → AllStand c guest G root w hs → (t : ℕ) → watchedOf c m (p .fresh) t ≡ watched t hs
+    → Holds (shadowArea c) false p m (leafAt w hs) guest → HeldEntries c guest G root w hs → (t : ℕ) → watchedOf c m (p .fresh) t ≡ watched t hs
 unfolding watchedOf
 watched-is {c = c} {p = p} {m = m} {guest = guest} {w = w} {hs = hs} h a t = both-tests _ _ there back
   where
