@@ -55,7 +55,7 @@ pub record Maps (c : Config) (xs : List Mapping) (p : Pool) (m : List ℕ) : Typ
 frame-small : (c : Config) (g : ℕ) → g < 2 ^ frameBits c → g < 2 ^ (9 * c .levels)
 frame-small c g h = let w : 2 ^ frameBits c ≤ 2 ^ (9 * c .levels) = pow-mono (omega arith) in omega arith
 
-lookup-inside : (c : Config) (g : ℕ) (xs : List Mapping) (r : Place) → All (λ (x : Mapping). InGuestArea c (x .to)) xs → lookup g xs ≡ some r → InGuestArea c (r .0)
+pub lookup-inside : (c : Config) (g : ℕ) (xs : List Mapping) (r : Place) → All (λ (x : Mapping). InGuestArea c (x .to)) xs → lookup g xs ≡ some r → InGuestArea c (r .0)
 lookup-inside c g [] r a e = let z : _≡_ {A = ℕ} 0 1 = cc in absurd (omega arith)
 lookup-inside c g (x ∷ xs) r a e = go (eqb g (x .guest)) e (lookup-inside c g xs r (a .1))
   where

@@ -1,0 +1,90 @@
+-- The record and the lent memory stand for machine and book: what every granted opening has and every call keeps.
+-- Assumes nothing.
+use mathlib.Core.Path.{_≡_, refl, sym, ap, _∙_, subst}
+use Prim.Native.Nat.{ℕ, _+_, _*_, _^_, _<_, _≤_}
+use native.Mathlib.Omega.{arith}
+use mathlib.Core.Bool.{Bool, true, false, cond}
+use mathlib.Core.List.{List, [], _∷_}
+use mathlib.Core.Option.{Option, none, some}
+use lib.Dec.{T, ltb}
+use lib.ListN.{length, drop}
+use Rattle.spec.specs.Config.{Config, guestBase, frameBits}
+use Rattle.spec.specs.Answer.{Line, line}
+use Rattle.spec.specs.Prefix.{keep}
+use Rattle.spec.specs.Plain.{Place}
+use Rattle.spec.specs.Machine.{Machine, Mapping, lookup}
+use Rattle.spec.specs.Book.{Held, Book, find}
+use Rattle.spec.specs.Call.{Call, root, map, unmap, setMark, clearMark, load, store, device}
+use Rattle.spec.specs.Run.{State, step}
+use Rattle.laws.proofs.Lists.{All}
+use Rattle.laws.proofs.Asks.{AnswerIn}
+use Rattle.laws.proofs.Keeps.{Valid}
+use Rattle.laws.proofs.Runs.{BookFits}
+use Rattle.area.specs.declared.Pool.{Pool}
+use Rattle.tree.proofs.Whole.{Holds}
+use Rattle.host.proofs.Laws.{InGuestArea}
+use Rattle.host.proofs.Mapping.{Maps, walk-is, lookup-inside}
+use Rattle.walk.proofs.Stands.{Stands}
+use Rattle.marks.specs.Reading.{marksOf}
+use Rattle.marks.proofs.Order.{SameMembers}
+use Rattle.record.specs.declared.Record.{Record}
+use Rattle.record.specs.Record.{levels, configOf, fitsOf}
+use Rattle.record.proofs.Rules.{Fits, fits-layout}
+use Rattle.shadow.specs.Held.{shadowArea}
+use Rattle.drops.proofs.Held.{leafAt}
+use Rattle.drops.proofs.Valid.{framesAt, entryOf}
+use Rattle.unit.specs.Calls.{Ended, loadOf, storeCall, deviceCall, rootCall, mapCall, unmapCall, setMarkCall, clearMarkCall}
+
+-- the held paths that stand in the shadow tables: those with an index; the one of no index stands in the record
+abbrev pub longer : List Held → List Held
+longer hs = keep (λ (h : Held). ltb 0 (length (h .path))) hs
+
+abbrev pub topBy : ℕ → Option Held → ℕ
+topBy f none = 0
+topBy f (some h) = f
+
+-- the host frames by prefix, as a walk over memory reaches them
+abbrev pub frames : Record → List ℕ → List ℕ → ℕ
+frames r m = framesAt (configOf r) m (r .root)
+
+pub record Inv (s : State) (r : Record) (m : List ℕ) : Type 0 where
+  pub fits : fitsOf r (length m) ≡ true
+  pub word : r .marks .set < 2 ^ 64
+  pub root : r .root ≡ s .machine .root
+  pub maps : Maps (configOf r) (s .machine .mappings) (r .host) m
+  pub area : drop (512 * guestBase (configOf r)) m ≡ s .machine .area
+  pub book : BookFits (configOf r) (s .book)
+  pub valid : All (Valid (configOf r) (s .machine)) (s .book .held)
+  pub marks : SameMembers (marksOf levels (r .marks)) (s .book .marks)
+  pub shadow : Holds (shadowArea (configOf r)) false (r .shadow) m (leafAt (entryOf (configOf r) (frames r m)) (longer (s .book .held))) (frames r m)
+  pub top : r .top ≡ topBy (frames r m []) (find [] (s .book .held))
+
+-- the host tables and the guest area stand for the machine
+pub stands : (c : Config) (s : Machine) (p : Pool) (m : List ℕ) → Maps c (s .mappings) p m → drop (512 * guestBase c) m ≡ s .area → Stands c s m
+stands c s p m h e = record {
+  tables = walk-is c (s .mappings) p m h;
+  inside = λ g. go g (lookup g (s .mappings)) refl;
+  area = e;
+}
+  where
+    go : (g : ℕ) (o : Option Place) → lookup g (s .mappings) ≡ o → AnswerIn (InGuestArea c) o
+    go g none q = tt
+    go g (some x) q = lookup-inside c g (s .mappings) x (h .inside) q
+
+-- ---- what a call of the unit does, and that it follows the specification's step
+
+unfoldable pub callOf : Call → Record → List ℕ → Ended
+callOf (root g) r m = rootCall r m g
+callOf (map g f w) r m = mapCall r m g f w
+callOf (unmap g) r m = unmapCall r m g
+callOf (setMark a n) r m = setMarkCall r m a n
+callOf (clearMark a n) r m = clearMarkCall r m a n
+callOf (load a) r m = loadOf r m a
+callOf (store a v) r m = storeCall r m a v
+callOf (device a v) r m = deviceCall r m a v
+
+-- the call x, which leaves e, says what the specification's step says, and keeps the invariant
+pub record Follows (x : Call) (s : State) (r : Record) (e : Ended) : Type 0 where
+  pub config : configOf (e .reply .unit) ≡ configOf r
+  pub says : line (e .reply .answer) ≡ (step (configOf r) x s) .0
+  pub next : Inv ((step (configOf r) x s) .1) (e .reply .unit) (e .memory)

@@ -1,0 +1,1 @@
+// The claims about the unit over whole runs; no code.
