@@ -2,7 +2,7 @@
 -- The held paths of these laws have an index at least; a held path without one stands in the record, and is told of at the end.
 -- Assumes nothing.
 use mathlib.Core.Path.{_≡_, refl, sym, ap, _∙_, subst}
-use mathlib.Core.Logic.{_≢_, _⊎_, inl, inr}
+use mathlib.Core.Logic.{_≢_, inl, inr}
 use Prim.Native.Nat.{ℕ, zero, suc, _+_, _%_, _<_, _≤_}
 use native.Mathlib.Omega.{arith}
 use native.Mathlib.Decide.{ℕ-discrete}
@@ -12,7 +12,7 @@ use mathlib.Core.Option.{Option, none, some, IsSome}
 use lib.Dec.{T, eqb, eqb-refl}
 use lib.ListN.{length}
 use borrow.Author.Tests.{eq-eqb, ne-eqb}
-use Rattle.spec.specs.Config.{Config, guestBase}
+use Rattle.spec.specs.Config.{Config}
 use Rattle.spec.specs.Entry.{frameOf}
 use Rattle.spec.specs.Prefix.{begins, same, any, keep}
 use Rattle.spec.specs.Book.{Held, readsWord, readsFrame, usesMapping, dropWord, dropMapping, dropPrefix}
@@ -21,22 +21,20 @@ use Rattle.laws.proofs.Trail.{readsFrom, usesFrom}
 use Rattle.entry.specs.declared.GuestPhysical.{GuestPhysical}
 use Rattle.words.specs.Words.{wordIn}
 use Rattle.area.specs.declared.Pool.{Pool}
-use Rattle.area.specs.declared.Way.{Way}
 use Rattle.area.specs.declared.Way.the-variants as way
-use Rattle.area.specs.Header.{entryIn, guestOf}
+use Rattle.area.specs.Header.{entryIn}
 use Rattle.area.specs.Pool.{onWay, noneOf}
 use Rattle.area.specs.Tree.{topOf}
 use Rattle.area.specs.Remove.{lastIndex}
 use Rattle.host.specs.Walk.{page}
 use Rattle.tree.proofs.Change.{differ, is-some, some-inj, no-empty}
-use Rattle.tree.proofs.Stores.{Beside, beside-refl}
+use Rattle.tree.proofs.Stores.{beside-refl}
 use Rattle.tree.proofs.Paths.{onto, Small, Ext, ext-trans}
 use Rattle.tree.proofs.Invariant.{slot, Leaf, none-below}
 use Rattle.tree.proofs.Remove.{front, front-last, last-small, front-none}
 use Rattle.tree.proofs.Remove as remove
 use Rattle.tree.proofs.Whole.{Holds, holds-none, holds-leaves, above-leaf}
 use Rattle.tree.proofs.Hosts.{eqb-sym}
-use Rattle.shadow.specs.declared.Kind.{Kind}
 use Rattle.shadow.specs.declared.Cut.{Cut}
 use Rattle.shadow.specs.declared.Cut.the-variants.{Word, Names, Slot}
 use Rattle.shadow.specs.Held.{shadowArea}

@@ -1,25 +1,22 @@
 -- A fill is the book's: the new path stands, and the others with it exactly if the tables find room.
 -- Assumes nothing.
-use mathlib.Core.Path.{_≡_, refl, sym, ap, ap₂, _∙_, subst}
-use mathlib.Core.Logic.{_≢_, _⊎_, inl, inr}
+use mathlib.Core.Path.{_≡_, refl, sym, ap, _∙_, subst}
+use mathlib.Core.Logic.{inl, inr}
 use Prim.Native.Nat.{ℕ, suc, _+_, _<_, _≤_}
 use native.Mathlib.Omega.{arith}
 use mathlib.Core.Bool.{Bool, true, false, cond}
 use mathlib.Core.List.{List, [], _∷_}
-use mathlib.Core.Option.{Option, none, some}
 use lib.Dec.{leb}
 use lib.ListN.{length, getD, take}
 use borrow.Author.Tests.{leb-true, leb-false}
-use Rattle.spec.specs.Config.{Config, guestBase}
+use Rattle.spec.specs.Config.{Config}
 use Rattle.spec.specs.Entry.{present, frameOf}
-use Rattle.spec.specs.Prefix.{tablesOf}
-use Rattle.spec.specs.Walk.{World}
 use Rattle.spec.specs.Book.{Held, paths, shadowTables, fill}
 use Rattle.laws.proofs.Lists.{All, all-map}
 use Rattle.laws.proofs.Trail.{frameIn, frameAt}
 use Rattle.words.specs.Words.{wordIn}
 use Rattle.area.specs.declared.Pool.{Pool}
-use Rattle.area.specs.Pool.{End, noneOf}
+use Rattle.area.specs.Pool.{noneOf}
 use Rattle.area.specs.Tree.{insertOf}
 use Rattle.host.specs.declared.HostWalk.{HostWalk}
 use Rattle.host.specs.declared.HostWalk.the-variants.{Found, Absent, Damaged}
@@ -31,11 +28,11 @@ use Rattle.tree.proofs.Change.{upd}
 use Rattle.tree.proofs.Paths.{onto, Pre, Ext, pre-ext, Guests}
 use Rattle.tree.proofs.Whole.{Holds, Fits, Next, next-leaves, first-insert}
 use Rattle.tree.proofs.Count.{Lists, insert-next, insert-not}
-use Rattle.tree.proofs.Claim.{leaves, Solid, map-lists, leaves-put}
+use Rattle.tree.proofs.Claim.{Solid, map-lists, leaves-put}
 use Rattle.shadow.specs.Held.{shadowArea}
 use Rattle.shadow.specs.Fill.{frameFound, mappedOf, belowOf, tableAfter, trailOf, insertedOf, fillOf}
 use Rattle.shadow.proofs.Parts.{trail-at}
-use Rattle.drops.proofs.Held.{entries, leafAt, HeldEntry, HeldEntries}
+use Rattle.drops.proofs.Held.{entries, leafAt, HeldEntries}
 
 -- ---- the guest tables on the way, as the walk over memory goes through them
 found-place : (r : HostWalk) → frameFound r ≡ frameIn (placeOf r)

@@ -7,7 +7,7 @@ use Prim.Native.Nat.{ℕ, _≤_}
 use native.Mathlib.Omega.{arith}
 use mathlib.Core.Bool.{Bool, true, false, not, _&&_, _||_, cond}
 use mathlib.Core.List.{List, [], _∷_}
-use lib.Dec.{T, eqb, ltb, eqb→eq, eqb-refl}
+use lib.Dec.{T, eqb, ltb}
 use lib.ListN.{length}
 use Rattle.spec.specs.Config.{Config, guestBase}
 use Rattle.spec.specs.Entry.{present, switch, frameOf}
@@ -18,8 +18,8 @@ use Rattle.laws.proofs.Lists.{All, all-map, all-any, all-keep, begins-refl, sam
 use Rattle.laws.proofs.Distinct.{In}
 use Rattle.laws.proofs.Trail.{readsFrom, usesFrom}
 use Rattle.tree.specs.Run.{Map, get}
-use Rattle.tree.proofs.Change.{differ, no-empty}
-use Rattle.tree.proofs.Paths.{onto, onto-long, turn-turn, turn-none, Pre, Ext}
+use Rattle.tree.proofs.Change.{differ}
+use Rattle.tree.proofs.Paths.{onto, onto-long, turn-turn, turn-none, Ext}
 use Rattle.tree.proofs.Count.{propers-ext, ext-propers, propers-begins, begins-propers}
 use Rattle.tree.proofs.Claim.{leaves}
 use Rattle.drops.proofs.Scan.{under, Leaves}

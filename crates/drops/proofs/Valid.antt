@@ -1,28 +1,28 @@
 -- Held paths that are valid on the machine, where memory stands for it: what the shadow tables must have of them.
 -- Assumes nothing.
-use mathlib.Core.Path.{_≡_, refl, sym, ap, ap₂, _∙_, subst}
-use mathlib.Core.Logic.{_≢_, _⊎_, inl, inr}
-use Prim.Native.Nat.{ℕ, _+_, _^_, _<_, _≤_}
+use mathlib.Core.Path.{_≡_, refl, sym, ap, _∙_, subst}
+use mathlib.Core.Logic.{inl, inr}
+use Prim.Native.Nat.{ℕ, _^_, _<_, _≤_}
 use native.Mathlib.Omega.{arith}
-use mathlib.Core.Bool.{Bool, true, false, _&&_}
+use mathlib.Core.Bool.{true, false, not}
 use mathlib.Core.List.{List, [], _∷_, head-eq-of-cons-eq, tail-eq-of-cons-eq}
-use lib.Dec.{T, leb, ltb}
+use lib.Dec.{T, eqb, ltb}
 use lib.ListN.{length}
 use borrow.Author.Tests.{le-leb, lt-ltb}
 use Rattle.spec.specs.declared.Fault.{Fault}
 use Rattle.spec.specs.Config.{Config, guestBase, frameBits}
 use Rattle.spec.specs.Entry.{frameOf}
 use Rattle.spec.specs.Refusal.{inGuestArea}
-use Rattle.spec.specs.Walk.{World, Trace, Result, granted, trace}
+use Rattle.spec.specs.Walk.{World, Trace, granted, trace}
 use Rattle.spec.specs.Plain.{Place, walk}
-use Rattle.spec.specs.Machine.{Machine, world}
-use Rattle.spec.specs.Book.{Held}
-use Rattle.laws.proofs.Lists.{All, all-map, all-both}
+use Rattle.spec.specs.Machine.{Machine, Mapping, lookup, world, stored, remapped}
+use Rattle.spec.specs.Book.{Held, readsWord, usesMapping}
+use Rattle.laws.proofs.Lists.{All, all-map, all-any, all-both, none-passes, not-eqb}
 use Rattle.laws.proofs.Trail as trail
-use Rattle.laws.proofs.Trail.{frameAt, namedAt, readsFrom, usesFrom, walk-trail}
+use Rattle.laws.proofs.Trail.{frameIn, frameAt, namedAt, readsFrom, usesFrom, walk-trail}
 use Rattle.laws.proofs.Local.{Seen, seen}
 use Rattle.laws.proofs.Asks.{walk-asks}
-use Rattle.laws.proofs.Keeps.{Valid, again, booked, InArea, shadow-asked}
+use Rattle.laws.proofs.Keeps.{Valid, again, InArea, MappedIn, shadow-asked, store-keeps, mapping-keeps}
 use Rattle.area.specs.declared.Pool.{Pool}
 use Rattle.host.proofs.Laws.{InGuestArea}
 use Rattle.walk.specs.Memory.{memoryWorld}
@@ -131,11 +131,68 @@ module _ (c : Config) (s : Machine) (m : List ℕ) (st : Stands c s m) (small : 
   valid-entries hs a = record { all = all-map _ _ hs valid-entry a }
 
 -- ---- from one machine to the next
--- a held path that is valid on both, and leads to the same frame
+-- the last element, or x
+unfoldable lastOr : ℕ → List ℕ → ℕ
+lastOr x [] = x
+lastOr x (y ∷ ys) = lastOr y ys
+
+all-last : (P : ℕ → Type 0) (x : ℕ) (ys : List ℕ) → P x → All P ys → P (lastOr x ys)
+unfolding lastOr
+all-last P x [] p a = p
+all-last P x (y ∷ ys) p a = all-last P y ys (a .0) (a .1)
+
+-- a path leads to what the last mapping that it used says
+frame-last : (w : World) (root : ℕ) (is q : List ℕ) → frameAt w root (trail.onto q is) ≡ frameIn (w .hostAt (lastOr (namedAt w root q) (usesFrom (namedAt w root) q is)))
+unfolding lastOr frameAt namedAt
+frame-last w root [] [] = refl
+frame-last w root [] (j ∷ q) = refl
+frame-last w root (i ∷ is) q = frame-last w root is (i ∷ q)
+
+-- a held path that is valid on both machines, and whose mappings are the same
 pub record Stays (c : Config) (s t : Machine) (h : Held) : Type 0 where
   pub before : Valid c s h
   pub after : Valid c t h
-  pub frame : before .frame ≡ after .frame
+  pub mapped : All (λ g. lookup g (t .mappings) ≡ lookup g (s .mappings)) (h .uses)
+
+module _ (c : Config) (s : Machine) (h : Held) (v : Valid c s h) where
+  trail-valid : (h .uses ≡ s .root ∷ usesFrom (namedAt (world c s) (s .root)) [] (h .path)) × (v .frame ≡ frameAt (world c s) (s .root) (trail.onto [] (h .path)))
+  unfolding again seen
+  trail-valid =
+      let t = walk-trail (world c s) c (s .root) false (h .path) (v .frame, h .right) (ap (λ (x : Seen Fault Place). x .result) (v .comes)) in
+      (sym (ap (λ (x : Seen Fault Place). x .uses) (v .comes)) ∙ t .1, t .2)
+
+  valid-last : v .frame ≡ frameIn (lookup (lastOr 0 (h .uses)) (s .mappings))
+  unfolding world namedAt lastOr
+  valid-last =
+      let e = trail-valid .0 in
+      trail-valid .1 ∙ frame-last (world c s) (s .root) (h .path) [] ∙ ap (λ us. frameIn (lookup (lastOr 0 us) (s .mappings))) (sym e)
+
+-- it leads to the same frame
+stays-frame : (c : Config) (s t : Machine) (h : Held) (v : Stays c s t h) → v .before .frame ≡ v .after .frame
+unfolding lastOr
+stays-frame c s t h v =
+    let e = trail-valid c s h (v .before) .0 in
+    let k : lookup (lastOr 0 (h .uses)) (t .mappings) ≡ lookup (lastOr 0 (h .uses)) (s .mappings) =
+    subst (λ us. All (λ g. lookup g (t .mappings) ≡ lookup g (s .mappings)) us → lookup (lastOr 0 us) (t .mappings) ≡ lookup (lastOr 0 us) (s .mappings)) (sym e)
+    (λ a. all-last (λ g. lookup g (t .mappings) ≡ lookup g (s .mappings)) (s .root) (usesFrom (namedAt (world c s) (s .root)) [] (h .path)) (a .0) (a .1)) (v .mapped) in
+    valid-last c s h (v .before) ∙ sym (ap frameIn k) ∙ sym (valid-last c t h (v .after))
+
+pub stays-same : (c : Config) (s : Machine) (h : Held) → Valid c s h → Stays c s s h
+stays-same c s h v = record { before = v; after = v; mapped = all-any _ (h .uses) (λ g. refl) }
+
+-- a store to a word that it did not read
+pub stays-store : (c : Config) (s : Machine) (t i v : ℕ) (h : Held) → MappedIn c s → s .root < 2 ^ frameBits c → guestBase c ≤ t → i < 512
+    → Valid c s h → T (not (readsWord t i h)) → Stays c s (stored c s t i v) h
+stays-store c s t i v h mi rb bt bi va nr = record { before = va; after = store-keeps c s t i v h mi rb bt bi va nr; mapped = all-any _ (h .uses) (λ g. refl) }
+
+-- a change of a mapping that it did not use
+pub stays-mapping : (c : Config) (s : Machine) (xs : List Mapping) (g : ℕ) (h : Held) → ((f : ℕ) → (f ≡ g → ⊥) → lookup f xs ≡ lookup f (s .mappings))
+    → Valid c s h → T (not (usesMapping g h)) → Stays c s (remapped s xs) h
+stays-mapping c s xs g h same va nu = record {
+  before = va;
+  after = mapping-keeps c s xs g h same va nu;
+  mapped = all-map _ _ (h .uses) (λ f k. same f (λ e. not-eqb g f k (sym e))) (none-passes (eqb g) (h .uses) nu);
+}
 
 -- the tables that stand for the held paths on one machine stand for them on the other
 pub holds-on : {c : Config} {p : Pool} {o : List ℕ} (hs : List Held) (s t : Machine) (m n : List ℕ) (sm : Stands c s m) (tn : Stands c t n)
@@ -156,4 +213,4 @@ holds-on {c = c} hs s t m n sm tn bs bt few a h =
 
     entry-same : (k : Held) → Stays c s t k → entryOf c E k ≡ entryOf c F k
     entry-same k v = ap (λ f. entryFor f (ltb (length (k .path)) (c .levels)) (k .right))
-        (valid-frame c s m sm bs few k (v .before) ∙ v .frame ∙ sym (valid-frame c t n tn bt few k (v .after)))
+        (valid-frame c s m sm bs few k (v .before) ∙ stays-frame c s t k v ∙ sym (valid-frame c t n tn bt few k (v .after)))

@@ -1,15 +1,14 @@
 -- A frame is watched in memory exactly if it is watched in the book.
 -- Assumes nothing.
-use mathlib.Core.Path.{_≡_, refl, sym, ap, _∙_, subst}
-use mathlib.Core.Logic.{_≢_, _⊎_, inl, inr}
+use mathlib.Core.Path.{_≡_, refl, sym, _∙_, subst}
+use mathlib.Core.Logic.{_≢_, inl, inr}
 use Prim.Native.Nat.{ℕ, zero, suc, _+_, _<_, _≤_}
 use native.Mathlib.Omega.{arith}
 use native.Mathlib.Decide.{ℕ-discrete}
-use mathlib.Core.Bool.{Bool, true, false, _||_, cond}
+use mathlib.Core.Bool.{Bool, true, false, cond}
 use mathlib.Core.List.{List, [], _∷_}
 use mathlib.Core.Option.{Option, none, some, IsSome}
 use lib.Dec.{T, eqb, eqb→eq, eqb-refl}
-use lib.ListN.{length}
 use borrow.Author.Tests.{eq-eqb, ne-eqb, eqb-true, eqb-false}
 use Rattle.spec.specs.Config.{Config, guestBase}
 use Rattle.spec.specs.Prefix.{any}
@@ -24,7 +23,7 @@ use Rattle.tree.proofs.Invariant.{present-set, Leaf}
 use Rattle.tree.proofs.Whole.{Holds, above-leaf}
 use Rattle.shadow.specs.Held.{shadowArea}
 use Rattle.shadow.specs.Cut.{watchesOf, watchedFrom, watchedOf}
-use Rattle.drops.proofs.Held.{both-tests, leafAt, HeldEntry, HeldEntries, leaf-any, leaf-held, any-leaf}
+use Rattle.drops.proofs.Held.{both-tests, leafAt, HeldEntries, leaf-any, leaf-held, any-leaf}
 
 -- ---- the guest tables whose words are read on the way of a path: those of its proper prefixes
 record ReadAt (t : ℕ) (F : List ℕ → ℕ) (x is : List ℕ) : Type 0 where

@@ -1,6 +1,6 @@
 -- Whatever the memory holds, the frames handed out never get more than the shadow tables' area has.
 -- Assumes nothing.
-use Prim.Native.Nat.{ℕ, zero, suc, _+_, _*_, _-_, _<_, _≤_}
+use Prim.Native.Nat.{ℕ, zero, suc, _+_, _*_, _-_, _≤_}
 use native.Mathlib.Omega.{arith}
 use mathlib.Core.Path.{_≡_, refl}
 use mathlib.Core.Bool.{Bool, true, false, cond}
@@ -15,8 +15,8 @@ use Rattle.area.specs.declared.Pool.{Pool}
 use Rattle.area.specs.declared.Way.{Way}
 use Rattle.area.specs.declared.Way.the-variants as way
 use Rattle.area.specs.Header.{entryIn, putOf, parentOf, slotOf, levelOf, insideOf, bareOf}
-use Rattle.area.specs.Pool.{hopOf, onWay, End, ends, end, poolOf, noneOf, freshOf, freedOf, takeOf, giveOf, backOf}
-use Rattle.area.specs.Tree.{topOf, roomOf, headed, tableOf, enterOf, hung, hangOf, descendOf, onward, downOf, placeOf, insertOf}
+use Rattle.area.specs.Pool.{hopOf, onWay, End, end, poolOf, noneOf, freshOf, freedOf, takeOf, giveOf, backOf}
+use Rattle.area.specs.Tree.{topOf, roomOf, headed, tableOf, enterOf, hung, hangOf, descendOf, downOf, placeOf, insertOf}
 use Rattle.area.specs.Remove.{unhangOf, shutOf, releaseOf, lastIndex}
 use Rattle.host.specs.Walk.{page}
 use Rattle.shadow.specs.declared.Cut.{Cut}

@@ -1,10 +1,10 @@
 -- The steps of the loops' definitions, and what the answers of links, trails and scans always satisfy.
 -- Assumes nothing.
 use mathlib.Core.Path.{_≡_, refl, ap, _∙_}
-use Prim.Native.Nat.{ℕ, zero, suc, _+_, _-_, _%_, _≤_, _<_}
+use Prim.Native.Nat.{ℕ, zero, suc, _+_, _-_, _≤_, _<_}
 use native.Mathlib.Omega.{arith}
 use mathlib.Core.Bool.{Bool, true, false, cond}
-use mathlib.Core.List.{List, [], _∷_}
+use mathlib.Core.List.{List}
 use lib.ListN.{set, replicate}
 use Rattle.spec.specs.Config.{Config}
 use Rattle.spec.specs.Entry.{present, frameOf, index, indexes}

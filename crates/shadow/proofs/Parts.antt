@@ -1,7 +1,7 @@
 -- What the entry of a held path says, and what stands in a trail.
 -- Assumes nothing.
-use mathlib.Core.Path.{_≡_, refl, sym, ap, _∙_}
-use Prim.Native.Nat.{ℕ, zero, suc, _+_, _*_, _/_, _%_, _^_, _<_, _≤_}
+use mathlib.Core.Path.{_≡_, refl, _∙_}
+use Prim.Native.Nat.{ℕ, zero, suc, _+_, _/_, _%_, _^_, _<_, _≤_}
 use native.Mathlib.Omega.{arith}
 use mathlib.Core.Bool.{Bool, true, false, cond}
 use mathlib.Core.List.{List, [], _∷_}
@@ -12,7 +12,7 @@ use borrow.Author.Tests.{eq-eqb, ne-eqb}
 use Rattle.spec.specs.Config.{Config}
 use Rattle.spec.specs.Entry.{bitSet, present, writable, switch, frameOf}
 use Rattle.spec.specs.Refusal.{inGuestArea}
-use Rattle.host.specs.declared.HostWalk.the-variants.{Found, Absent, Damaged}
+use Rattle.host.specs.declared.HostWalk.the-variants.{Found}
 use Rattle.host.specs.Walk.{page, leafOf}
 use Rattle.shadow.specs.Held.{entryFor}
 use Rattle.shadow.specs.Fill.{mappedOf, belowOf, tableAfter, trailFrom, trailOf}

@@ -6,12 +6,11 @@ use mathlib.Core.Bool.{Bool, true, false, cond}
 use mathlib.Core.List.{List, [], _∷_}
 use lib.Dec.{eqb}
 use Rattle.spec.specs.Config.{Config}
-use Rattle.entry.specs.declared.HostPhysical.{HostPhysical}
 use Rattle.area.specs.declared.Pool.{Pool}
 use Rattle.area.specs.declared.Way.{Way}
 use Rattle.area.specs.declared.Way.the-variants as way
 use Rattle.area.specs.Header.{entryIn, putOf, levelOf}
-use Rattle.area.specs.Pool.{onWay, End, noneOf}
+use Rattle.area.specs.Pool.{onWay, noneOf}
 use Rattle.area.specs.Tree.{topOf}
 use Rattle.area.specs.Remove.{releaseOf, lastIndex}
 use Rattle.host.specs.Walk.{page}

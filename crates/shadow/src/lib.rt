@@ -2,10 +2,8 @@
 ghost use mathlib.Core.Path.{_≡_};
 ghost use mathlib.Core.Bool.{cond};
 ghost use Prim.Native.Nat.{_+_, _-_, _<_, _≤_};
-ghost use lib.Dec.{eqb};
 ghost use Rattle.spec.specs.Entry.{index, indexes};
 ghost use Rattle.area.specs.Pool.{ends};
-ghost use Rattle.area.specs.Tree.{topOf};
 ghost use Rattle.host.specs.Walk.{LayoutFits, config};
 ghost use Rattle.shadow.specs.Held.{shadowArea, heldOf, entryFor};
 ghost use Rattle.shadow.specs.Fill.{mappedOf, belowOf, trailOf, insertedOf, fillOf};
