@@ -1,1 +1,3 @@
 pub mod Invariant
+pub mod Paths
+pub mod Found

@@ -64,7 +64,7 @@ module _ (c : Config) (m : List ℕ) where
   unfolding memoryWorld
   mapped-small l g = found-small c (hostWalkOf c m g) l (host-fits c m g)
 
-  frame-small : c .frames ≤ 65536 → (root : ℕ) (x : List ℕ) → frameAt (memoryWorld c m) root x < 65536
+  pub frame-small : c .frames ≤ 65536 → (root : ℕ) (x : List ℕ) → frameAt (memoryWorld c m) root x < 65536
   unfolding frameAt
   frame-small l root [] = mapped-small l root
   frame-small l root (i ∷ x) = mapped-small l (frameOf (memoryWorld c m .wordAt (frameAt (memoryWorld c m) root x) i))

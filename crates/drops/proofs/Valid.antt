@@ -108,7 +108,7 @@ module _ (c : Config) (s : Machine) (m : List ℕ) (st : Stands c s m) (small : 
     pub valid-frame : framesAt c m (s .root) (onto [] (h .path)) ≡ v .frame
     valid-frame = ap (frameAt (memoryWorld c m) (s .root)) (sym (onto-same [] (h .path))) ∙ sym (trailed .2)
 
-    inside-area : InArea c (v .frame)
+    pub inside-area : InArea c (v .frame)
     unfolding part
     inside-area = shadow-asked c s false (h .path) (st .inside) small (v .small) .grants (v .frame, h .right) grants
 

@@ -1,0 +1,209 @@
+-- The held path of an address: what the unit finds is what the book holds.
+-- Assumes nothing.
+use mathlib.Core.Path.{_≡_, refl, sym, ap, ap₂, _∙_, subst}
+use mathlib.Core.Logic.{_≢_, _⊎_, inl, inr}
+use Prim.Native.Nat.{ℕ, zero, suc, _+_, _-_, _*_, _/_, _^_, _<_, _≤_}
+use native.Mathlib.Omega.{arith}
+use mathlib.Core.Bool.{Bool, true, false, not, _||_, cond}
+use mathlib.Core.List.{List, [], _∷_}
+use mathlib.Core.Option.{Option, none, some}
+use lib.Dec.{T, eqb, leb, ltb, lt→ltb, ltb→lt}
+use borrow.Author.Tests.{lt-ltb, le-ltb, ltb-false, eq-eqb, ne-eqb}
+use lib.ListN.{length}
+use Rattle.spec.specs.declared.Fault.{Fault}
+use Rattle.spec.specs.Config.{Config, guestBase, frameBits}
+use Rattle.spec.specs.Entry.{frameOf, writable, indexes, pageOf}
+use Rattle.entry.proofs.Entries.{index-fits}
+use Rattle.spec.specs.Prefix.{same, begins, keep}
+use Rattle.spec.specs.Walk.{World, Trace, Result, granted, failed, trace}
+use Rattle.spec.specs.Plain.{Place, hosted, levels, walk, upper}
+use Rattle.spec.specs.Machine.{Machine, world}
+use Rattle.spec.specs.Book.{Held, Book, Mark, find, depth}
+use Rattle.spec.specs.Call.{addressIndexes}
+use Rattle.spec.specs.Count.{serves}
+use Rattle.spec.specs.Run.{State}
+use Rattle.laws.proofs.Lists.{All, all-map, all-keep, is-true, is-false, same-is}
+use Rattle.laws.proofs.Local.{Seen, seen}
+use Rattle.laws.proofs.Granted.{granted-is, through, walk-serves}
+use Rattle.laws.proofs.Counts.{indexes-length}
+use Rattle.laws.proofs.Depth.{PathFits, no-proper-prefix, fill-fits}
+use Rattle.laws.proofs.Keeps.{Valid, again}
+use Rattle.laws.proofs.Runs.{BookFits}
+use Rattle.tree.proofs.Paths.{onto, Small}
+use Rattle.tree.proofs.Find.{steps}
+use Rattle.tree.proofs.Whole as tree
+use Rattle.host.specs.declared.HostWalk.{HostWalk}
+use Rattle.host.specs.declared.HostWalk.the-variants as host
+use Rattle.host.specs.Walk.{page}
+use Rattle.host.proofs.Laws.{InGuestArea}
+use Rattle.walk.specs.Memory.{memoryWorld}
+use Rattle.walk.proofs.Stands.{Stands}
+use Rattle.record.specs.declared.Record.{Record}
+use Rattle.record.specs.Record.{configOf}
+use Rattle.record.proofs.Rules.{Fits, fits-layout}
+use Rattle.shadow.specs.Held.{shadowArea, heldOf, entryFor}
+use Rattle.shadow.proofs.Parts.{entry-frame, entry-writable}
+use Rattle.drops.proofs.Held.{leafAt, HeldEntries}
+use Rattle.drops.proofs.Find.{answerFound, held-is, find-all, Apart, path-fits}
+use Rattle.drops.proofs.Drops.{namedIn}
+use Rattle.drops.proofs.Fill.{frame-small}
+use Rattle.drops.proofs.Valid.{framesAt, entryOf, valid-entries, valid-frame, inside-area}
+use Rattle.request.specs.Translate.{pathIndexes, foundOf, servesOf}
+use Rattle.claims.proofs.Invariant.{longer, topBy, frames, Inv, stands}
+use Rattle.claims.proofs.Paths.{indexes-all, path-upper, walk-above}
+
+-- ---- lists of held paths
+
+-- a path with an index is found among the longer ones
+pub find-longer : (p : List ℕ) (hs : List Held) → 0 < length p → find p (longer hs) ≡ find p hs
+find-longer p [] l = refl
+find-longer p (h ∷ hs) l = go (ltb 0 (length (h .path))) refl (same p (h .path)) refl (find-longer p hs l)
+  where
+    go : (b : Bool) → ltb 0 (length (h .path)) ≡ b → (t : Bool) → same p (h .path) ≡ t → find p (longer hs) ≡ find p hs
+        → find p (cond b (h ∷ longer hs) (longer hs)) ≡ cond t (some h) (find p hs)
+    go true e t q ih = rw q (ap (cond t (some h)) ih)
+    go false e false q ih = ih
+    go false e true q ih =
+        let z : p ≡ h .path = same-is p (h .path) (subst T (sym q) tt) in
+        let k : ltb 0 (length (h .path)) ≡ true = ap (λ x. ltb 0 (length x)) (sym z) ∙ lt-ltb 0 (length p) l in
+        let y : _≡_ {A = Bool} false true = sym e ∙ k in
+        let x : _≡_ {A = ℕ} 0 1 = cc in absurd (omega arith)
+
+-- the path of what is found
+pub find-path : (p : List ℕ) (hs : List Held) (h : Held) → find p hs ≡ some h → h .path ≡ p
+find-path p [] h e = let z : _≡_ {A = ℕ} 0 1 = cc in absurd (omega arith)
+find-path p (k ∷ hs) h e = go (same p (k .path)) refl e (find-path p hs h)
+  where
+    go : (b : Bool) → same p (k .path) ≡ b → cond b (some k) (find p hs) ≡ some h → (find p hs ≡ some h → h .path ≡ p) → h .path ≡ p
+    go true q x ih = let z : k ≡ h = cc in ap (λ (y : Held). y .path) (sym z) ∙ sym (same-is p (k .path) (subst T (sym q) tt))
+    go false q x ih = ih x
+
+-- ---- what the invariant says of an address
+
+module _ (s : State) (r : Record) (m : List ℕ) (inv : Inv s r m) where
+  abbrev pub cfg : Config
+  cfg = configOf r
+
+  abbrev pub mach : Machine
+  mach = s .machine
+
+  pub rules : Fits r (length m)
+  rules = fits-layout r (length m) (inv .fits)
+
+  pub root-small : mach .root < 2 ^ frameBits cfg
+  root-small = subst (λ x. x < 2 ^ frameBits cfg) (inv .root) (rules .root)
+
+  pub few : cfg .frames ≤ 65536
+  few = rules .sizes .frames
+
+  pub memory-stands : Stands cfg mach m
+  memory-stands = stands cfg mach (r .host) m (inv .maps) (inv .area)
+
+  -- the entries of the held paths, with the record's root
+  pub held-entries : HeldEntries cfg (frames r m) (namedIn m (frames r m)) (r .root) (entryOf cfg (frames r m)) (longer (s .book .held))
+  held-entries =
+      subst (λ x. HeldEntries cfg (framesAt cfg m x) (namedIn m (framesAt cfg m x)) x (entryOf cfg (framesAt cfg m x)) (longer (s .book .held))) (sym (inv .root))
+      (valid-entries cfg mach m memory-stands root-small few (longer (s .book .held))
+      (all-map (λ h. Valid cfg mach h × T (ltb 0 (length (h .path)))) (Valid cfg mach) (longer (s .book .held)) (λ h k. k .0)
+      (all-keep (Valid cfg mach) (λ (h : Held). ltb 0 (length (h .path))) (s .book .held) (inv .valid))))
+
+  module _ (a : ℕ) where
+    -- the depth of the address, and its path
+    abbrev pub deep : ℕ
+    deep = depth (s .book .marks) (addressIndexes cfg a)
+
+    abbrev pub path : List ℕ
+    path = pathIndexes cfg deep a
+
+    module _ (low : deep ≤ cfg .levels) where
+      pub path-length : length path ≡ cfg .levels - deep
+      path-length = indexes-length (cfg .levels - deep) (pageOf a / 2 ^ (9 * deep))
+
+      pub path-depth : PathFits (cfg .levels) (s .book .marks) path
+      path-depth =
+          subst (PathFits (cfg .levels) (s .book .marks)) (path-upper cfg deep a low)
+          (fill-fits (cfg .levels) (s .book .marks) (addressIndexes cfg a) (inv .book .marks) (indexes-length (cfg .levels) (pageOf a)) low)
+
+      apart-from : (h : Held) → PathFits (cfg .levels) (s .book .marks) (h .path) → Apart path h
+      apart-from h f = (no-proper-prefix (cfg .levels) (s .book .marks) (h .path) path f path-depth, no-proper-prefix (cfg .levels) (s .book .marks) path (h .path) path-depth f)
+
+      pub path-free : 0 < length path → tree.Fits (shadowArea cfg) (leafAt (entryOf cfg (frames r m)) (longer (s .book .held))) path
+      unfolding indexes
+      path-free l =
+          path-fits cfg (entryOf cfg (frames r m)) (longer (s .book .held)) path l (omega (arith, path-length)) (small (cfg .levels - deep) (pageOf a / 2 ^ (9 * deep)))
+          (all-map (λ h. PathFits (cfg .levels) (s .book .marks) (h .path) × T (ltb 0 (length (h .path)))) (Apart path) (longer (s .book .held)) (λ h k. apart-from h (k .0))
+          (all-keep (λ h. PathFits (cfg .levels) (s .book .marks) (h .path)) (λ (h : Held). ltb 0 (length (h .path))) (s .book .held) (inv .book .held)))
+        where
+          small : (n p : ℕ) → Small (indexes n p)
+          small zero p = tt
+          small (suc n) p = (index-fits n p, small n p)
+
+      -- at depth N the path has no index
+      pub path-empty : cfg .levels ≤ deep → path ≡ []
+      unfolding indexes
+      path-empty l = let z : cfg .levels - deep ≡ 0 = omega arith in ap (λ n. indexes n (pageOf a / 2 ^ (9 * deep))) z
+
+      frame-thin : (q : List ℕ) → frames r m q < 1099511627776
+      frame-thin q = let k = frame-small cfg m few (r .root) q in omega arith
+
+      -- a held path of no index: every guest entry so far is writable, and it leads to the root's frame, which is not 0
+      empty-right : (h : Held) → Valid cfg mach h → h .path ≡ [] → h .right ≡ true
+      unfolding again seen walk levels trace
+      empty-right h v e =
+          let z : (trace (world cfg mach) (walk cfg false (mach .root) [])) .result ≡ granted (v .frame, h .right) =
+          ap (λ p. (trace (world cfg mach) (walk cfg false (mach .root) p)) .result) (sym e) ∙ ap (λ (x : Seen Fault Place). x .result) (v .comes) in
+          let t = through (world cfg mach) (hosted (mach .root)) (λ q. levels cfg false (cfg .levels) (q .0) true []) (v .frame, h .right) z in
+          sym (ap (λ (x : Place). x .1) (granted-is (t .mid .0, true) (v .frame, h .right) (t .next)))
+
+      frame-held : (h : Held) → Valid cfg mach h → InGuestArea cfg (frames r m (onto [] (h .path)))
+      frame-held h v =
+          let i = inside-area cfg mach m memory-stands root-small few h v in
+          subst (InGuestArea cfg) (sym (ap (λ x. framesAt cfg m x (onto [] (h .path))) (inv .root) ∙ valid-frame cfg mach m memory-stands root-small few h v)) i
+
+      abbrev pub found : HostWalk
+      found = foundOf cfg m (r .shadow .fresh) (r .top) a deep
+
+      pub found-none : find path (s .book .held) ≡ none → (n : ℕ) × (found ≡ host.Absent n)
+      unfolding foundOf
+      found-none e = go (ltb deep (cfg .levels)) refl
+        where
+          go : (b : Bool) → ltb deep (cfg .levels) ≡ b
+              → (n : ℕ) × (cond b (heldOf cfg m (r .shadow .fresh) path) (cond (eqb (r .top) 0) (host.Absent 0) (host.Found (page (r .top)) true)) ≡ host.Absent n)
+          go true q =
+              let l : 0 < length path = let k = ltb→lt deep (cfg .levels) (subst T (sym q) tt) in omega (arith, path-length) in
+              (steps (inv .shadow .tabs) [] path, held-is (inv .shadow) held-entries path (path-free l) ∙ ap (λ o. answerFound (entryOf cfg (frames r m)) o (steps (inv .shadow .tabs) [] path)) (find-longer path (s .book .held) l ∙ e))
+          go false q =
+              let l : cfg .levels ≤ deep = ltb-false deep (cfg .levels) q in
+              let z : r .top ≡ 0 = inv .top ∙ ap (topBy (frames r m [])) (ap (λ p. find p (s .book .held)) (sym (path-empty l)) ∙ e) in
+              (0, rw z)
+
+      pub found-some : (h : Held) → find path (s .book .held) ≡ some h → found ≡ host.Found (page (frames r m (onto [] path))) (h .right)
+      unfolding foundOf onto entryOf
+      found-some h e = go (ltb deep (cfg .levels)) refl
+        where
+          v : Valid cfg mach h
+          v = find-all (Valid cfg mach) path h (s .book .held) (inv .valid) e
+
+          at : h .path ≡ path
+          at = find-path path (s .book .held) h e
+
+          go : (b : Bool) → ltb deep (cfg .levels) ≡ b
+              → cond b (heldOf cfg m (r .shadow .fresh) path) (cond (eqb (r .top) 0) (host.Absent 0) (host.Found (page (r .top)) true)) ≡ host.Found (page (frames r m (onto [] path))) (h .right)
+          go true q =
+              let l : 0 < length path = let k = ltb→lt deep (cfg .levels) (subst T (sym q) tt) in omega (arith, path-length) in
+              let w = entryOf cfg (frames r m) in
+              held-is (inv .shadow) held-entries path (path-free l) ∙ ap (λ o. answerFound w o (steps (inv .shadow .tabs) [] path)) (find-longer path (s .book .held) l ∙ e)
+              ∙ entry-found
+            where
+              entry-found : host.Found (page (frameOf (entryOf cfg (frames r m) h))) (writable (entryOf cfg (frames r m) h)) ≡ host.Found (page (frames r m (onto [] path))) (h .right)
+              entry-found =
+                  ap₂ (λ f w. host.Found (page f) w) (entry-frame (frames r m (onto [] (h .path))) (ltb (length (h .path)) (cfg .levels)) (h .right) (frame-thin (onto [] (h .path))) ∙ ap (λ p. frames r m (onto [] p)) at)
+                  (entry-writable (frames r m (onto [] (h .path))) (ltb (length (h .path)) (cfg .levels)) (h .right))
+          go false q =
+              let l : cfg .levels ≤ deep = ltb-false deep (cfg .levels) q in
+              let none : path ≡ [] = path-empty l in
+              let top : r .top ≡ frames r m [] = inv .top ∙ ap (topBy (frames r m [])) (ap (λ p. find p (s .book .held)) (sym none) ∙ e) in
+              let here : frames r m (onto [] path) ≡ frames r m [] = ap (λ p. frames r m (onto [] p)) none in
+              let i : InGuestArea cfg (frames r m []) = subst (λ p. InGuestArea cfg (frames r m (onto [] p))) (at ∙ none) (frame-held h v) in
+              let k : eqb (r .top) 0 ≡ false = ne-eqb (r .top) 0 (λ z. omega (arith, i .0, top, rules .sizes .hosts)) in
+              rw (k, here, top, empty-right h v (at ∙ none))

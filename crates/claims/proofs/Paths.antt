@@ -1,0 +1,78 @@
+-- The indexes of an address in its two parts, and a walk above level 1.
+-- Assumes nothing.
+use mathlib.Core.Path.{_≡_, refl, sym, ap, ap₂, _∙_, subst}
+use Prim.Native.Nat.{ℕ, zero, suc, pred, _+_, _-_, _*_, _/_, _^_, _<_, _≤_}
+use native.Mathlib.Omega.{arith}
+use mathlib.Core.Bool.{Bool, true, false, _&&_}
+use mathlib.Core.List.{List, [], _∷_, _++_}
+use lib.Dec.{eqb}
+use borrow.Author.Tests.{ne-eqb}
+use lib.ListN.{length, take, drop}
+use Rattle.spec.specs.declared.Fault.{Fault}
+use Rattle.spec.specs.declared.Fault.the-variants as fault
+use Rattle.spec.specs.Config.{Config}
+use Rattle.spec.specs.Entry.{index, indexes, pageOf}
+use Rattle.spec.specs.Walk.{Walk, Result, granted, failed, _>>=_}
+use Rattle.spec.specs.Plain.{Place, entry, next, levels, walk, hosted, upper}
+use Rattle.spec.specs.Call.{addressIndexes}
+use Rattle.spec.specs.Count.{hostExit}
+use Rattle.laws.proofs.Lists.{All}
+use Rattle.laws.proofs.Bind.{bind-cong}
+use Rattle.laws.proofs.Counts.{indexes-length}
+use Rattle.entry.proofs.Entries.{index-fits}
+use Rattle.entry.proofs.Indexes.{indexes-split, indexes-take}
+use Rattle.walk.proofs.Stands.{plainWalked}
+use Rattle.request.specs.Translate.{exitBy, pathIndexes}
+
+pub indexes-all : (n p : ℕ) → All (λ i. i < 512) (indexes n p)
+unfolding indexes
+indexes-all zero p = tt
+indexes-all (suc n) p = (index-fits n p, indexes-all n p)
+
+drop-front : (xs ys : List ℕ) → drop (length xs) (xs ++ ys) ≡ ys
+drop-front [] ys = refl
+drop-front (x ∷ xs) ys = drop-front xs ys
+
+-- the path of an address at depth d, and the indexes below it
+pub path-upper : (c : Config) (d a : ℕ) → d ≤ c .levels → upper c d (addressIndexes c a) ≡ pathIndexes c d a
+path-upper c d a l =
+    let n : c .levels - d + d ≡ c .levels = omega arith in
+    ap (λ k. take (c .levels - d) (indexes k (pageOf a))) (sym n) ∙ indexes-take (c .levels - d) d (pageOf a)
+
+pub path-lower : (c : Config) (d a : ℕ) → d ≤ c .levels → drop (c .levels - d) (addressIndexes c a) ≡ indexes d (pageOf a)
+path-lower c d a l =
+    let n : c .levels - d + d ≡ c .levels = omega arith in
+    let xs = indexes (c .levels - d) (pageOf a / 2 ^ (9 * d)) in
+    ap (λ k. drop (c .levels - d) (indexes k (pageOf a))) (sym n)
+    ∙ ap (drop (c .levels - d)) (indexes-split (c .levels - d) d (pageOf a))
+    ∙ ap (λ k. drop k (xs ++ indexes d (pageOf a))) (sym (indexes-length (c .levels - d) (pageOf a / 2 ^ (9 * d))))
+    ∙ drop-front xs (indexes d (pageOf a))
+
+-- above level 1 a store walks as a load
+next-above : (g : ℕ) (w : Bool) → next true false g w ≡ next false false g w
+unfolding next
+next-above g w = refl
+
+levels-above : (c : Config) (n t : ℕ) (w : Bool) (is : List ℕ) → length is < n → levels c true n t w is ≡ levels c false n t w is
+unfolding levels
+levels-above c n t w [] h = refl
+levels-above c n t w (i ∷ is) h =
+    let f : eqb n 1 ≡ false = ne-eqb n 1 (λ e. let k : 0 < length is + 1 = omega arith in omega arith) in
+    bind-cong (entry c n t i) _ _ (λ e.
+    ap (λ b. next true b (e .0) (w && e .1) >>= λ r. levels c true (pred n) (r .0) (r .1) is) f
+    ∙ ap (λ p. p >>= λ r. levels c true (pred n) (r .0) (r .1) is) (next-above (e .0) (w && e .1))
+    ∙ bind-cong (next false false (e .0) (w && e .1)) _ _ (λ r. levels-above c (pred n) (r .0) (r .1) is (omega arith))
+    ∙ ap (λ b. next false b (e .0) (w && e .1) >>= λ r. levels c false (pred n) (r .0) (r .1) is) (sym f))
+
+pub walk-above : (c : Config) (root : ℕ) (is : List ℕ) → length is < c .levels → walk c true root is ≡ walk c false root is
+unfolding walk
+walk-above c root is h = bind-cong (hosted root) _ _ (λ r. levels-above c (c .levels) (r .0) true is h)
+
+-- H and W are the faults that call the monitor
+pub exit-is : (x : Result Fault Place) (n : ℕ) → exitBy (plainWalked x n) ≡ hostExit x
+exit-is (granted r) n = refl
+exit-is (failed (fault.Absent l)) n = refl
+exit-is (failed (fault.Malformed l)) n = refl
+exit-is (failed (fault.Protected l)) n = refl
+exit-is (failed (fault.HostAbsent g)) n = refl
+exit-is (failed (fault.HostReadOnly g)) n = refl
