@@ -1,3 +1,4 @@
 pub mod Invariant
+pub mod Moves
 pub mod Paths
 pub mod Found

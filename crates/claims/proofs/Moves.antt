@@ -1,0 +1,204 @@
+-- What goes over from one record and memory to the next, whatever the call: the rules of the record, the host tables, the
+-- machine that memory stands for, the held paths.
+-- Assumes nothing.
+use mathlib.Core.Path.{_≡_, refl, sym, ap, _∙_, subst}
+use mathlib.Core.Logic.{_⊎_, inl, inr}
+use Prim.Native.Nat.{ℕ, _+_, _*_, _/_, _^_, _<_, _≤_}
+use native.Mathlib.Omega.{arith}
+use mathlib.Core.Bool.{Bool, true, false, _&&_, cond}
+use mathlib.Core.List.{List, [], _∷_}
+use mathlib.Core.Option.{Option, none, some}
+use lib.Dec.{T, ltb}
+use lib.ListN.{length, drop}
+use Rattle.spec.specs.Config.{Config, guestBase, frameBits}
+use Rattle.spec.specs.Prefix.{same, keep}
+use Rattle.spec.specs.Plain.{Place}
+use Rattle.spec.specs.Machine.{Machine, Mapping, lookup, hostCost}
+use Rattle.spec.specs.Book.{Held, find}
+use Rattle.spec.specs.Run.{State}
+use Rattle.laws.proofs.Lists.{All, all-map, all-keep}
+use Rattle.laws.proofs.Trail.{frameIn, frameAt}
+use Rattle.laws.proofs.Keeps.{Valid}
+use Rattle.laws.proofs.Runs.{BookFits}
+use Rattle.area.specs.declared.Area.{Area}
+use Rattle.area.specs.declared.Pool.{Pool}
+use Rattle.area.specs.Pool.{noneOf}
+use Rattle.tree.proofs.Stores.{Beside, beside-drop}
+use Rattle.tree.proofs.Whole.{Holds, holds-none, holds-leaves, holds-beside}
+use Rattle.host.specs.Map.{hostArea}
+use Rattle.host.proofs.Laws.{InGuestArea}
+use Rattle.host.proofs.Mapping.{Maps, answerBy}
+use Rattle.walk.specs.Memory.{placeOf, memoryWorld}
+use Rattle.walk.proofs.Stands.{Stands}
+use Rattle.marks.specs.Reading.{marksOf}
+use Rattle.marks.proofs.Order.{SameMembers}
+use Rattle.record.specs.declared.Record.{Record}
+use Rattle.record.specs.Record.{levels, configOf, fitsOf}
+use Rattle.record.proofs.Rules.{Sized, Fits, PoolFits, fits-layout, fits-true}
+use Rattle.shadow.specs.Held.{shadowArea}
+use Rattle.drops.proofs.Held.{leafAt, leaf-none}
+use Rattle.drops.proofs.Valid.{framesAt, entryOf, Stays, holds-on}
+use Rattle.unit.specs.Calls.{withHeld, withHost}
+use Rattle.claims.proofs.Invariant.{longer, topBy, frames, Inv, stands}
+
+-- ---- the record
+-- an area that holds leaves keeps a pool in its ranges
+pub holds-pool : {a : Area} {stays : Bool} {p : Pool} {m : List ℕ} {lv guest : List ℕ → ℕ} → Holds a stays p m lv guest → PoolFits (a .size) p
+holds-pool h = (h .tables .room, omega (arith, h .tables .count))
+
+module _ {r : Record} {len : ℕ} (f : Fits r len) where
+  -- with other shadow tables, another frame held at depth N
+  pub fits-held : (p : Pool) (top : ℕ) → PoolFits (r .shadows) p → (top ≡ 0) ⊎ InGuestArea (configOf r) top → Fits (withHeld r p top) len
+  unfolding withHeld
+  fits-held p top pool held = record {
+    long = f .long;
+    sizes = f .sizes;
+    layout = f .layout;
+    root = f .root;
+    marks = f .marks;
+    top = held;
+    host = f .host;
+    shadow = pool;
+  }
+
+  -- with other host tables
+  pub fits-host : (p : Pool) → PoolFits (r .hosts) p → Fits (withHost r p) len
+  unfolding withHost
+  fits-host p pool = record {
+    long = f .long;
+    sizes = f .sizes;
+    layout = f .layout;
+    root = f .root;
+    marks = f .marks;
+    top = f .top;
+    host = pool;
+    shadow = f .shadow;
+  }
+
+  -- where shadow tables may stand: in the memory
+  pub fits-room : (r .hosts + r .shadows ≤ 65536) × ((r .hosts + r .shadows) * 512 ≤ len)
+  fits-room =
+      let z = f .sizes in
+      (omega (arith, z .guest, z .frames), omega (arith, f .long, z .guest, z .whole))
+
+-- ---- memory
+-- a change in the shadow tables alone
+module _ (c : Config) {m n : List ℕ} (k : Beside (shadowArea c) m n) where
+  pub maps-beside : {xs : List Mapping} {p : Pool} → Maps c xs p m → Maps c xs p n
+  maps-beside h = record {
+    deep = h .deep;
+    few = h .few;
+    holds = holds-beside (h .holds) (shadowArea c) n (inl (omega arith)) k;
+    frames = h .frames;
+    inside = h .inside;
+  }
+
+  pub shadow-drop : drop (512 * guestBase c) n ≡ drop (512 * guestBase c) m
+  shadow-drop = beside-drop k (512 * guestBase c) (omega arith)
+
+-- a change in the host tables alone
+pub host-drop : (c : Config) {m n : List ℕ} → Beside (hostArea c) m n → drop (512 * guestBase c) n ≡ drop (512 * guestBase c) m
+host-drop c k = beside-drop k (512 * guestBase c) (omega arith)
+
+-- ---- the machine that memory stands for
+module _ {s : State} {r : Record} {m : List ℕ} (h : Inv s r m) where
+  pub inv-fits : Fits r (length m)
+  inv-fits = fits-layout r (length m) (h .fits)
+
+  pub inv-stands : Stands (configOf r) (s .machine) m
+  inv-stands = stands (configOf r) (s .machine) (r .host) m (h .maps) (h .area)
+
+  pub inv-root : s .machine .root < 2 ^ frameBits (configOf r)
+  inv-root = subst (λ x. x < 2 ^ frameBits (configOf r)) (h .root) (inv-fits .root)
+
+  -- the shadow tables and the held frame, by the machine's root
+  pub inv-shadow : let F = framesAt (configOf r) m (s .machine .root) in
+      Holds (shadowArea (configOf r)) false (r .shadow) m (leafAt (entryOf (configOf r) F) (longer (s .book .held))) F
+  inv-shadow = subst (λ x. let F = framesAt (configOf r) m x in Holds (shadowArea (configOf r)) false (r .shadow) m (leafAt (entryOf (configOf r) F) (longer (s .book .held))) F) (h .root) (h .shadow)
+
+  pub inv-top : r .top ≡ topBy (framesAt (configOf r) m (s .machine .root) []) (find [] (s .book .held))
+  inv-top = subst (λ x. r .top ≡ topBy (framesAt (configOf r) m x []) (find [] (s .book .held))) (h .root) (h .top)
+
+-- the invariant, by the machine's root
+pub invariant : (s : State) (r : Record) (m : List ℕ) → Fits r (length m) → r .marks .set < 2 ^ 64 → r .root ≡ s .machine .root
+    → Maps (configOf r) (s .machine .mappings) (r .host) m → drop (512 * guestBase (configOf r)) m ≡ s .machine .area
+    → BookFits (configOf r) (s .book) → All (Valid (configOf r) (s .machine)) (s .book .held)
+    → SameMembers (marksOf levels (r .marks)) (s .book .marks)
+    → (let F = framesAt (configOf r) m (s .machine .root) in
+    Holds (shadowArea (configOf r)) false (r .shadow) m (leafAt (entryOf (configOf r) F) (longer (s .book .held))) F)
+    → r .top ≡ topBy (framesAt (configOf r) m (s .machine .root) []) (find [] (s .book .held)) → Inv s r m
+invariant s r m fits word root maps area book valid marks shadow top = record {
+  fits = fits-true r (length m) fits;
+  word = word;
+  root = root;
+  maps = maps;
+  area = area;
+  book = book;
+  valid = valid;
+  marks = marks;
+  shadow = subst (λ x. let F = framesAt (configOf r) m x in Holds (shadowArea (configOf r)) false (r .shadow) m (leafAt (entryOf (configOf r) F) (longer (s .book .held))) F) (sym root) shadow;
+  top = subst (λ x. r .top ≡ topBy (framesAt (configOf r) m x []) (find [] (s .book .held))) (sym root) top;
+}
+
+-- the host frame of the root's guest table
+pub frame-root : (c : Config) (s : Machine) (m : List ℕ) → Stands c s m → s .root < 2 ^ frameBits c → framesAt c m (s .root) [] ≡ frameIn (lookup (s .root) (s .mappings))
+unfolding frameAt memoryWorld
+frame-root c s m st b = ap (λ x. frameIn (placeOf x)) (st .tables (s .root) b) ∙ go (lookup (s .root) (s .mappings))
+  where
+    go : (o : Option Place) → frameIn (placeOf (answerBy (hostCost c (s .mappings) (s .root)) o)) ≡ frameIn o
+    go none = refl
+    go (some x) = refl
+
+-- ---- held paths
+keep-front : {A : Type 0} (f g : A → Bool) (x : A) (xs : List A) (a b : Bool) → f x ≡ a → g x ≡ b → keep f (keep g xs) ≡ keep g (keep f xs)
+    → keep f (cond b (x ∷ keep g xs) (keep g xs)) ≡ keep g (cond a (x ∷ keep f xs) (keep f xs))
+keep-front f g x xs true true p q e = rw (p, q) (ap (λ l. x ∷ l) e)
+keep-front f g x xs true false p q e = rw q e
+keep-front f g x xs false true p q e = rw p e
+keep-front f g x xs false false p q e = e
+
+pub keep-swap : {A : Type 0} (f g : A → Bool) (xs : List A) → keep f (keep g xs) ≡ keep g (keep f xs)
+keep-swap f g [] = refl
+keep-swap f g (x ∷ xs) = keep-front f g x xs (f x) (g x) refl refl (keep-swap f g xs)
+
+-- a drop, then those with an index, is the other way round
+pub longer-keep : (f : Held → Bool) (hs : List Held) → longer (keep f hs) ≡ keep f (longer hs)
+longer-keep f hs = keep-swap (λ (h : Held). ltb 0 (length (h .path))) f hs
+
+pub all-kept : {A : Type 0} (P : A → Type 0) (f : A → Bool) (xs : List A) → All P xs → All P (keep f xs)
+all-kept P f xs a = all-map _ _ (keep f xs) (λ x k. k .0) (all-keep P f xs a)
+
+pub all-longer : (P : Held → Type 0) (hs : List Held) → All P hs → All P (longer hs)
+all-longer P hs a = all-kept P (λ (h : Held). ltb 0 (length (h .path))) hs a
+
+same-empty : (h : Held) → same [] (h .path) ≡ true → h .path ≡ []
+same-empty h e = go (h .path) e
+  where
+    go : (p : List ℕ) → same [] p ≡ true → p ≡ []
+    go [] e = refl
+    go (i ∷ p) e = let z : _≡_ {A = ℕ} 0 1 = cc in absurd (omega arith)
+
+-- a drop that leaves the path of no index
+pub find-keep : (f : Held → Bool) (hs : List Held) → All (λ h. h .path ≡ [] → f h ≡ true) hs → find [] (keep f hs) ≡ find [] hs
+find-keep f [] a = refl
+find-keep f (h ∷ hs) a = go (f h) refl (same [] (h .path)) refl (find-keep f hs (a .1))
+  where
+    go : (b : Bool) → f h ≡ b → (d : Bool) → same [] (h .path) ≡ d → find [] (keep f hs) ≡ find [] hs
+        → find [] (cond b (h ∷ keep f hs) (keep f hs)) ≡ cond d (some h) (find [] hs)
+    go true p d q ih = rw q (ap (cond d (some h)) ih)
+    go false p true q ih = let e : true ≡ false = sym (a .0 (same-empty h q)) ∙ p in let z : _≡_ {A = ℕ} 0 1 = cc in absurd (omega arith)
+    go false p false q ih = ih
+
+-- no path is held
+pub shadow-none : {r : Record} {len : ℕ} → Fits r len → (m : List ℕ) → length m ≡ len → (w : Held → ℕ) (F : List ℕ → ℕ)
+    → Holds (shadowArea (configOf r)) false noneOf m (leafAt w []) F
+shadow-none {r = r} f m e w F =
+    let k = fits-room f in
+    holds-leaves (holds-none (shadowArea (configOf r)) F m (k .0) (omega arith) (omega (arith, e, k .1))) (leafAt w []) (λ y. sym (leaf-none w y))
+
+-- the held paths that stay from one machine to the next
+pub shadow-on : {c : Config} {p : Pool} {o : List ℕ} (hs : List Held) (s t : Machine) (m n : List ℕ) → Stands c s m → Stands c t n
+    → s .root < 2 ^ frameBits c → t .root < 2 ^ frameBits c → c .frames ≤ 65536 → All (Stays c s t) hs
+    → Holds (shadowArea c) false p o (leafAt (entryOf c (framesAt c m (s .root))) (longer hs)) (framesAt c m (s .root))
+    → Holds (shadowArea c) false p o (leafAt (entryOf c (framesAt c n (t .root))) (longer hs)) (framesAt c n (t .root))
+shadow-on {c = c} hs s t m n sm tn bs bt few a h = holds-on (longer hs) s t m n sm tn bs bt few (all-longer (Stays c s t) hs a) h
