@@ -2,3 +2,4 @@ pub mod Invariant
 pub mod Moves
 pub mod Paths
 pub mod Found
+pub mod Translates
