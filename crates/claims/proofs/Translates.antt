@@ -13,7 +13,7 @@ use borrow.Author.Tests.{lt-ltb, le-ltb, ltb-true, ltb-false, eq-eqb, ne-eqb}
 use lib.ListN.{length, drop}
 use Rattle.spec.specs.declared.Fault.{Fault}
 use Rattle.spec.specs.Config.{Config, guestBase, frameBits}
-use Rattle.spec.specs.Entry.{indexes, pageOf}
+use Rattle.spec.specs.Entry.{present, indexes, pageOf}
 use Rattle.spec.specs.Prefix.{same, begins}
 use Rattle.spec.specs.Walk.{World, Trace, Result, granted, failed, trace}
 use Rattle.spec.specs.Plain.{Place, levels, walk, upper, shadowPart, directPart}
@@ -32,7 +32,8 @@ use Rattle.laws.proofs.Depth.{PathFits, no-proper-prefix, depth-bound}
 use Rattle.laws.proofs.Keeps.{Valid, again, fill-valid}
 use Rattle.laws.proofs.Runs.{BookFits}
 use Rattle.tree.proofs.Paths.{onto}
-use Rattle.tree.proofs.Whole.{Next}
+use Rattle.tree.proofs.Whole.{Holds, Next}
+use Rattle.area.specs.Pool.{End}
 use Rattle.area.specs.declared.Pool.{Pool}
 use Rattle.host.specs.declared.HostWalk.{HostWalk}
 use Rattle.host.specs.declared.HostWalk.the-variants as host
@@ -46,11 +47,18 @@ use Rattle.marks.specs.Table.{keys}
 use Rattle.marks.proofs.Book.{depth-book}
 use Rattle.record.specs.declared.Record.{Record}
 use Rattle.record.specs.Record.{configOf}
+use Rattle.record.proofs.Rules.{Fits, fits-true}
+use Rattle.shadow.specs.Held.{shadowArea, entryFor}
+use Rattle.shadow.specs.Fill.{fillOf}
+use Rattle.shadow.proofs.Parts.{entry-present}
+use Rattle.drops.proofs.Held.{leafAt}
 use Rattle.drops.proofs.Find.{find-all}
-use Rattle.drops.proofs.Valid.{framesAt, valid-frame, inside-area}
+use Rattle.drops.proofs.Fill.{fill-is}
+use Rattle.drops.proofs.Valid.{framesAt, entryOf, entry-thin, valid-frame, inside-area, Stays, stays-same}
 use Rattle.request.specs.Translate.{Out, outs, translation, exitBy, pathIndexes, directOf, servedOf, servesOf, foundOf, foundBy, missedOf, missedBy, filledOf, fillBy, plainOf, translateOf}
 use Rattle.unit.specs.Calls.{withHeld, depthAt, translatedOf}
 use Rattle.claims.proofs.Invariant.{longer, topBy, frames, Inv, stands}
+use Rattle.claims.proofs.Moves.{holds-pool, fits-held, maps-beside, shadow-drop, invariant, shadow-on}
 use Rattle.claims.proofs.Paths.{indexes-all, path-upper, path-lower, walk-above, exit-is}
 use Rattle.claims.proofs.Found as found
 
@@ -284,3 +292,241 @@ module _ (s : State) (r : Record) (m : List ℕ) (inv : Inv s r m) (st : Bool) (
       go : (b : Bool) → All P (cond b (new right ∷ s .book .held) (new right ∷ []))
       go true = (p, q)
       go false = (p, tt)
+
+  -- ---- the book's price of a fill
+  filled-count : (t : ℕ) (right : Bool) → deep ≤ c .levels → serves st deep (find path (s .book .held)) ≡ false → part .result ≡ granted (t, right)
+      → let d = trace w (directPart c st deep (t, right) (addressIndexes c a)) in
+      request c mach (s .book) st a deep
+      ≡ record { references = (c .levels - deep) + d .count; exits = 1 + hostExit (d .result); book = holding (s .book) (fill c (new right) (s .book .held)) }
+  filled-count t right low sv e =
+      request-is low ∙ ap₂ (λ b x. shadowed c mach (s .book) st deep (addressIndexes c a) path b part x) sv e
+
+  -- the state after a fill
+  abbrev after : Bool → State
+  after right = record { machine = s .machine; book = holding (s .book) (fill c (new right) (s .book .held)) }
+
+  -- a path with an index stands in the shadow tables
+  module _ (t : ℕ) (right : Bool) (low : deep < c .levels) (e : part .result ≡ granted (t, right)) where
+    long : 0 < length path
+    long = omega (arith, found.path-length s r m inv a (omega arith))
+
+    others-long : All (λ (h : Held). 0 < length (h .path)) (s .book .held)
+    others-long = all-map _ _ (s .book .held) go (apart-all (omega arith) .0)
+      where
+        go : (h : Held) → (T (begins (h .path) path) → h .path ≡ path) → 0 < length (h .path)
+        go h k = at (h .path) k
+          where
+            at : (p : List ℕ) → (T (begins p path) → p ≡ path) → 0 < length p
+            at [] f = let z = ap length (f tt) in omega (arith, long)
+            at (i ∷ p) f = omega arith
+
+    switch-is : ltb 0 deep ≡ ltb (length path) (c .levels)
+    switch-is = go (ltb 0 deep) refl
+      where
+        go : (b : Bool) → ltb 0 deep ≡ b → b ≡ ltb (length path) (c .levels)
+        go true q = let l = ltb-true 0 deep q in sym (lt-ltb (length path) (c .levels) (omega (arith, found.path-length s r m inv a (omega arith))))
+        go false q = let l = ltb-false 0 deep q in sym (le-ltb (length path) (c .levels) (omega (arith, found.path-length s r m inv a (omega arith))))
+
+    entry-is : entryFor t (ltb 0 deep) right ≡ entryOf c (frames r m) (new right)
+    unfolding entryOf
+    entry-is = ap₂ (λ f b. entryFor f b right) (sym (new-here t right e .0)) switch-is
+
+    longer-fill : fill c (new right) (longer (s .book .held)) ≡ longer (fill c (new right) (s .book .held))
+    longer-fill =
+        ap (fill c (new right)) (all-longer-is (s .book .held) others-long)
+        ∙ sym (all-longer-is (fill c (new right) (s .book .held)) (fill-all (λ (h : Held). 0 < length (h .path)) right long others-long))
+
+    placed : Next (shadowArea c) false (r .shadow) m (leafAt (entryOf c (frames r m)) (longer (fill c (new right) (s .book .held)))) (frames r m)
+        (fillOf c (r .shadow) m (r .root) path (entryFor t (ltb 0 deep) right))
+    unfolding entryOf
+    placed =
+        subst (λ x. Next (shadowArea c) false (r .shadow) m (leafAt (entryOf c (frames r m)) (longer (fill c (new right) (s .book .held)))) (frames r m) (fillOf c (r .shadow) m (r .root) path x)) (sym entry-is)
+        (subst (λ l. Next (shadowArea c) false (r .shadow) m (leafAt (entryOf c (frames r m)) l) (frames r m) (fillOf c (r .shadow) m (r .root) path (entryOf c (frames r m) (new right)))) longer-fill
+        (fill-is (inv .shadow) (found.held-entries s r m inv) (new right) (found.path-free s r m inv a (omega arith) long) (λ y q. refl)
+        (entry-thin c (frames r m) (new right) (let i = new-here t right e in omega (arith, i .0, i .1 .1, found.few s r m inv)))
+        (entry-set) (found.rules s r m inv .sizes .shadows) (found.few s r m inv)))
+      where
+        entry-set : present (entryOf c (frames r m) (new right)) ≡ true
+        entry-set = entry-present (frames r m (onto [] path)) (ltb (length path) (c .levels)) right
+
+    memory-stands : Stands c mach (placed .memory)
+    memory-stands = stands c mach (r .host) (placed .memory) (maps-beside c (placed .beside) (inv .maps)) (shadow-drop c (placed .beside) ∙ inv .area)
+
+    filled-next : Inv (after right) (withHeld r (placed .pool) (r .top)) (placed .memory)
+    unfolding withHeld
+    filled-next = invariant (after right) (withHeld r (placed .pool) (r .top)) (placed .memory)
+        (subst (Fits (withHeld r (placed .pool) (r .top))) (sym (placed .beside .len)) (fits-held (found.rules s r m inv) (placed .pool) (r .top) (holds-pool (placed .holds)) (found.rules s r m inv .top)))
+        (inv .word) (inv .root) (maps-beside c (placed .beside) (inv .maps)) (shadow-drop c (placed .beside) ∙ inv .area)
+        (fill-book right (omega arith)) (fill-all (Valid c mach) right (new-valid t right e) (inv .valid)) (inv .marks)
+        (shadow-on (fill c (new right) (s .book .held)) mach mach m (placed .memory) (found.memory-stands s r m inv) memory-stands (found.root-small s r m inv) (found.root-small s r m inv) (found.few s r m inv)
+        (all-map (Valid c mach) (Stays c mach mach) (fill c (new right) (s .book .held)) (stays-same c mach) (fill-all (Valid c mach) right (new-valid t right e) (inv .valid)))
+        (subst (λ x. Holds (shadowArea c) false (placed .pool) (placed .memory) (leafAt (entryOf c (framesAt c m x)) (longer (fill c (new right) (s .book .held)))) (framesAt c m x)) (inv .root) (placed .holds)))
+        (inv .top ∙ ap (topBy (frames r m [])) (none-empty (s .book .held) others-long)
+        ∙ sym (ap (topBy (framesAt c (placed .memory) (mach .root) [])) (none-empty (fill c (new right) (s .book .held)) (fill-all (λ (h : Held). 0 < length (h .path)) right long others-long))))
+
+    filled-path : serves st deep (find path (s .book .held)) ≡ false
+        → Translates s r m st a (request c mach (s .book) st a deep) (filledOf c m (r .shadow) (r .top) (r .root) st a deep t right)
+    unfolding filledOf
+    filled-path sv =
+        let l : deep ≤ c .levels = omega arith in
+        let f : End = fillOf c (r .shadow) m (r .root) path (entryFor t (ltb 0 deep) right) in
+        let way : fillBy c (r .shadow) (r .top) st a deep t right f (f .went .way) ≡ outs (servedOf c (placed .memory) (placed .pool) (r .top) st a deep t right 1) (placed .memory) =
+        ap (λ (x : End). fillBy c (r .shadow) (r .top) st a deep t right x (x .went .way)) (placed .done) in
+        subst (λ k. Translates s r m st a k (cond (ltb deep (c .levels)) (fillBy c (r .shadow) (r .top) st a deep t right f (f .went .way)) (outs (servedOf c m (r .shadow) t st a deep t right 1) m))) (sym (filled-count t right l sv e))
+        (record {
+          pool = placed .pool;
+          top = r .top;
+          memory = placed .memory;
+          done = ap (λ b. cond b (fillBy c (r .shadow) (r .top) st a deep t right f (f .went .way)) (outs (servedOf c m (r .shadow) t st a deep t right 1) m)) (lt-ltb deep (c .levels) low)
+              ∙ way ∙ ap (λ x. outs x (placed .memory)) (served-is (placed .memory) memory-stands t right (placed .pool) (r .top) 1 l (new-here t right e .1) e);
+          next = filled-next;
+        })
+
+  -- the path of no index stands in the record
+  module _ (t : ℕ) (right : Bool) (low : deep ≤ c .levels) (high : c .levels ≤ deep) (e : part .result ≡ granted (t, right)) (unheld : find path (s .book .held) ≡ none) where
+    empty : path ≡ []
+    empty = found.path-empty s r m inv a low high
+
+    no-held : s .book .held ≡ []
+    no-held = none-held (s .book .held) (all-map _ _ (s .book .held) (λ h k. sym (k (begins-nil path (h .path) empty)) ∙ empty) (apart-all low .1)) (ap (λ p. find p (s .book .held)) (sym empty) ∙ unheld)
+
+    only : fill c (new right) (s .book .held) ≡ new right ∷ []
+    only = ap (fill c (new right)) no-held ∙ go (leb (shadowTables (new right ∷ [])) (c .shadows))
+      where
+        go : (b : Bool) → cond b (new right ∷ []) (new right ∷ []) ≡ new right ∷ []
+        go true = refl
+        go false = refl
+
+    not-longer : longer (fill c (new right) (s .book .held)) ≡ longer (s .book .held)
+    not-longer = ap longer only ∙ ap (λ p. cond (ltb 0 (length p)) (new right ∷ []) []) empty ∙ sym (ap longer no-held)
+
+    found-top : find [] (fill c (new right) (s .book .held)) ≡ some (new right)
+    found-top = ap (find []) only ∙ ap (λ p. cond (same [] p) (some (new right)) none) empty
+
+    here : frames r m [] ≡ t
+    unfolding onto
+    here = ap (λ p. frames r m (onto [] p)) (sym empty) ∙ new-here t right e .0
+
+    top-next : Inv (after right) (withHeld r (r .shadow) t) m
+    unfolding withHeld
+    top-next = record {
+      fits = fits-true (withHeld r (r .shadow) t) (length m) (fits-held (found.rules s r m inv) (r .shadow) t (found.rules s r m inv .shadow) (inr (new-here t right e .1)));
+      word = inv .word;
+      root = inv .root;
+      maps = inv .maps;
+      area = inv .area;
+      book = fill-book right low;
+      valid = fill-all (Valid c mach) right (new-valid t right e) (inv .valid);
+      marks = inv .marks;
+      shadow = subst (λ l. Holds (shadowArea c) false (r .shadow) m (leafAt (entryOf c (frames r m)) l) (frames r m)) (sym not-longer) (inv .shadow);
+      top = sym here ∙ sym (ap (topBy (frames r m [])) found-top);
+    }
+
+    top-path : serves st deep (find path (s .book .held)) ≡ false
+        → Translates s r m st a (request c mach (s .book) st a deep) (filledOf c m (r .shadow) (r .top) (r .root) st a deep t right)
+    unfolding filledOf
+    top-path sv =
+        let f : End = fillOf c (r .shadow) m (r .root) path (entryFor t (ltb 0 deep) right) in
+        subst (λ k. Translates s r m st a k (cond (ltb deep (c .levels)) (fillBy c (r .shadow) (r .top) st a deep t right f (f .went .way)) (outs (servedOf c m (r .shadow) t st a deep t right 1) m))) (sym (filled-count t right low sv e))
+        (record {
+          pool = r .shadow;
+          top = t;
+          memory = m;
+          done = ap (λ b. cond b (fillBy c (r .shadow) (r .top) st a deep t right f (f .went .way)) (outs (servedOf c m (r .shadow) t st a deep t right 1) m)) (le-ltb deep (c .levels) high)
+              ∙ ap (λ x. outs x m) (served-is m (found.memory-stands s r m inv) t right (r .shadow) t 1 low (new-here t right e .1) e);
+          next = top-next;
+        })
+
+  -- ---- the whole translation
+
+  -- a granted shadow part is filled
+  missed-granted : (t : ℕ) (right : Bool) → deep ≤ c .levels → part .result ≡ granted (t, right)
+      → missedOf c m (r .shadow) (r .top) (r .root) st a deep ≡ filledOf c m (r .shadow) (r .top) (r .root) st a deep t right
+  unfolding missedOf
+  missed-granted t right low e = ap (missedBy c m (r .shadow) (r .top) (r .root) st a deep) (walked-is low ∙ ap (λ y. plainWalked y (part .count)) e)
+
+  -- a path that does not serve
+  missed-path : deep ≤ c .levels → serves st deep (find path (s .book .held)) ≡ false
+      → Translates s r m st a (request c mach (s .book) st a deep) (missedOf c m (r .shadow) (r .top) (r .root) st a deep)
+  missed-path low sv = go (part .result) refl
+    where
+      -- at depth N only a path that is not held does not serve
+      none-at : (d : ℕ) (o : Option Held) → 0 < d → serves st d o ≡ false → o ≡ none
+      none-at zero o l q = absurd (omega arith)
+      none-at (suc d) none l q = refl
+      none-at (suc d) (some h) l q = let z : _≡_ {A = ℕ} 0 1 = cc in absurd (omega arith)
+
+      filled : (t : ℕ) (right : Bool) → part .result ≡ granted (t, right) → (b : Bool) → ltb deep (c .levels) ≡ b
+          → Translates s r m st a (request c mach (s .book) st a deep) (filledOf c m (r .shadow) (r .top) (r .root) st a deep t right)
+      filled t right e true q = filled-path t right (ltb-true deep (c .levels) q) e sv
+      filled t right e false q =
+          let high = ltb-false deep (c .levels) q in
+          top-path t right low high e (none-at deep (find path (s .book .held)) (omega arith) sv) sv
+
+      go : (x : Result Fault Place) → part .result ≡ x → Translates s r m st a (request c mach (s .book) st a deep) (missedOf c m (r .shadow) (r .top) (r .root) st a deep)
+      go (failed x) e = fault-path x low sv e
+      go (granted p) e =
+          subst (Translates s r m st a (request c mach (s .book) st a deep))
+          (sym (missed-granted (p .0) (p .1) low e)) (filled (p .0) (p .1) e (ltb deep (c .levels)) refl)
+
+  -- a path within the depth of the tables
+  path-translates : deep ≤ c .levels
+      → Translates s r m st a (request c mach (s .book) st a deep) (foundBy c m (r .shadow) (r .top) (r .root) st a deep (foundOf c m (r .shadow .fresh) (r .top) a deep))
+  path-translates low = go (find path (s .book .held)) refl
+    where
+      go : (o : Option Held) → find path (s .book .held) ≡ o
+          → Translates s r m st a (request c mach (s .book) st a deep) (foundBy c m (r .shadow) (r .top) (r .root) st a deep (foundOf c m (r .shadow .fresh) (r .top) a deep))
+      go none e =
+          subst (λ x. Translates s r m st a (request c mach (s .book) st a deep) (foundBy c m (r .shadow) (r .top) (r .root) st a deep x)) (sym (found.found-none s r m inv a low e .1))
+          (missed-path low (ap (serves st deep) e))
+      go (some h) e =
+          subst (λ x. Translates s r m st a (request c mach (s .book) st a deep) (foundBy c m (r .shadow) (r .top) (r .root) st a deep x)) (sym (found.found-some s r m inv a low h e))
+          (by (servesOf st deep (h .right)) refl)
+        where
+          by : (b : Bool) → servesOf st deep (h .right) ≡ b
+              → Translates s r m st a (request c mach (s .book) st a deep)
+              (cond (servesOf st deep (h .right)) (outs (servedOf c m (r .shadow) (r .top) st a deep (frames r m (onto [] path)) (h .right) 0) m) (missedOf c m (r .shadow) (r .top) (r .root) st a deep))
+          by true q = subst (λ b. Translates s r m st a (request c mach (s .book) st a deep)
+              (cond b (outs (servedOf c m (r .shadow) (r .top) st a deep (frames r m (onto [] path)) (h .right) 0) m) (missedOf c m (r .shadow) (r .top) (r .root) st a deep))) (sym q) (served-path h low e q)
+          by false q = subst (λ b. Translates s r m st a (request c mach (s .book) st a deep)
+              (cond b (outs (servedOf c m (r .shadow) (r .top) st a deep (frames r m (onto [] path)) (h .right) 0) m) (missedOf c m (r .shadow) (r .top) (r .root) st a deep))) (sym q)
+              (missed-path low (ap (serves st deep) e ∙ serves-is deep h ∙ q))
+
+  -- at depth N + 1 "nothing is shadowed"
+  plain-translates : c .levels < deep → Translates s r m st a (request c mach (s .book) st a deep) (outs (plainOf c m (r .shadow) (r .top) (r .root) st a) m)
+  unfolding plainOf request plain
+  plain-translates high =
+      let p = trace w (walk c st (mach .root) (addressIndexes c a)) in
+      let q : walkedOf c m 0 (walk c st (r .root) (addressIndexes c a)) ≡ plainWalked (p .result) (p .count) =
+      ap (λ x. walkedOf c m 0 (walk c st x (addressIndexes c a))) (inv .root)
+      ∙ root-walked c mach m (found.memory-stands s r m inv) st (mach .root) (addressIndexes c a) (found.root-small s r m inv) (indexes-all (c .levels) (pageOf a)) in
+      let b : leb deep (c .levels) ≡ false = is-false (leb deep (c .levels)) (λ z. let k = leb→le deep (c .levels) z in omega arith) in
+      let is = addressIndexes c a in
+      subst (λ k. Translates s r m st a k (outs (plainOf c m (r .shadow) (r .top) (r .root) st a) m))
+      (sym (ap (λ t. cond t (shadowed c mach (s .book) st deep is (upper c deep is) (serves st deep (find (upper c deep is) (s .book .held)))
+      (trace w (walk c st (mach .root) (upper c deep is))) ((trace w (walk c st (mach .root) (upper c deep is))) .result)) (unshadowed (s .book) p)) b))
+      (record {
+        pool = r .shadow;
+        top = r .top;
+        memory = m;
+        done = ap (λ x. outs (translation (r .shadow) (r .top) (exitBy x) x) m) q
+            ∙ ap (λ x. outs (translation (r .shadow) (r .top) x (plainWalked (p .result) (p .count))) m) (exit-is (p .result) (p .count));
+        next = same-inv;
+      })
+
+  -- the translation of an address that fits
+  pub translates : addressFits c a ≡ true → Translates s r m st a (request c mach (s .book) st a deep) (translatedOf r m st a)
+  unfolding translatedOf translateOf
+  translates fit =
+      let d : depthAt r a ≡ deep = depth-book c (r .marks) (s .book) (omega arith) (inv .word) (inv .marks) a fit in
+      subst (λ x. Translates s r m st a (request c mach (s .book) st a deep) (translateOf c m (r .shadow) (r .top) (r .root) st a x)) (sym d) (go (leb deep (c .levels)) refl)
+    where
+      go : (b : Bool) → leb deep (c .levels) ≡ b
+          → Translates s r m st a (request c mach (s .book) st a deep)
+          (cond (leb deep (c .levels)) (foundBy c m (r .shadow) (r .top) (r .root) st a deep (foundOf c m (r .shadow .fresh) (r .top) a deep)) (outs (plainOf c m (r .shadow) (r .top) (r .root) st a) m))
+      go true q = subst (λ b. Translates s r m st a (request c mach (s .book) st a deep)
+          (cond b (foundBy c m (r .shadow) (r .top) (r .root) st a deep (foundOf c m (r .shadow .fresh) (r .top) a deep)) (outs (plainOf c m (r .shadow) (r .top) (r .root) st a) m))) (sym q)
+          (path-translates (leb→le deep (c .levels) (subst T (sym q) tt)))
+      go false q = subst (λ b. Translates s r m st a (request c mach (s .book) st a deep)
+          (cond b (foundBy c m (r .shadow) (r .top) (r .root) st a deep (foundOf c m (r .shadow .fresh) (r .top) a deep)) (outs (plainOf c m (r .shadow) (r .top) (r .root) st a) m))) (sym q)
+          (plain-translates (nleb→lt deep (c .levels) (subst (λ b. T (not b)) (sym q) tt)))
