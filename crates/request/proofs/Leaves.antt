@@ -9,7 +9,7 @@ use borrow.Author.Tests.{eqb-true, eqb-false, ltb-true, ltb-false}
 use mathlib.Core.Bool.{Bool, true, false, cond}
 use mathlib.Core.List.{List}
 use lib.Dec.{eqb, leb, ltb}
-use lib.ListN.{getD, set, length, length-set}
+use lib.ListN.{getD, length, length-set}
 use lib.Seq.{getD-set-same, getD-set-other, set-out}
 use Rattle.spec.specs.Config.{Config}
 use Rattle.spec.specs.Entry.{indexes, pageOf}
@@ -35,7 +35,7 @@ use Rattle.shadow.specs.Cut.{watchedOf}
 use Rattle.shadow.specs.Drop.{Outcome, scanOf}
 use Rattle.shadow.proofs.Outside.{fill-out, scan-out}
 use Rattle.shadow.proofs.Fresh.{fill-fits, scan-fits}
-use Rattle.request.specs.Translate.{exitBy, pathOf, pathIndexes, Out, outs, directOf, servedOf, servesOf, foundOf, fillBy, filledOf, missedBy, missedOf, foundBy, plainOf, translateOf}
+use Rattle.request.specs.Translate.{pathOf, pathIndexes, Out, outs, directOf, servedOf, servesOf, foundOf, fillBy, filledOf, missedBy, missedOf, foundBy, plainOf, translateOf}
 use Rattle.request.specs.Store.{Stored, stored, writtenBy, storeOf}
 use Rattle.request.proofs.Fits.{exit-small, ArrivedIn, direct-in, walk-in, FoundIs, found-is}
 

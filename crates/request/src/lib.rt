@@ -1,6 +1,6 @@
 // A load's or a store's way to its word: the translation, and the store with what it drops.
 ghost use mathlib.Core.Path.{_≡_};
-ghost use Prim.Native.Nat.{_+_, _<_, _≤_};
+ghost use Prim.Native.Nat.{_<_, _≤_};
 ghost use Rattle.host.specs.Walk.{LayoutFits, config};
 ghost use Rattle.request.specs.Translate.{exitBy, pathOf, outs, directOf, servedOf, servesOf, foundOf, filledOf, missedOf, plainOf, translateOf};
 ghost use Rattle.request.specs.Store.{puts, storeOf};
