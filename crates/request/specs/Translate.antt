@@ -4,12 +4,10 @@ use Prim.Native.Nat.{ℕ, _+_, _-_, _*_, _/_, _^_}
 use mathlib.Core.Bool.{Bool, true, not, _||_, cond}
 use mathlib.Core.List.{List}
 use lib.Dec.{eqb, leb, ltb}
-use Rattle.spec.specs.declared.Fault.{Fault}
 use Rattle.spec.specs.declared.Fault.the-variants as fault
 use Rattle.spec.specs.Config.{Config}
 use Rattle.spec.specs.Entry.{pageOf, indexes}
 use Rattle.spec.specs.Plain.{levels, walk}
-use Rattle.entry.specs.declared.HostPhysical.{HostPhysical}
 use Rattle.area.specs.declared.Pool.{Pool}
 use Rattle.area.specs.declared.Way.{Way}
 use Rattle.area.specs.declared.Way.the-variants.{To, Not, Bad}
