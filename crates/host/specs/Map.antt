@@ -1,28 +1,28 @@
 -- Mapping and unmapping over the host tables, for any memory. Document 01, "Map" and "Unmap".
 -- Assumes nothing.
-use Prim.Native.Nat.{ℕ, _+_, _*_}
+use Prim.Native.Nat.{ℕ}
 use mathlib.Core.Bool.{Bool, true, cond}
 use mathlib.Core.List.{List, [], _∷_}
-use lib.ListN.{replicate}
+use mathlib.Core.Option.{Option, none, some}
 use Rattle.spec.specs.Config.{Config}
 use Rattle.spec.specs.Entry.{indexes}
-use Rattle.spec.specs.Refusal.{frameFits, inGuestArea}
+use Rattle.spec.specs.Machine.{Machine, Mapping, with, without}
+use Rattle.spec.specs.Book.{Book}
+use Rattle.spec.specs.Call.{Call, map, unmap}
+use Rattle.spec.specs.Refusal.{frameFits, inGuestArea, refusal}
 use Rattle.area.specs.declared.Area.{Area}
 use Rattle.area.specs.declared.Pool.{Pool}
 use Rattle.area.specs.declared.Way.{Way}
 use Rattle.area.specs.declared.Way.the-variants.{To, Not, Bad}
-use Rattle.area.specs.Pool.{End, onWay}
-use Rattle.area.specs.Tree.{roomOf, placeOf}
+use Rattle.area.specs.Pool.{End}
+use Rattle.area.specs.Tree.{insertOf}
 use Rattle.area.specs.Remove.{removeOf}
+use Rattle.tree.specs.Host.{hostEntry}
 use Rattle.host.specs.declared.Change.{Change}
 
 -- the host tables: frames 0 to H, the top table in frame 0
 abbrev pub hostArea : Config → Area
 hostArea c = record { base = 0; size = c .hosts; levels = c .levels }
-
--- the entry of a mapped frame: present, writable or not, the host frame
-unfoldable pub leafWord : ℕ → Bool → ℕ
-leafWord f w = f * 4096 + cond w 3 1
 
 pub record Changed : Type 0 where
   pub change : Change
@@ -43,28 +43,73 @@ changeBy before after n Bad = record { pool = before; refusal = 11 }
 abbrev pub changedBy : Pool → ℕ → End → Changed
 changedBy p n t = changes (changeBy p (t .went .pool) n (t .went .way)) (t .memory)
 
-unfoldable pub placedOf : Config → Pool → List ℕ → ℕ → List ℕ → ℕ → Changed
-placedOf c p m i is e = changedBy p 11 (placeOf (hostArea c) (replicate 8 0) p m i is e)
-
-abbrev pub placedAt : Config → Pool → List ℕ → List ℕ → ℕ → Changed
-placedAt c p m [] e = changed p 11 m
-placedAt c p m (i ∷ is) e = placedOf c p m i is e
-
--- there is room for the path, or 10
-abbrev pub mapBy : Config → Pool → List ℕ → List ℕ → ℕ → Way → Changed
-mapBy c p m is e (To n) = placedAt c p m is e
-mapBy c p m is e Not = changed p 10 m
-mapBy c p m is e Bad = changed p 11 m
-
 -- "8; then 9 if the host frame is outside the guest area; then 10"
 unfoldable pub mapOf : Config → Pool → List ℕ → ℕ → ℕ → Bool → Changed
 mapOf c p m g f w =
     cond (frameFits c g)
     (cond (inGuestArea c f)
-    (mapBy c p m (indexes (c .levels) g) (leafWord f w) (roomOf (hostArea c) p m (indexes (c .levels) g)))
+    (changedBy p 10 (insertOf (hostArea c) [] p m (indexes (c .levels) g) (hostEntry f w)))
     (changed p 9 m))
     (changed p 8 m)
 
 -- "8; then 12 if not mapped. Emptied host tables can be used again"
 unfoldable pub unmapOf : Config → Pool → List ℕ → ℕ → Changed
 unmapOf c p m g = cond (frameFits c g) (changedBy p 12 (removeOf (hostArea c) true p m (indexes (c .levels) g))) (changed p 8 m)
+
+-- ---- a list of maps and unmaps
+
+pub data Remap : Type 0 where
+  maps : ℕ → ℕ → Bool → Remap  -- guest frame, host frame, writable
+  unmaps : ℕ → Remap
+
+unfoldable pub remapOf : Config → Pool → List ℕ → Remap → Changed
+remapOf c p m (maps g f w) = mapOf c p m g f w
+remapOf c p m (unmaps g) = unmapOf c p m g
+
+-- the refusals, and the pool and the memory after them
+pub record Remapped : Type 0 where
+  pub refusals : List ℕ
+  pub pool : Pool
+  pub memory : List ℕ
+
+unfoldable pub remapsOf : Config → Pool → List ℕ → List Remap → Remapped
+remapsOf c p m [] = record { refusals = []; pool = p; memory = m }
+remapsOf c p m (x ∷ xs) =
+    let t : Changed = remapOf c p m x in
+    let r : Remapped = remapsOf c (t .change .pool) (t .memory) xs in
+    record { refusals = t .change .refusal ∷ r .refusals; pool = r .pool; memory = r .memory }
+
+-- the same on the specification's mapping, by its own tests
+abbrev pub asCall : Remap → Call
+asCall (maps g f w) = map g f w
+asCall (unmaps g) = unmap g
+
+abbrev pub mappedBy : Remap → List Mapping → List Mapping
+mappedBy (maps g f w) xs = with g f w xs
+mappedBy (unmaps g) xs = without g xs
+
+-- a machine with these mappings; a map or unmap asks for nothing else of it
+abbrev pub mappingOnly : List Mapping → Machine
+mappingOnly xs = record { area = []; mappings = xs; root = 0 }
+
+abbrev pub noBook : Book
+noBook = record { marks = []; held = [] }
+
+abbrev pub numberBy : Option ℕ → ℕ
+numberBy none = 0
+numberBy (some n) = n
+
+abbrev pub mappingBy : Option ℕ → Remap → List Mapping → List Mapping
+mappingBy none x xs = mappedBy x xs
+mappingBy (some n) x xs = xs
+
+pub record Mapped : Type 0 where
+  pub refusals : List ℕ
+  pub mapping : List Mapping
+
+unfoldable pub mapsOf : Config → List Mapping → List Remap → Mapped
+mapsOf c ms [] = record { refusals = []; mapping = ms }
+mapsOf c ms (x ∷ xs) =
+    let n : Option ℕ = refusal c (asCall x) (mappingOnly ms) noBook in
+    let r : Mapped = mapsOf c (mappingBy n x ms) xs in
+    record { refusals = numberBy n ∷ r .refusals; mapping = r .mapping }

@@ -1,11 +1,11 @@
 // The host tables: from a guest frame to the host frame that it is mapped to; mapping and unmapping.
 ghost use mathlib.Core.Path.{_≡_};
-ghost use Prim.Native.Nat.{_-_, _<_, _≤_};
-ghost use Rattle.spec.specs.Entry.{index, indexes};
+ghost use Prim.Native.Nat.{_<_, _≤_};
 ghost use Rattle.spec.specs.Refusal.{inGuestArea};
 ghost use Rattle.spec.specs.Refusal.{frameFits};
+ghost use Rattle.tree.specs.Host.{hostEntry};
 ghost use Rattle.host.specs.Walk.{LayoutFits, config, leafOf, hostWalkOf};
-ghost use Rattle.host.specs.Map.{hostArea, leafWord, changeBy, changes, placedOf, mapOf, unmapOf};
+ghost use Rattle.host.specs.Map.{hostArea, changeBy, changes, mapOf, unmapOf};
 use area::Area;
 use area::Look;
 use area::Pool;
@@ -101,7 +101,7 @@ pub fn frame_fits(l: Layout, g: GuestPhysical) -> bool
 // The entry of a mapped frame.
 pub fn leaf_word(f: HostPhysical, writable: bool) -> u64
     requires { ⌜ f .0 < 65536 ⌝ }
-    ensures { λ r. ⌜ r ≡ leafWord (f .0) writable ⌝ }
+    ensures { λ r. ⌜ r ≡ hostEntry (f .0) writable ⌝ }
 {
     if writable {
         f.0 * 4096 + 3
@@ -130,18 +130,6 @@ pub fn settled(before: Pool, after: Pool, way: Way, none: u64) -> Change
     }
 }
 
-// The entry of a guest frame is put at the end of its path, for which there is room.
-pub fn put_leaf(mem: &mut [u64], l: Layout, pool: Pool, g: GuestPhysical, e: u64) -> Change
-    requires { ⌜ (LayoutFits l) × (1 ≤ l .levels) ⌝ }
-    ensures { λ r. ⌜ changes r (now (mem .exit)) ≡ placedOf (config l) pool (now (mem .entry)) (index (l .levels - 1) (g .0)) (indexes (l .levels - 1) (g .0)) e ⌝ }
-{
-    let none = [0u64; 8];
-    let went = area::place(tables(l), &none, pool, mem, g.0, l.levels, e);
-    let way = went.way;
-    let after = went.pool;
-    settled(pool, after, way, 11)
-}
-
 // A guest frame is mapped, or mapped anew: 8, 9, 10, 11.
 pub fn map(
     mem: &mut [u64],
@@ -156,17 +144,13 @@ pub fn map(
 {
     if frame_fits(l, g) {
         if in_guest_area(l, f.0) {
-            match area::room(tables(l), pool, mem, g.0, l.levels) {
-                Way::To(n) => put_leaf(mem, l, pool, g, leaf_word(f, writable)),
-                Way::Not => Change {
-                    pool: pool,
-                    refusal: 10,
-                },
-                Way::Bad => Change {
-                    pool: pool,
-                    refusal: 11,
-                },
-            }
+            // Host tables stand for no guest tables.
+            let none = [0u64; 1];
+            let e = leaf_word(f, writable);
+            let went = area::insert(tables(l), &none[..0], pool, mem, g.0, l.levels, e);
+            let way = went.way;
+            let after = went.pool;
+            settled(pool, after, way, 10)
         } else {
             Change {
                 pool: pool,

@@ -149,10 +149,10 @@ module _ {a : Area} {stays : Bool} {guest : List ℕ → ℕ} {t : State} {es : 
     pub put-next : leb (tablesOf (is ∷ paths es)) (a .size) ≡ true → Done a stays guest t (insertOf a gs (t .pool) (t .memory) is e) ((is, e) ∷ es)
     unfolding Solid
     put-next q = made ((is, e) ∷ es) _ (set, v .solid) (next-leaves (leaves ((is, e) ∷ es)) (leaves-put es is e)
-        (insert-next (v .holds) gs is e f gg set (is ∷ paths es) listed thin (leb-true (tablesOf (is ∷ paths es)) (a .size) q)))
+        (insert-next (v .holds) is e f set (is ∷ paths es) listed gs gg thin (leb-true (tablesOf (is ∷ paths es)) (a .size) q)))
 
     pub put-full : leb (tablesOf (is ∷ paths es)) (a .size) ≡ false → insertOf a gs (t .pool) (t .memory) is e ≡ end (t .pool) Not (t .memory)
-    put-full q = insert-not (v .holds) gs is e f gg set (is ∷ paths es) listed (leb-false (tablesOf (is ∷ paths es)) (a .size) q)
+    put-full q = insert-not (v .holds) is e f set (is ∷ paths es) listed gs gg (leb-false (tablesOf (is ∷ paths es)) (a .size) q)
 
   pub cut-next : present (get es is) ≡ true → Done a stays guest t (removeOf a stays (t .pool) (t .memory) is) (without is es)
   cut-next q = made (without is es) _ (solid-without es is (v .solid))

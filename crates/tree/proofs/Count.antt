@@ -322,13 +322,18 @@ module _ {a : Area} {stays : Bool} {p : Pool} {m : List ℕ} {lv guest : List �
             set = λ v. leaf (upd-other lv z e w c ∙ v);
           }))))
 
-  -- ---- an insert by the list of the paths with the new one: done exactly if their different proper prefixes are no more than the frames
-  module _ (gs is : List ℕ) (e : ℕ) (f : Fits a lv is) (gg : Guests guest gs 0 [] is) (set : present e ≡ true) (ys : List (List ℕ)) (l : Lists (upd lv (onto [] is) e) ys) where
-    pub insert-next : e < 4503599627370496 → tablesOf ys ≤ a .size → Next a stays p m (upd lv (onto [] is) e) guest (insertOf a gs p m is e)
-    insert-next thin r = holds-insert h gs is e f gg thin set (rw (room-is is e ys (f .nonempty) (present-set e set) l) at r)
+  -- ---- the same for an insert, by the list of the paths with the new one: done exactly if their different proper prefixes are no
+  -- more than the frames
+  module _ (is : List ℕ) (e : ℕ) (f : Fits a lv is) (set : present e ≡ true) (ys : List (List ℕ)) (l : Lists (upd lv (onto [] is) e) ys) where
+    pub needs-is : tablesOf ys ≡ p .used + lacks (h .tabs) [] is
+    needs-is = room-is is e ys (f .nonempty) (present-set e set) l
 
-    pub insert-not : a .size < tablesOf ys → insertOf a gs p m is e ≡ end p Not m
-    insert-not r = holds-full h gs is e f gg (rw (room-is is e ys (f .nonempty) (present-set e set) l) at r)
+    pub insert-next : (gs : List ℕ) → Guests guest gs 0 [] is → e < 4503599627370496 → tablesOf ys ≤ a .size
+        → Next a stays p m (upd lv (onto [] is) e) guest (insertOf a gs p m is e)
+    insert-next gs gg thin r = holds-insert h gs is e f gg thin set (rw needs-is at r)
+
+    pub insert-not : (gs : List ℕ) → Guests guest gs 0 [] is → a .size < tablesOf ys → insertOf a gs p m is e ≡ end p Not m
+    insert-not gs gg r = holds-full h gs is e f gg (rw needs-is at r)
 
 -- ---- words read: one for each table on the way
 -- how many of the prefixes pass the test

@@ -2,18 +2,19 @@
 -- Assumes nothing.
 use mathlib.Core.Path.{_≡_, refl, sym, ap, ap₂, _∙_}
 use mathlib.Core.Logic.{_≢_}
-use Prim.Native.Nat.{ℕ, suc, _+_, _<_}
+use Prim.Native.Nat.{ℕ, suc, _+_, _-_, _<_, _≤_}
 use native.Mathlib.Omega.{arith}
 use mathlib.Core.List.{List, [], _∷_}
 use mathlib.Core.Option.{Option, none, some}
 use lib.ListN.{length}
+use borrow.Author.Tests.{le-leb, lt-leb}
 use Rattle.area.specs.declared.Area.{Area}
 use Rattle.area.specs.declared.Pool.{Pool}
 use Rattle.area.specs.declared.Way.the-variants.{To, Not}
 use Rattle.area.specs.declared.Look.the-variants.{Seen, Broken}
 use Rattle.area.specs.Header.{entryIn}
 use Rattle.area.specs.Pool.{hopOf, onWay}
-use Rattle.area.specs.Tree.{topOf, lookOf}
+use Rattle.area.specs.Tree.{topOf, lookOf, roomOf}
 use Rattle.tree.proofs.Change.{upd, upd-other}
 use Rattle.tree.proofs.Invariant.{slot, hop-zero, Tables, none-below, hop-table}
 use Rattle.tree.proofs.Paths.{onto, Small, Clear}
@@ -100,7 +101,19 @@ module _ {a : Area} {p : Pool} {ts : List ℕ → Option ℕ} {lv guest : List �
           rw z (ih f h ∙ ap (Seen (lv (onto (i ∷ x) is))) (omega arith))
 
   -- from the top: never broken
-  pub look-top : (is : List ℕ) → Clear lv [] is → Small is → ts (onto [] is) ≡ none
+  pub lookup-is : (is : List ℕ) → Clear lv [] is → Small is → ts (onto [] is) ≡ none
       → lookOf (a .base) (a .size) m (topOf (a .base) (p .fresh)) is 0 ≡ Seen (lv (onto [] is)) (steps ts [] is)
-  look-top is c l t =
+  lookup-is is c l t =
       look-is [] is (topOf (a .base) (p .fresh)) 0 (g .top ∙ ap (slot (ts [])) (sym (g .root))) c l t ∙ ap (Seen (lv (onto [] is))) (omega arith)
+
+  -- ---- the tables that a path lacks, and room for them exactly if they and those in use are no more than the frames
+  missing : (is : List ℕ) → length is - steps ts [] is ≡ lacks ts [] is
+  missing is = let k = steps-lacks [] is in omega arith
+
+  pub room-fits : (is : List ℕ) → Clear lv [] is → Small is → ts (onto [] is) ≡ none → p .used + lacks ts [] is ≤ a .size → roomOf a p m is ≡ To (lacks ts [] is)
+  unfolding roomOf
+  room-fits is c l t room = rw (lookup-is is c l t, missing is, le-leb _ _ room)
+
+  pub room-full : (is : List ℕ) → Clear lv [] is → Small is → ts (onto [] is) ≡ none → a .size < p .used + lacks ts [] is → roomOf a p m is ≡ Not
+  unfolding roomOf
+  room-full is c l t room = rw (lookup-is is c l t, missing is, lt-leb _ _ room)

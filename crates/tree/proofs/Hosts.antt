@@ -169,11 +169,11 @@ module _ (c : Config) (g : ℕ) (small : g < 2 ^ (9 * c .levels)) where
           → Next a true p m (leaves (hostMap c (with g f w xs))) (λ y. 0) (insertOf a [] p m (indexes (c .levels) g) (hostEntry f w))
       unfolding is
       host-map thin l = next-leaves (leaves (hostMap c (with g f w xs))) (leaves-with xs k f w)
-          (insert-next h [] is (hostEntry f w) fits (no-guests 0 [] is) (entry-present f w) (hostPaths c (with g f w xs)) listed (entry-small f w thin) l)
+          (insert-next h is (hostEntry f w) fits (entry-present f w) (hostPaths c (with g f w xs)) listed [] (no-guests 0 [] is) (entry-small f w thin) l)
 
       pub host-full : a .size < hostTables c (with g f w xs) → insertOf a [] p m (indexes (c .levels) g) (hostEntry f w) ≡ end p Not m
       unfolding is
-      host-full l = insert-not h [] is (hostEntry f w) fits (no-guests 0 [] is) (entry-present f w) (hostPaths c (with g f w xs)) listed l
+      host-full l = insert-not h is (hostEntry f w) fits (entry-present f w) (hostPaths c (with g f w xs)) listed [] (no-guests 0 [] is) l
 
     -- ---- a frame is unmapped: "12 if not mapped. Emptied host tables can be used again"
     pub host-unmap : (r : ℕ × Bool) → lookup g xs ≡ some r → Next a true p m (leaves (hostMap c (machine.without g xs))) (λ y. 0) (removeOf a true p m (indexes (c .levels) g))

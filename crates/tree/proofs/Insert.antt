@@ -8,7 +8,7 @@ use mathlib.Core.Bool.{true}
 use mathlib.Core.List.{List, [], _∷_}
 use mathlib.Core.Option.{Option, none, some, IsSome}
 use lib.ListN.{length, getD}
-use borrow.Author.Tests.{ne-eqb, le-leb, lt-leb}
+use borrow.Author.Tests.{ne-eqb}
 use Rattle.spec.specs.Entry.{present}
 use Rattle.area.specs.declared.Area.{Area}
 use Rattle.area.specs.declared.Pool.{Pool}
@@ -21,7 +21,7 @@ use Rattle.tree.proofs.Stores.{Beside, beside-trans}
 use Rattle.tree.proofs.Invariant.{slot, hop-zero, Tables, hop-table, fresh-some}
 use Rattle.tree.proofs.Grow.{Hung, hang-is, enter-is, set-leaf, put-beside}
 use Rattle.tree.proofs.Paths.{onto, onto-other, Small, Pre, Clear, Guests}
-use Rattle.tree.proofs.Find.{steps, lacks, lacks-upd, lacks-some, lacks-none, steps-lacks, lacks-leaf, look-top}
+use Rattle.tree.proofs.Find.{lacks, lacks-upd, lacks-some, lacks-none, lacks-leaf, room-fits, room-full}
 
 -- a path that may be inserted: from the prefix x on by the indexes; its tables are named by the list of guest frames
 pub record Route (a : Area) (ts : List ℕ → Option ℕ) (lv guest : List ℕ → ℕ) (gs : List ℕ) (x is : List ℕ) : Type 0 where
@@ -140,6 +140,11 @@ enter-old : (a : Area) (p : Pool) (m : List ℕ) (gu : ℕ) → 0 < p .fresh →
 unfolding enterOf
 enter-old a p m gu l = let n : p .fresh ≢ 0 = (λ e. omega arith) in rw (ne-eqb _ _ n)
 
+-- where there is room an insert is a placing
+pub insert-place : (a : Area) (gs : List ℕ) (p : Pool) (m : List ℕ) (i : ℕ) (is : List ℕ) (e n : ℕ) → roomOf a p m (i ∷ is) ≡ To n → insertOf a gs p m (i ∷ is) e ≡ placeOf a gs p m i is e
+unfolding insertOf
+insert-place a gs p m i is e n c = rw c
+
 -- ---- down from the table f of the prefix x, of depth d
 down-is : {a : Area} {p : Pool} {ts : List ℕ → Option ℕ} {lv guest : List ℕ → ℕ} {fl : List ℕ} {ps : List (List ℕ)} {m : List ℕ}
     → Tables a p ts lv guest fl ps m → (gs : List ℕ) (x : List ℕ) (d f i : ℕ) (is : List ℕ) (e : ℕ) → d ≡ length x → ts x ≡ some f → i < 512
@@ -193,7 +198,7 @@ down-is {a = a} {p = p} {ts = ts} {lv = lv} {guest = guest} {fl = fl} {ps = ps} 
 
 module _ {a : Area} {p : Pool} {ts : List ℕ → Option ℕ} {lv guest : List ℕ → ℕ} {fl : List ℕ} {ps : List (List ℕ)} {m : List ℕ}
     (g : Tables a p ts lv guest fl ps m) (gs : List ℕ) (i : ℕ) (is : List ℕ) (e : ℕ) (r : Route a ts lv guest gs [] (i ∷ is)) where
-  place-is : e < 4503599627370496 → present e ≡ true → p .used + lacks ts [] (i ∷ is) ≤ a .size → Placed a p m ts lv guest (placeOf a gs p m i is e) [] (i ∷ is) e
+  pub place-is : e < 4503599627370496 → present e ≡ true → p .used + lacks ts [] (i ∷ is) ≤ a .size → Placed a p m ts lv guest (placeOf a gs p m i is e) [] (i ∷ is) e
   place-is thin set room = go (ts []) refl
     where
       go : (o : Option ℕ) → ts [] ≡ o → Placed a p m ts lv guest (placeOf a gs p m i is e) [] (i ∷ is) e
@@ -209,19 +214,16 @@ module _ {a : Area} {p : Pool} {ts : List ℕ → Option ℕ} {lv guest : List �
           (down-is (u .tables) gs [] 0 (a .base) i is e refl (upd-at ts [] (some (a .base))) (r .small .0) (route-upd [] i is (some (a .base)) (route-tail [] i is r)) thin set
           (let k = u .used in let n = lacks-none ts [] i is c in let v = lacks-upd ts [] (some (a .base)) (i ∷ []) is (omega arith) in omega (arith, room)))
 
-  -- how many tables the path lacks, as the definition finds it
-  missing : suc (length is) - steps ts [] (i ∷ is) ≡ lacks ts [] (i ∷ is)
-  missing = let k = steps-lacks g [] (i ∷ is) in omega arith
-
   -- room exactly if the tables in use and the missing ones fit
   pub insert-is : e < 4503599627370496 → present e ≡ true → p .used + lacks ts [] (i ∷ is) ≤ a .size
       → Placed a p m ts lv guest (insertOf a gs p m (i ∷ is) e) [] (i ∷ is) e
-  unfolding insertOf roomOf
-  insert-is thin set room = rw (look-top g (i ∷ is) (r .clear) (r .small) (r .bare), missing, le-leb _ _ room) (place-is thin set room)
+  insert-is thin set room =
+      subst (λ t. Placed a p m ts lv guest t [] (i ∷ is) e) (sym (insert-place a gs p m i is e _ (room-fits g (i ∷ is) (r .clear) (r .small) (r .bare) room)))
+      (place-is thin set room)
 
   pub insert-full : a .size < p .used + lacks ts [] (i ∷ is) → insertOf a gs p m (i ∷ is) e ≡ end p Not m
-  unfolding insertOf roomOf
-  insert-full room = rw (look-top g (i ∷ is) (r .clear) (r .small) (r .bare), missing, lt-leb _ _ room)
+  unfolding insertOf
+  insert-full room = rw (room-full g (i ∷ is) (r .clear) (r .small) (r .bare) room)
 
   -- where the leaf stands already no table is missing
   pub insert-again : e < 4503599627370496 → present e ≡ true → lv (onto [] (i ∷ is)) ≢ 0 → Placed a p m ts lv guest (insertOf a gs p m (i ∷ is) e) [] (i ∷ is) e

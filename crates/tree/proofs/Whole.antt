@@ -17,7 +17,7 @@ use Rattle.area.specs.declared.Pool.{Pool}
 use Rattle.area.specs.declared.Way.the-variants.{To, Not}
 use Rattle.area.specs.declared.Look.the-variants.{Seen}
 use Rattle.area.specs.Pool.{End, end, noneOf}
-use Rattle.area.specs.Tree.{topOf, lookOf, enterOf, insertOf}
+use Rattle.area.specs.Tree.{topOf, lookOf, roomOf, enterOf, placeOf, insertOf}
 use Rattle.area.specs.Remove.{removeOf}
 use Rattle.tree.proofs.Change.{eq?, upd, upd-at, upd-other, is-some}
 use Rattle.tree.proofs.Stores.{SameFrame, frame-head, frame-entry, Beside, set-else}
@@ -25,8 +25,8 @@ use Rattle.tree.proofs.Paths.{onto, onto-long, Small, Ext, pre-ext, Cle
 use Rattle.tree.proofs.Invariant.{present-set, chain-keep, Tables, Leaf, Exact, none-below, guests-same}
 use Rattle.tree.proofs.Grow.{enter-is}
 use Rattle.tree.proofs.Shrink.{dropped}
-use Rattle.tree.proofs.Find.{steps, lacks, steps-lacks, steps-none, look-top}
-use Rattle.tree.proofs.Insert.{Route, Placed, insert-is, insert-full}
+use Rattle.tree.proofs.Find.{steps, lacks, steps-lacks, steps-none, lookup-is, room-fits, room-full}
+use Rattle.tree.proofs.Insert.{Route, Placed, place-is, insert-place, insert-full}
 use Rattle.tree.proofs.Release.{Released}
 use Rattle.tree.proofs.Remove.{remove-is, remove-absent}
 
@@ -191,7 +191,7 @@ module _ {a : Area} {stays : Bool} {p : Pool} {m : List ℕ} {lv guest : List �
 
     -- ---- lookup
     pub holds-look : lookOf (a .base) (a .size) m (topOf (a .base) (p .fresh)) is 0 ≡ Seen (lv (onto [] is)) (steps (h .tabs) [] is)
-    holds-look = look-top (h .tables) is on-way (f .small) at-end
+    holds-look = lookup-is (h .tables) is on-way (f .small) at-end
 
 -- after a release
 pub released-holds : {a : Area} {stays : Bool} {p : Pool} {m : List ℕ} {ts : List ℕ → Option ℕ} {lv guest : List ℕ → ℕ} {t : End}
@@ -221,10 +221,16 @@ module _ {a : Area} {stays : Bool} {p : Pool} {m : List ℕ} {lv guest : List �
     gives = gg;
   }
 
-  pub holds-insert : (gs is : List ℕ) (e : ℕ) → Fits a lv is → Guests guest gs 0 [] is → e < 4503599627370496 → present e ≡ true
-      → p .used + lacks (h .tabs) [] is ≤ a .size → Next a stays p m (upd lv (onto [] is) e) guest (insertOf a gs p m is e)
-  holds-insert gs [] e f gg thin set room = absurd (let l = f .nonempty in omega arith)
-  holds-insert gs (i ∷ is) e f gg thin set room = made (insert-is (h .tables) gs i is e (route gs (i ∷ is) f gg) thin set room)
+  -- room for the tables that the path lacks
+  pub holds-room : (is : List ℕ) → Fits a lv is → p .used + lacks (h .tabs) [] is ≤ a .size → roomOf a p m is ≡ To (lacks (h .tabs) [] is)
+  holds-room is f room = room-fits (h .tables) is (on-way h is f) (f .small) (at-end h is f) room
+
+  pub holds-crowded : (is : List ℕ) → Fits a lv is → a .size < p .used + lacks (h .tabs) [] is → roomOf a p m is ≡ Not
+  holds-crowded is f room = room-full (h .tables) is (on-way h is f) (f .small) (at-end h is f) room
+
+  pub holds-place : (gs : List ℕ) (i : ℕ) (is : List ℕ) (e : ℕ) → Fits a lv (i ∷ is) → Guests guest gs 0 [] (i ∷ is) → e < 4503599627370496 → present e ≡ true
+      → p .used + lacks (h .tabs) [] (i ∷ is) ≤ a .size → Next a stays p m (upd lv (onto [] (i ∷ is)) e) guest (placeOf a gs p m i is e)
+  holds-place gs i is e f gg thin set room = made (place-is (h .tables) gs i is e (route gs (i ∷ is) f gg) thin set room)
     where
       z : List ℕ
       z = onto [] (i ∷ is)
@@ -236,7 +242,7 @@ module _ {a : Area} {stays : Bool} {p : Pool} {m : List ℕ} {lv guest : List �
       keep y r (yes q) = record { path = z; under = subst (Ext y) (sym q) (r .under); set = there }
       keep y r (no q) = record { path = r .path; under = r .under; set = λ c. r .set (sym (upd-other lv z e (r .path) q) ∙ c) }
 
-      made : Placed a p m (h .tabs) lv guest (insertOf a gs p m (i ∷ is) e) [] (i ∷ is) e → Next a stays p m (upd lv z e) guest (insertOf a gs p m (i ∷ is) e)
+      made : Placed a p m (h .tabs) lv guest (placeOf a gs p m i is e) [] (i ∷ is) e → Next a stays p m (upd lv z e) guest (placeOf a gs p m i is e)
       made d = record {
         pool = d .pool;
         memory = d .memory;
@@ -259,6 +265,13 @@ module _ {a : Area} {stays : Bool} {p : Pool} {m : List ℕ} {lv guest : List �
           top : (o : Option ℕ) → h .tabs [] ≡ o → IsSome o → IsSome (d .tabs [])
           top none q k = absurd k
           top (some b) q k = is-some (d .kept [] b q)
+
+  pub holds-insert : (gs is : List ℕ) (e : ℕ) → Fits a lv is → Guests guest gs 0 [] is → e < 4503599627370496 → present e ≡ true
+      → p .used + lacks (h .tabs) [] is ≤ a .size → Next a stays p m (upd lv (onto [] is) e) guest (insertOf a gs p m is e)
+  holds-insert gs [] e f gg thin set room = absurd (let l = f .nonempty in omega arith)
+  holds-insert gs (i ∷ is) e f gg thin set room =
+      subst (Next a stays p m (upd lv (onto [] (i ∷ is)) e) guest) (sym (insert-place a gs p m i is e _ (holds-room (i ∷ is) f room)))
+      (holds-place gs i is e f gg thin set room)
 
   pub holds-full : (gs is : List ℕ) (e : ℕ) → Fits a lv is → Guests guest gs 0 [] is → a .size < p .used + lacks (h .tabs) [] is → insertOf a gs p m is e ≡ end p Not m
   holds-full gs [] e f gg room = absurd (let l = f .nonempty in omega arith)

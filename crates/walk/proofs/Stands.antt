@@ -24,17 +24,10 @@ use Rattle.host.specs.declared.HostWalk.{HostWalk}
 use Rattle.host.specs.declared.HostWalk.the-variants as host
 use Rattle.host.specs.Walk.{hostWalkOf, page}
 use Rattle.host.proofs.Laws.{InGuestArea}
+use Rattle.host.proofs.Mapping.{answerBy, answerOf}
 use Rattle.walk.specs.declared.Walked.{Walked}
 use Rattle.walk.specs.declared.Walked.the-variants as walked
 use Rattle.walk.specs.Memory.{placeOf, readsOf, memoryWorld, absentBy, walkedBy, walkedOf}
-
--- what the mapping says of a guest frame, as the code has it
-abbrev pub answerBy : ℕ → Option Place → HostWalk
-answerBy n none = host.Absent n
-answerBy n (some r) = host.Found (page (r .0)) (r .1)
-
-abbrev pub answerOf : Config → Machine → ℕ → HostWalk
-answerOf c s g = answerBy (hostCost c (s .mappings) g) (lookup g (s .mappings))
 
 -- a result of the specification's walk with its count, as the code has it
 abbrev pub plainWalked : Result Fault Place → ℕ → Walked
@@ -43,7 +36,7 @@ plainWalked (failed x) n = walked.Faulted x n
 
 -- the lent memory stands for the machine: its host tables for the mapping, its guest area for the guest area
 pub record Stands (c : Config) (s : Machine) (m : List ℕ) : Type 0 where
-  pub tables : (g : ℕ) → g < 2 ^ frameBits c → hostWalkOf c m g ≡ answerOf c s g
+  pub tables : (g : ℕ) → g < 2 ^ frameBits c → hostWalkOf c m g ≡ answerOf c (s .mappings) g
   pub inside : (g : ℕ) → AnswerIn (InGuestArea c) (lookup g (s .mappings))
   pub area : drop (512 * guestBase c) m ≡ s .area
 

@@ -1,4 +1,4 @@
-use Rattle.host.specs.Map.{leafWord}
+use Rattle.tree.specs.Host.{hostEntry}
 use borrow.Author.Needs.{needs}
 use Rattle.host.proofs.leaf_word.Statement.{statement}
 use Rattle.host.proofs.leaf_word.Tie as tie
@@ -16,11 +16,11 @@ add-result-2 : tie.Need-add-result-2
 add-result-2 c = search needs
 
 returns : tie.Need-returns
-unfolding leafWord
+unfolding hostEntry
 returns c = rw (c .before .if1 .taken)
 
 returns-2 : tie.Need-returns-2
-unfolding leafWord
+unfolding hostEntry
 returns-2 c = rw (c .before .if1 .left)
 
 pub leaf-word-spec : {M : Type 1} → statement M

@@ -1,5 +1,4 @@
 use native.Mathlib.Omega.{arith}
-use Rattle.laws.proofs.Counts.{indexes-step}
 use Rattle.host.specs.Walk.{config}
 use Rattle.host.specs.Map.{mapOf}
 use Rattle.host.proofs.Laws.{in-guest-area}
@@ -13,28 +12,25 @@ frame-fits-requires c κs = search needs
 in-guest-area-requires : tie.Need-in-guest-area-requires
 in-guest-area-requires c κs = search needs
 
+leaf-word-requires : tie.Need-leaf-word-requires
+leaf-word-requires c κs =
+    let b = in-guest-area (config (c .before .before .before .before .before .args .l)) (c .before .before .before .before .before .args .f .0) (rw (← c .before .in-guest-area .ensures, c .if2 .taken) tt) in
+    omega (arith, b .1, c .before .before .before .before .before .pre)
+
 tables-requires : tie.Need-tables-requires
 tables-requires c κs = search needs
 
-room-requires : tie.Need-room-requires
-room-requires c κs = rw (c .before .tables .ensures) (omega (arith, c .before .before .before .before .before .before .before .pre), omega (arith, c .before .before .before .before .before .before .before .pre))
+array-share-prefix-none : tie.Need-array-share-prefix-none
+array-share-prefix-none c = search needs
 
-enum-known-n : tie.Need-enum-known-n
-enum-known-n c = search needs
+slice-aggregate-insert : tie.Need-slice-aggregate-insert
+slice-aggregate-insert c = search needs
 
-leaf-word-requires : tie.Need-leaf-word-requires
-leaf-word-requires c κs =
-    let b = in-guest-area (config (c .before .before .before .before .before .before .before .before .before .before .before .before .args .l)) (c .before .before .before .before .before .before .before .before .before .before .before .before .args .f .0) (rw (← c .before .before .before .before .before .before .before .before .in-guest-area .ensures, c .before .before .before .before .before .before .before .if2 .taken) tt) in
-    omega (arith, b .1, c .before .before .before .before .before .before .before .before .before .before .before .before .pre)
+insert-requires : tie.Need-insert-requires
+insert-requires c κs = rw (c .before .before .tables .ensures) (omega (arith, c .before .before .before .before .before .before .before .before .before .pre), omega (arith, c .before .before .before .before .before .before .before .before .before .pre), omega (arith, c .before .before .before .before .before .before .before .before .before .pre), omega (arith, c .before .before .before .before .before .before .before .before .before .pre))
 
-put-leaf-requires : tie.Need-put-leaf-requires
-put-leaf-requires c κs = search needs
-
-enum-told : tie.Need-enum-told
-enum-told c = search needs
-
-enum-told-2 : tie.Need-enum-told-2
-enum-told-2 c = search needs
+settled-requires : tie.Need-settled-requires
+settled-requires c κs = search needs
 
 same-length : tie.Need-same-length
 same-length c = search needs
@@ -42,34 +38,16 @@ same-length c = search needs
 returns : tie.Need-returns
 unfolding mapOf
 returns c =
-    let q = rw (c .before .before .before .before .before .before .before .before .before .before .tables .ensures) at (c .before .before .before .before .before .before .before .before .room .ensures) in
-    rw (← c .before .before .before .before .before .before .before .before .before .before .before .before .before .before .frame-fits .ensures, c .before .before .before .before .before .before .before .before .before .before .before .before .before .if1 .taken, ← c .before .before .before .before .before .before .before .before .before .before .before .before .in-guest-area .ensures, c .before .before .before .before .before .before .before .before .before .before .before .if2 .taken, ← q, c .before .before .before .before .before .before .n .given .1, indexes-step (c .before .before .before .before .before .before .before .before .before .before .before .before .before .before .before .before .args .l .levels) (c .before .before .before .before .before .before .before .before .before .before .before .before .before .before .before .before .args .g .0) (c .before .before .before .before .before .before .before .before .before .before .before .before .before .before .before .before .pre .1), ← c .before .before .before .leaf-word .ensures) (c .before .before .put-leaf .ensures)
-
-same-length-2 : tie.Need-same-length-2
-same-length-2 c = search needs
+    let q = rw (c .before .before .before .before .before .before .before .tables .ensures, c .before .before .before .before .before .before .before .before .leaf-word .ensures) at (c .before .before .before .before .insert .ensures) in
+    rw (← c .before .before .before .before .before .before .before .before .before .before .before .before .frame-fits .ensures, c .before .before .before .before .before .before .before .before .before .before .before .if1 .taken, ← c .before .before .before .before .before .before .before .before .before .before .in-guest-area .ensures, c .before .before .before .before .before .before .before .before .before .if2 .taken, ← q, c .settled .ensures)
 
 returns-2 : tie.Need-returns-2
 unfolding mapOf
-returns-2 c =
-    let q = rw (c .before .before .before .before .tables .ensures) at (c .before .before .room .ensures) in
-    rw (← c .before .before .before .before .before .before .before .before .frame-fits .ensures, c .before .before .before .before .before .before .before .if1 .taken, ← c .before .before .before .before .before .before .in-guest-area .ensures, c .before .before .before .before .before .if2 .taken, ← q, c .enum-told .given .1)
-
-same-length-3 : tie.Need-same-length-3
-same-length-3 c = search needs
+returns-2 c = rw (← c .before .before .before .frame-fits .ensures, c .before .before .if1 .taken, ← c .before .in-guest-area .ensures, c .if2 .left)
 
 returns-3 : tie.Need-returns-3
 unfolding mapOf
-returns-3 c =
-    let q = rw (c .before .before .before .before .tables .ensures) at (c .before .before .room .ensures) in
-    rw (← c .before .before .before .before .before .before .before .before .frame-fits .ensures, c .before .before .before .before .before .before .before .if1 .taken, ← c .before .before .before .before .before .before .in-guest-area .ensures, c .before .before .before .before .before .if2 .taken, ← q, c .enum-told2 .given .1)
-
-returns-4 : tie.Need-returns-4
-unfolding mapOf
-returns-4 c = rw (← c .before .before .before .frame-fits .ensures, c .before .before .if1 .taken, ← c .before .in-guest-area .ensures, c .if2 .left)
-
-returns-5 : tie.Need-returns-5
-unfolding mapOf
-returns-5 c = rw (← c .before .frame-fits .ensures, c .if1 .left)
+returns-3 c = rw (← c .before .frame-fits .ensures, c .if1 .left)
 
 pub map-spec : {M : Type 1} → statement M
 map-spec =
@@ -77,18 +55,13 @@ map-spec =
     (tie.spec
     frame-fits-requires
     in-guest-area-requires
-    tables-requires
-    room-requires
-    enum-known-n
     leaf-word-requires
-    put-leaf-requires
-    enum-told
-    enum-told-2
+    tables-requires
+    array-share-prefix-none
+    slice-aggregate-insert
+    insert-requires
+    settled-requires
     same-length
     returns
-    same-length-2
     returns-2
-    same-length-3
-    returns-3
-    returns-4
-    returns-5)
+    returns-3)

@@ -1,0 +1,18 @@
+use Rattle.shadow.specs.Cut.{isLeaf}
+use borrow.Author.Needs.{needs}
+use Rattle.shadow.proofs.is_leaf.Statement.{statement}
+use Rattle.shadow.proofs.is_leaf.Tie as tie
+
+switch-requires : tie.Need-switch-requires
+switch-requires c κs = search needs
+
+returns : tie.Need-returns
+unfolding isLeaf
+returns c = rw (c .if1 .taken)
+
+returns-2 : tie.Need-returns-2
+unfolding isLeaf
+returns-2 c = rw (c .before .if1 .left) (c .switch .ensures)
+
+pub is-leaf-spec : {M : Type 1} → statement M
+is-leaf-spec = tie.close (tie.spec switch-requires returns returns-2)

@@ -1,0 +1,55 @@
+use mathlib.Core.Path.{_≡_, refl, sym, _∙_}
+use Prim.Native.Nat.{_+_, _-_, _≤_, _<_}
+use native.Mathlib.Omega.{arith}
+use Rattle.shadow.specs.Cut.{watchedFrom, watchedOf}
+use Rattle.shadow.proofs.Laws.{watched-step, watched-none}
+use borrow.Author.Needs.{needs}
+use Rattle.shadow.proofs.watched.Statement.{statement}
+use Rattle.shadow.proofs.watched.Tie as tie
+
+abbrev Inv-loop : tie.InvT-loop
+Inv-loop mem l fresh frame k₀ k = (k ≤ fresh) × (watchedFrom mem (l .hosts) (frame .0) k ≡ watchedFrom mem (l .hosts) (frame .0) fresh)
+
+abbrev μ-loop : tie.MeasureT-loop
+μ-loop mem l fresh frame k₀ k = k
+
+loop-holds : tie.Need-loop-holds Inv-loop μ-loop
+loop-holds c = (omega arith, refl)
+
+sub-k : tie.Need-sub-k Inv-loop μ-loop
+sub-k c = search needs
+
+add-watches : tie.Need-add-watches Inv-loop μ-loop
+add-watches c = search needs
+
+watches-requires : tie.Need-watches-requires Inv-loop μ-loop
+watches-requires c κs = search needs
+
+returns : tie.Need-returns Inv-loop μ-loop
+unfolding watchedOf
+returns c = rw (watched-step (c .before .before .before .before .before .before .args .mem .now) (c .before .before .before .before .before .before .args .l .hosts) (c .before .before .before .before .before .before .args .frame .0) (c .before .before .before .before .loop .k) (c .before .before .before .loop-test .taken), ← c .before .watches .ensures, c .if1 .taken) at (c .before .before .before .before .loop .inv .1)
+
+loop-less : tie.Need-loop-less Inv-loop μ-loop
+loop-less c = search needs
+
+loop-again : tie.Need-loop-again Inv-loop μ-loop
+loop-again c = (omega (arith, c .before .before .before .before .loop .inv .0), rw (watched-step (c .before .before .before .before .before .before .args .mem .now) (c .before .before .before .before .before .before .args .l .hosts) (c .before .before .before .before .before .before .args .frame .0) (c .before .before .before .before .loop .k) (c .before .before .before .loop-test .taken), ← c .before .watches .ensures, c .if1 .left) at (c .before .before .before .before .loop .inv .1))
+
+returns-2 : tie.Need-returns-2 Inv-loop μ-loop
+unfolding watchedOf
+returns-2 c = let z : c .before .loop .k ≡ 0 = omega arith in rw (z, watched-none) at (c .before .loop .inv .1)
+
+pub watched-spec : {M : Type 1} → statement M
+watched-spec =
+    tie.close
+    (tie.spec
+    Inv-loop
+    μ-loop
+    loop-holds
+    sub-k
+    add-watches
+    watches-requires
+    returns
+    loop-less
+    loop-again
+    returns-2)

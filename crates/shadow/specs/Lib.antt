@@ -1,0 +1,4 @@
+pub mod Held
+pub mod Fill
+pub mod Cut
+pub mod Drop
