@@ -1,3 +1,4 @@
+-- Each test; the last without the sum, which may overflow. Assumes nothing.
 use borrow.Author.Tests.{lt-leb, le-leb, le-ltb}
 use Prim.Native.Nat.{_+_, _/_}
 use native.Mathlib.Omega.{arith}

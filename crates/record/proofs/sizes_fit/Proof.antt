@@ -1,3 +1,4 @@
+-- The length, then the tests of an opening. Assumes nothing.
 use borrow.Author.Tests.{eq-eqb, ne-eqb}
 use Rattle.record.specs.Record.{sizesFit}
 use borrow.Author.Needs.{needs}

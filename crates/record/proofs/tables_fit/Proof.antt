@@ -1,8 +1,9 @@
+-- Each way goes by its test. Assumes nothing.
 use mathlib.Core.Path.{_≡_}
 use Rattle.spec.specs.Refusal.{topFits}
 use Rattle.host.specs.Walk.{config}
 use borrow.Author.Tests.{not-true, not-false}
-use Rattle.record.specs.Record.{topOf, tablesFit}
+use Rattle.record.specs.Record.{heldTop, tablesFit}
 use borrow.Author.Needs.{needs}
 use Rattle.record.proofs.tables_fit.Statement.{statement}
 use Rattle.record.proofs.tables_fit.Tie as tie
@@ -15,7 +16,7 @@ unfolding tablesFit
 returns c =
     let a = c .before .before .args in
     let t = c .before .top-fits in
-    let held : t .result ≡ topFits (config (a .l)) (topOf (a .top)) = t .ensures in
+    let held : t .result ≡ topFits (config (a .l)) (heldTop (a .top)) = t .ensures in
     rw (← held, not-true (t .result) (c .if1 .taken))
 
 pool-fits-requires : tie.Need-pool-fits-requires
@@ -26,7 +27,7 @@ unfolding tablesFit
 returns-2 c =
     let a = c .before .before .before .before .args in
     let t = c .before .before .before .top-fits in
-    let held : t .result ≡ topFits (config (a .l)) (topOf (a .top)) = t .ensures in
+    let held : t .result ≡ topFits (config (a .l)) (heldTop (a .top)) = t .ensures in
     let p = c .before .pool-fits in
     rw (← held, not-false (t .result) (c .before .before .if1 .left), ← p .ensures, not-true (p .result) (c .if2 .taken))
 
@@ -38,7 +39,7 @@ unfolding tablesFit
 returns-3 c =
     let a = c .before .before .before .before .before .args in
     let t = c .before .before .before .before .top-fits in
-    let held : t .result ≡ topFits (config (a .l)) (topOf (a .top)) = t .ensures in
+    let held : t .result ≡ topFits (config (a .l)) (heldTop (a .top)) = t .ensures in
     let p = c .before .before .pool-fits in
     rw (← held, not-false (t .result) (c .before .before .before .if1 .left), ← p .ensures, not-false (p .result) (c .before .if2 .left)) (c .pool-fits2 .ensures)
 
