@@ -1,33 +1,35 @@
 -- What an opening leaves: the answer of the specification, the guest words, a record that breaks no rule, tables of no leaf.
 -- Assumes nothing.
-use mathlib.Core.Path.{_≡_, refl, sym, ap, _∙_, subst}
+use mathlib.Core.Path.{_≡_, refl, _∙_}
 use mathlib.Core.Logic.{_≢_, inl, inr}
 use mathlib.Core.Bool.{Bool, true, false}
 use mathlib.Core.List.{List, [], _∷_}
 use mathlib.Core.Option.{none, some}
-use Prim.Native.Nat.{ℕ, _+_, _*_, _/_, _<_, _≤_}
+use Prim.Native.Nat.{ℕ, _+_, _*_}
 use native.Mathlib.Omega.{arith}
-use borrow.Author.Tests.{eq-eqb, ne-eqb, le-leb}
-use lib.Dec.{leb}
+use borrow.Author.Tests.{eq-eqb, ne-eqb}
 use lib.ListN.{length, drop}
 use Rattle.spec.specs.Answer as say
 use Rattle.spec.specs.Config.{Config, guestBase}
-use Rattle.spec.specs.Refusal.{firstFailed, wordsFit, areasFit, recordFits, openRefusal}
-use Rattle.spec.specs.Run.{State, opened, opening}
+use Rattle.spec.specs.Refusal.{firstFailed, wordsFit, areasFit, openRefusal}
+use Rattle.spec.specs.Run.{opened, opening}
 use Rattle.words.proofs.Laws.{zeroed-length, zeroed-above}
 use Rattle.area.specs.declared.Area.{Area}
-use Rattle.area.specs.declared.Pool.{Pool}
 use Rattle.area.specs.Pool.{noneOf}
 use Rattle.tree.proofs.Stores.{Beside, beside-drop}
-use Rattle.tree.proofs.Whole.{Holds, Opened, holds-none, holds-top}
+use Rattle.tree.specs.Run.{get}
+use Rattle.tree.specs.Host.{hostMap}
+use Rattle.tree.proofs.Whole.{Holds, holds-leaves, holds-none}
 use Rattle.host.specs.Map.{hostArea}
+use Rattle.host.proofs.Mapping.{Maps, enter-maps}
 use Rattle.marks.specs.Key.{ascending}
 use Rattle.marks.specs.Table.{tableOf, number}
 use Rattle.marks.specs.Reading.{marksOf}
 use Rattle.marks.proofs.Book.{keysOf, no-marks, none-ascend}
-use Rattle.record.specs.Record.{levels, configBy, poolFits, fitsOf, zeros}
-use Rattle.record.specs.Open.{refusalOf, clearedOf, enteredOf, firstOf, Kept, kept, grantedOf, opens, granted, openOf}
-use Rattle.record.proofs.Rules.{Sized, granted-tests, granted-sized, zeros-refused}
+use Rattle.record.specs.declared.Record.{Record}
+use Rattle.record.specs.Record.{levels, configBy, fitsOf, zeros}
+use Rattle.record.specs.Open.{refusalOf, clearedOf, enteredOf, firstOf, grantedOf, opens, granted, openOf}
+use Rattle.record.proofs.Rules.{Sized, Fits, sized-layout, granted-tests, granted-sized, fits-true, zeros-refused}
 
 -- ---- the refusal
 pub open-refusal : (words h s : ℕ) → refusalOf words h s ≢ 0 → openRefusal (configBy words h s) words ≡ some (refusalOf words h s)
@@ -69,24 +71,11 @@ module _ (m : List ℕ) (h s : ℕ) (grant : refusalOf (length m) h s ≡ 0) whe
   abbrev c : Config
   c = configBy (length m) h s
 
-  cleared : List ℕ
-  cleared = clearedOf m (h + s)
+  abbrev unit : Record
+  unit = grantedOf m h s .unit
 
-  fits : Sized (length m) h s
-  fits = granted-sized (length m) h s grant
-
-  clear-long : length cleared ≡ length m
-  unfolding cleared
-  clear-long = clear-beside m (h + s) .len
-
-  top : Opened (hostArea c) cleared (λ x. 0)
-  top = holds-top (hostArea c) (λ x. 0) cleared (omega (arith, fits .guest, fits .frames)) (omega arith)
-      (omega (arith, clear-long, fits .guest, fits .whole)) (omega arith) (omega (arith, fits .hosts)) (omega arith)
-
-  -- the record and the memory
-  granted-is : grantedOf m h s ≡ kept (firstOf (length m) h s (top .pool)) (top .memory)
-  unfolding grantedOf enteredOf cleared
-  granted-is = rw (top .done)
+  abbrev memory : List ℕ
+  memory = grantedOf m h s .memory
 
   pub granted-opening : opening c m ≡ (say.ok, some (opened c m))
   unfolding opening openRefusal
@@ -96,53 +85,57 @@ module _ (m : List ℕ) (h s : ℕ) (grant : refusalOf (length m) h s ≡ 0) whe
   unfolding openOf
   granted-open = rw (eq-eqb _ _ grant)
 
-  pub granted-long : length (grantedOf m h s .memory) ≡ length m
-  granted-long = ap (λ k. length (k .memory)) granted-is ∙ top .beside .len ∙ clear-long
+  fits : Sized (length m) h s
+  fits = granted-sized (length m) h s grant
+
+  entered : Maps c [] (unit .host) memory × Beside (hostArea c) (clearedOf m (h + s)) memory
+  unfolding grantedOf firstOf enteredOf
+  entered = enter-maps c (clearedOf m (h + s)) (omega arith) (omega arith) (omega (arith, fits .hosts)) (omega (arith, fits .guest, fits .frames)) (fits .frames)
+      (omega (arith, clear-beside m (h + s) .len, fits .guest, fits .whole))
+
+  pub granted-long : length memory ≡ length m
+  granted-long = entered .1 .len ∙ clear-beside m (h + s) .len
 
   -- "keeps guest words"
-  pub granted-guest : drop (512 * guestBase c) (grantedOf m h s .memory) ≡ drop (512 * guestBase c) m
-  unfolding cleared
+  pub granted-guest : drop (512 * guestBase c) memory ≡ drop (512 * guestBase c) m
   granted-guest =
-      ap (λ k. drop (512 * guestBase c) (k .memory)) granted-is
-      ∙ beside-drop (top .beside) (512 * guestBase c) (omega arith)
-      ∙ beside-drop (clear-beside m (h + s)) (512 * guestBase c) (omega arith)
-
-  -- the record breaks no rule
-  pool-fits : poolFits h (top .pool) ≡ true
-  unfolding poolFits
-  pool-fits =
-      let t = top .holds .tables in
-      let used : top .pool .used ≤ top .pool .fresh = omega (arith, t .count) in
-      rw (le-leb _ _ (t .room), le-leb _ _ used)
-
-  none-fits : poolFits s noneOf ≡ true
-  unfolding poolFits noneOf
-  none-fits = rw (le-leb 0 s (omega arith))
-
-  no-mark : marksOf levels (tableOf []) ≡ []
-  unfolding tableOf
-  no-mark = no-marks levels (tableOf []) refl
-
-  pub granted-fits : fitsOf (grantedOf m h s .unit) (length (grantedOf m h s .memory)) ≡ true
-  unfolding fitsOf recordFits firstOf
-  granted-fits =
-      let t = granted-tests (length m) h s grant in
-      let e = ap (λ (n : ℕ). fitsOf (firstOf (length m) h s (top .pool)) n) granted-long in
-      ap (λ (k : Kept). fitsOf (k .unit) (length (grantedOf m h s .memory))) granted-is ∙ e
-      ∙ rw (eq-eqb (length m) (length m) refl, eq-eqb (length m / 512) (length m / 512) refl, t .0, t .1, no-mark, pool-fits, none-fits)
-
-  -- its keys ascend, so the rule of marks is one pass
-  pub granted-ascend : ascending levels 0 (keysOf (grantedOf m h s .unit .marks)) ≡ true
-  unfolding grantedOf firstOf tableOf
-  granted-ascend = none-ascend levels (tableOf []) refl
+      beside-drop (entered .1) (512 * guestBase c) (omega arith) ∙ beside-drop (clear-beside m (h + s)) (512 * guestBase c) (omega arith)
 
   -- ---- the tables: nothing is mapped, no path is held
-  pub granted-host : Holds (hostArea c) true (grantedOf m h s .unit .host) (grantedOf m h s .memory) (λ x. 0) (λ x. 0)
-  unfolding firstOf
-  granted-host = subst (λ k. Holds (hostArea c) true (k .unit .host) (k .memory) (λ x. 0) (λ x. 0)) (sym granted-is) (top .holds)
+  pub granted-maps : Maps c [] (unit .host) memory
+  granted-maps = entered .0
 
-  pub granted-shadow : (guest : List ℕ → ℕ)
-      → Holds (record { base = h; size = s; levels = levels }) false (grantedOf m h s .unit .shadow) (grantedOf m h s .memory) (λ x. 0) guest
+  pub granted-host : Holds (hostArea c) true (unit .host) memory (λ x. 0) (λ x. 0)
+  unfolding hostMap get
+  granted-host = holds-leaves (granted-maps .holds) (λ x. 0) (λ x. refl)
+
+  pub granted-shadow : (guest : List ℕ → ℕ) → Holds (record { base = h; size = s; levels = levels }) false (unit .shadow) memory (λ x. 0) guest
   unfolding grantedOf firstOf
-  granted-shadow guest = holds-none (record { base = h; size = s; levels = levels }) guest (grantedOf m h s .memory)
+  granted-shadow guest = holds-none (record { base = h; size = s; levels = levels }) guest memory
       (omega (arith, fits .guest, fits .frames)) (omega arith) (omega (arith, granted-long, fits .guest, fits .whole))
+
+  -- ---- the record breaks no rule
+  no-mark : marksOf levels (unit .marks) ≡ []
+  unfolding grantedOf firstOf tableOf
+  no-mark = no-marks levels (tableOf []) refl
+
+  rules : Fits unit (length memory)
+  unfolding grantedOf firstOf noneOf
+  rules = record {
+    long = granted-long;
+    sizes = fits;
+    layout = sized-layout fits;
+    root = omega arith;
+    marks = rw no-mark;
+    top = inl refl;
+    host = (granted-host .tables .room, omega (arith, granted-host .tables .count));
+    shadow = (omega arith, omega arith);
+  }
+
+  pub granted-fits : fitsOf unit (length memory) ≡ true
+  granted-fits = fits-true unit (length memory) rules
+
+  -- its keys ascend, so that the rule of marks takes one pass
+  pub granted-ascend : ascending levels 0 (keysOf (unit .marks)) ≡ true
+  unfolding grantedOf firstOf tableOf
+  granted-ascend = none-ascend levels (tableOf []) refl

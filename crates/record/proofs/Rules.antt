@@ -1,6 +1,6 @@
 -- What the rules of a record give: the ranges that every crate below asks for.
 -- Assumes nothing.
-use mathlib.Core.Path.{_≡_, refl, sym, ap, _∙_}
+use mathlib.Core.Path.{_≡_, refl, sym, _∙_}
 use mathlib.Core.Logic.{_⊎_, inl, inr}
 use mathlib.Core.Bool.{Bool, true, false, _&&_, cond, and-eq-true-iff}
 use mathlib.Core.List.{[], _∷_}
@@ -10,18 +10,17 @@ use native.Mathlib.Omega.{arith}
 use borrow.Author.Tests.{eqb-true, eqb-false, leb-true, ltb-true, ltb-false, lt-ltb, le-ltb, le-leb, eq-eqb}
 use lib.Dec.{eqb, leb, ltb}
 use Rattle.spec.specs.Config.{Config, guestBase, frameBits}
-use Rattle.spec.specs.Refusal.{wordsFit, areasFit, frameFits, inGuestArea, marksFit, topFits, recordFits, openRefusal}
+use Rattle.spec.specs.Refusal.{wordsFit, areasFit, frameFits, marksFit, topFits, recordFits, openRefusal}
 use Rattle.area.specs.declared.Pool.{Pool}
 use Rattle.area.specs.Pool.{noneOf}
-use Rattle.host.specs.Walk.{LayoutFits, config}
+use Rattle.host.specs.Walk.{LayoutFits}
 use Rattle.host.proofs.Laws.{InGuestArea}
 use Rattle.marks.specs.declared.Marks.{Marks}
 use Rattle.marks.specs.Key.{keysFit}
-use Rattle.marks.specs.Table.{room}
 use Rattle.marks.specs.Reading.{marksOf}
 use Rattle.marks.proofs.Book.{keysOf, marks-fit, all-held}
 use Rattle.record.specs.declared.Record.{Record}
-use Rattle.record.specs.Record.{levels, layoutOf, configBy, configOf, topOf, poolFits, fitsOf, sizesFit, tablesFit, zeros, withRoot, withMarks}
+use Rattle.record.specs.Record.{levels, layoutOf, configBy, configOf, heldTop, poolFits, fitsOf, sizesFit, tablesFit, zeros, withRoot, withMarks}
 use Rattle.record.specs.Open.{refusalOf}
 
 both : (a b : Bool) → a && b ≡ true → (a ≡ true) × (b ≡ true)
@@ -98,7 +97,7 @@ pub record Fits (r : Record) (len : ℕ) : Type 0 where
   pub host : PoolFits (r .hosts) (r .host)
   pub shadow : PoolFits (r .shadows) (r .shadow)
 
-top-fits : (c : Config) (f : ℕ) → topFits c (topOf f) ≡ true → (f ≡ 0) ⊎ InGuestArea c f
+top-fits : (c : Config) (f : ℕ) → topFits c (heldTop f) ≡ true → (f ≡ 0) ⊎ InGuestArea c f
 top-fits c f = go (eqb f 0) refl
   where
     go : (t : Bool) → eqb f 0 ≡ t → topFits c (cond t none (some f)) ≡ true → (f ≡ 0) ⊎ InGuestArea c f
@@ -117,7 +116,7 @@ fits-layout r len e =
     let f = eqb (r .words / 512) (r .words / 512) in
     let g = frameFits c (r .root) in
     let h = marksFit c (marksOf levels (r .marks)) in
-    let i = topFits c (topOf (r .top)) in
+    let i = topFits c (heldTop (r .top)) in
     let j = poolFits (r .hosts) (r .host) in
     let k = poolFits (r .shadows) (r .shadow) in
     let xk = both (a && b && d && f && g && h && i && j) k e in
@@ -147,7 +146,7 @@ sized-tests {words} {h} {s} z =
     let some : 0 < words / 512 = omega (arith, z .guest) in
     (rw (eq-eqb _ _ even, lt-ltb _ _ some, le-leb _ _ (z .frames)), rw (le-leb _ _ (z .hosts), le-leb _ _ (z .shadows), lt-ltb _ _ (z .guest)))
 
-fits-top : (c : Config) (f : ℕ) → (f ≡ 0) ⊎ InGuestArea c f → topFits c (topOf f) ≡ true
+fits-top : (c : Config) (f : ℕ) → (f ≡ 0) ⊎ InGuestArea c f → topFits c (heldTop f) ≡ true
 fits-top c f o = go (eqb f 0) refl
   where
     go : (t : Bool) → eqb f 0 ≡ t → topFits c (cond t none (some f)) ≡ true
@@ -228,7 +227,7 @@ fits-by r len b l e =
     let host = poolFits (r .hosts) (r .host) in
     let shadow = poolFits (r .shadows) (r .shadow) in
     rw (eq-eqb (r .words / 512) (r .words / 512) refl, marks-fit c (r .marks) l (omega arith))
-    (e ∙ sym (parts sizes (frameFits c (r .root)) (keysFit levels (keysOf (r .marks))) (topFits c (topOf (r .top))) host shadow))
+    (e ∙ sym (parts sizes (frameFits c (r .root)) (keysFit levels (keysOf (r .marks))) (topFits c (heldTop (r .top))) host shadow))
 
 -- ---- a record of zeros breaks a rule on every memory
 pub zeros-refused : (len : ℕ) → fitsOf zeros len ≡ false

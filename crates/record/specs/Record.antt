@@ -2,7 +2,7 @@
 -- Assumes nothing.
 use Prim.Native.Nat.{ℕ, _/_}
 use mathlib.Core.Bool.{Bool, _&&_, cond}
-use mathlib.Core.List.{List, []}
+use mathlib.Core.List.{List}
 use mathlib.Core.Option.{Option, none, some}
 use lib.Dec.{eqb, leb}
 use lib.ListN.{replicate}
@@ -14,7 +14,6 @@ use Rattle.area.specs.Pool.{noneOf}
 use Rattle.host.specs.declared.Layout.{Layout}
 use Rattle.host.specs.Walk.{config}
 use Rattle.marks.specs.declared.Marks.{Marks}
-use Rattle.marks.specs.Table.{tableOf}
 use Rattle.marks.specs.Reading.{marksOf}
 use Rattle.record.specs.declared.Record.{Record}
 
@@ -33,8 +32,8 @@ abbrev pub configOf : Record → Config
 configOf r = configBy (r .words) (r .hosts) (r .shadows)
 
 -- "a held d = 4 frame", where the path of no index is held; 0 says that it is not, since frame 0 is a host frame
-abbrev pub topOf : ℕ → Option ℕ
-topOf f = cond (eqb f 0) none (some f)
+abbrev pub heldTop : ℕ → Option ℕ
+heldTop f = cond (eqb f 0) none (some f)
 
 -- what the record says, as the rule reads it
 abbrev pub reading : Record → rule.Record
@@ -43,7 +42,7 @@ reading r = record {
   config = configOf r;
   root = r .root;
   marks = marksOf levels (r .marks);
-  top = topOf (r .top);
+  top = heldTop (r .top);
 }
 
 -- the ranges of what an area of that size keeps: no more frames handed out than it has, nor more tables in use
@@ -62,7 +61,7 @@ sizesFit words h s len = eqb len words && wordsFit words && areasFit (configBy w
 
 -- the held frame and what the areas keep
 unfoldable pub tablesFit : Layout → ℕ → Pool → Pool → Bool
-tablesFit l top host shadow = topFits (config l) (topOf top) && poolFits (l .hosts) host && poolFits (l .shadows) shadow
+tablesFit l top host shadow = topFits (config l) (heldTop top) && poolFits (l .hosts) host && poolFits (l .shadows) shadow
 
 -- a record by its fields
 abbrev pub recordOf : ℕ → ℕ → ℕ → ℕ → ℕ → Pool → Pool → ℕ → List ℕ → Record

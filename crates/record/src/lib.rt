@@ -5,16 +5,13 @@ use entry::GuestVirtual;
 use host::Layout;
 use marks::Marks;
 ghost use mathlib.Core.Path.{_≡_};
-ghost use mathlib.Core.Bool.{_&&_};
-ghost use Prim.Native.Nat.{_+_, _*_, _≤_};
-ghost use lib.ListN.{length};
+ghost use Prim.Native.Nat.{_+_, _≤_};
 ghost use Rattle.spec.specs.Entry.{pageOf};
 ghost use Rattle.spec.specs.Refusal.{wordsFit, areasFit, topFits};
-ghost use Rattle.words.specs.Words.{zeroed};
 ghost use Rattle.host.specs.Walk.{LayoutFits, config};
 ghost use Rattle.marks.specs.Key.{depthOf};
 ghost use Rattle.marks.specs.Table.{keys};
-ghost use Rattle.record.specs.Record.{layoutOf, configBy, topOf, poolFits, sizesFit, tablesFit, recordOf, fitsOf, zeros, withRoot, withMarks};
+ghost use Rattle.record.specs.Record.{layoutOf, configBy, heldTop, poolFits, sizesFit, tablesFit, recordOf, fitsOf, zeros, withRoot, withMarks};
 ghost use Rattle.record.specs.Open.{refusalOf, clearedOf, firstOf, kept, grantedOf, opens, openOf};
 
 // Levels of the guest's tables and of the host's.
@@ -102,7 +99,7 @@ fn pool_fits(size: u64, pool: Pool) -> bool
 // Does the held frame, if there is one, lie in the guest area?
 fn top_fits(l: Layout, top: u64) -> bool
     requires { ⌜ LayoutFits l ⌝ }
-    ensures { λ r. ⌜ r ≡ topFits (config l) (topOf top) ⌝ }
+    ensures { λ r. ⌜ r ≡ topFits (config l) (heldTop top) ⌝ }
 {
     if top == 0 {
         return true;

@@ -1,3 +1,4 @@
+-- A pool from which nothing is handed out, and no mark. Assumes nothing.
 use Rattle.record.specs.Open.{firstOf}
 use borrow.Author.Needs.{needs}
 use Rattle.record.proofs.first.Statement.{statement}

@@ -1,3 +1,4 @@
+-- Each way goes by its test; the sizes give the ranges of the layout. Assumes nothing.
 use borrow.Author.Tests.{not-true, not-false}
 use mathlib.Core.Path.{sym, _∙_}
 use native.Mathlib.Omega.{arith}

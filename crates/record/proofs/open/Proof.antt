@@ -1,3 +1,4 @@
+-- What is granted gives the ranges. Assumes nothing.
 use borrow.Author.Tests.{eq-eqb, ne-eqb}
 use mathlib.Core.Path.{sym, _∙_}
 use lib.ListN.{length}

@@ -1,3 +1,4 @@
+-- The pool and the memory are those of the top table handed out. Assumes nothing.
 use native.Mathlib.Omega.{arith}
 use Rattle.record.specs.Open.{grantedOf, enteredOf}
 use borrow.Author.Needs.{needs}

@@ -1,3 +1,4 @@
+-- Each refusal by its test, in their order. Assumes nothing.
 use borrow.Author.Tests.{not-true, not-false}
 use Rattle.spec.specs.Refusal.{openRefusal}
 use Rattle.record.specs.Open.{refusalOf}

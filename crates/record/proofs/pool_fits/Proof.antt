@@ -1,3 +1,4 @@
+-- Each way goes by its test. Assumes nothing.
 use borrow.Author.Tests.{lt-leb, le-leb}
 use Rattle.record.specs.Record.{poolFits}
 use Rattle.record.proofs.pool_fits.Statement.{statement}

@@ -1,3 +1,4 @@
+-- The length, then the tests of an opening. Assumes nothing.
 use borrow.Author.Tests.{eq-eqb, ne-eqb}
 use Rattle.record.specs.Record.{sizesFit}
 use borrow.Author.Needs.{needs}
@@ -6,7 +7,7 @@ use Rattle.record.proofs.sizes_fit.Tie as tie
 
 returns : tie.Need-returns
 unfolding sizesFit
-returns c = rw (ne-eqb _ _ (c .if1 .taken))
+returns c = rw (ne-eqb (c .before .args .len) (c .before .args .words) (c .if1 .taken))
 
 words-fit-requires : tie.Need-words-fit-requires
 words-fit-requires c κs = search needs
@@ -16,11 +17,11 @@ areas-fit-requires c κs = search needs
 
 returns-2 : tie.Need-returns-2
 unfolding sizesFit
-returns-2 c = rw (eq-eqb _ _ (c .before .before .before .if1 .left), ← c .before .before .words-fit .ensures, c .before .if2 .taken) (c .areas-fit .ensures)
+returns-2 c = rw (eq-eqb (c .before .before .before .before .args .len) (c .before .before .before .before .args .words) (c .before .before .before .if1 .left), ← c .before .before .words-fit .ensures, c .before .if2 .taken) (c .areas-fit .ensures)
 
 returns-3 : tie.Need-returns-3
 unfolding sizesFit
-returns-3 c = rw (eq-eqb _ _ (c .before .before .if1 .left), ← c .before .words-fit .ensures, c .if2 .left)
+returns-3 c = rw (eq-eqb (c .before .before .before .args .len) (c .before .before .before .args .words) (c .before .before .if1 .left), ← c .before .words-fit .ensures, c .if2 .left)
 
 pub sizes-fit-spec : {M : Type 1} → statement M
 sizes-fit-spec =

@@ -1,5 +1,9 @@
+-- Each way goes by its test. Assumes nothing.
+use mathlib.Core.Path.{_≡_}
+use Rattle.spec.specs.Refusal.{topFits}
+use Rattle.host.specs.Walk.{config}
 use borrow.Author.Tests.{not-true, not-false}
-use Rattle.record.specs.Record.{tablesFit}
+use Rattle.record.specs.Record.{heldTop, tablesFit}
 use borrow.Author.Needs.{needs}
 use Rattle.record.proofs.tables_fit.Statement.{statement}
 use Rattle.record.proofs.tables_fit.Tie as tie
@@ -9,21 +13,35 @@ top-fits-requires c κs = search needs
 
 returns : tie.Need-returns
 unfolding tablesFit
-returns c = rw (← c .before .top-fits .ensures, not-true (c .before .top-fits .result) (c .if1 .taken))
+returns c =
+    let a = c .before .before .args in
+    let t = c .before .top-fits in
+    let held : t .result ≡ topFits (config (a .l)) (heldTop (a .top)) = t .ensures in
+    rw (← held, not-true (t .result) (c .if1 .taken))
 
 pool-fits-requires : tie.Need-pool-fits-requires
 pool-fits-requires c κs = search needs
 
 returns-2 : tie.Need-returns-2
 unfolding tablesFit
-returns-2 c = rw (← c .before .before .before .top-fits .ensures, not-false (c .before .before .before .top-fits .result) (c .before .before .if1 .left), ← c .before .pool-fits .ensures, not-true (c .before .pool-fits .result) (c .if2 .taken))
+returns-2 c =
+    let a = c .before .before .before .before .args in
+    let t = c .before .before .before .top-fits in
+    let held : t .result ≡ topFits (config (a .l)) (heldTop (a .top)) = t .ensures in
+    let p = c .before .pool-fits in
+    rw (← held, not-false (t .result) (c .before .before .if1 .left), ← p .ensures, not-true (p .result) (c .if2 .taken))
 
 pool-fits-requires-2 : tie.Need-pool-fits-requires-2
 pool-fits-requires-2 c κs = search needs
 
 returns-3 : tie.Need-returns-3
 unfolding tablesFit
-returns-3 c = rw (← c .before .before .before .before .top-fits .ensures, not-false (c .before .before .before .before .top-fits .result) (c .before .before .before .if1 .left), ← c .before .before .pool-fits .ensures, not-false (c .before .before .pool-fits .result) (c .before .if2 .left)) (c .pool-fits2 .ensures)
+returns-3 c =
+    let a = c .before .before .before .before .before .args in
+    let t = c .before .before .before .before .top-fits in
+    let held : t .result ≡ topFits (config (a .l)) (heldTop (a .top)) = t .ensures in
+    let p = c .before .before .pool-fits in
+    rw (← held, not-false (t .result) (c .before .before .before .if1 .left), ← p .ensures, not-false (p .result) (c .before .if2 .left)) (c .pool-fits2 .ensures)
 
 pub tables-fit-spec : {M : Type 1} → statement M
 tables-fit-spec =

@@ -1,3 +1,4 @@
+-- 0 is no frame; any other is tested. Assumes nothing.
 use borrow.Author.Tests.{eq-eqb, ne-eqb}
 use borrow.Author.Needs.{needs}
 use Rattle.record.proofs.top_fits.Statement.{statement}

@@ -1,3 +1,4 @@
+-- Each way goes by its test; no word is no frame. Assumes nothing.
 use borrow.Author.Tests.{eq-eqb, ne-eqb, le-ltb, lt-ltb}
 use Prim.Native.Nat.{_/_}
 use native.Mathlib.Omega.{arith}

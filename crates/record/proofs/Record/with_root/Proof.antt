@@ -1,3 +1,4 @@
+-- By the definition. Assumes nothing.
 use mathlib.Core.Path.{refl}
 use Rattle.record.specs.Record.{withRoot}
 use Rattle.record.proofs.Record.with_root.Statement.{statement}

@@ -1,3 +1,4 @@
+-- Two pools from which nothing is handed out. Assumes nothing.
 use Rattle.record.specs.Record.{zeros}
 use borrow.Author.Needs.{needs}
 use Rattle.record.proofs.Record.zeros.Statement.{statement}
