@@ -52,7 +52,7 @@ module _ (c : Config) (s : Machine) (m : List ℕ) (st : Stands c s m) where
       go (some r) = (refl, refl)
 
   -- and of a word of the guest area
-  same-word : (t i : ℕ) → InGuestArea c t → words.wordIn m t i ≡ wordIn c s t i
+  pub same-word : (t i : ℕ) → InGuestArea c t → words.wordIn m t i ≡ wordIn c s t i
   same-word t i b =
       let at : 512 * guestBase c + place c t i ≡ t * 512 + i = omega (arith, b .0) in
       sym (ap (λ k. getD m k 0) at) ∙ sym (getD-drop (512 * guestBase c) m (place c t i) 0) ∙ ap (λ xs. getD xs (place c t i) 0) (st .area)
