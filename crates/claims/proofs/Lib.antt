@@ -3,3 +3,5 @@ pub mod Moves
 pub mod Paths
 pub mod Found
 pub mod Translates
+pub mod Puts
+pub mod Requests

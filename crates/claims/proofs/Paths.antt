@@ -8,6 +8,7 @@ use mathlib.Core.List.{List, [], _∷_, _++_}
 use lib.Dec.{eqb}
 use borrow.Author.Tests.{ne-eqb}
 use lib.ListN.{length, take, drop}
+use lib.Seq.{drop-append-seam}
 use Rattle.spec.specs.declared.Fault.{Fault}
 use Rattle.spec.specs.declared.Fault.the-variants as fault
 use Rattle.spec.specs.Config.{Config}
@@ -29,10 +30,6 @@ unfolding indexes
 indexes-all zero p = tt
 indexes-all (suc n) p = (index-fits n p, indexes-all n p)
 
-drop-front : (xs ys : List ℕ) → drop (length xs) (xs ++ ys) ≡ ys
-drop-front [] ys = refl
-drop-front (x ∷ xs) ys = drop-front xs ys
-
 -- the path of an address at depth d, and the indexes below it
 pub path-upper : (c : Config) (d a : ℕ) → d ≤ c .levels → upper c d (addressIndexes c a) ≡ pathIndexes c d a
 path-upper c d a l =
@@ -46,7 +43,7 @@ path-lower c d a l =
     ap (λ k. drop (c .levels - d) (indexes k (pageOf a))) (sym n)
     ∙ ap (drop (c .levels - d)) (indexes-split (c .levels - d) d (pageOf a))
     ∙ ap (λ k. drop k (xs ++ indexes d (pageOf a))) (sym (indexes-length (c .levels - d) (pageOf a / 2 ^ (9 * d))))
-    ∙ drop-front xs (indexes d (pageOf a))
+    ∙ drop-append-seam xs (indexes d (pageOf a))
 
 -- above level 1 a store walks as a load
 next-above : (g : ℕ) (w : Bool) → next true false g w ≡ next false false g w

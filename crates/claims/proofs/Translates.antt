@@ -30,7 +30,7 @@ use Rattle.laws.proofs.Parts.{shadow-fault, direct-result}
 use Rattle.laws.proofs.Counts.{indexes-length}
 use Rattle.laws.proofs.Depth.{PathFits, no-proper-prefix, depth-bound}
 use Rattle.laws.proofs.Keeps.{Valid, again, fill-valid}
-use Rattle.laws.proofs.Runs.{BookFits}
+use Rattle.laws.proofs.Runs.{BookFits, fill-keeps}
 use Rattle.tree.proofs.Paths.{onto}
 use Rattle.tree.proofs.Whole.{Holds, Next}
 use Rattle.area.specs.Pool.{End}
@@ -143,7 +143,7 @@ module _ (s : State) (r : Record) (m : List ℕ) (inv : Inv s r m) (st : Bool) (
       let d = trace w (directPart c st deep (t, right) (addressIndexes c a)) in
       let q = direct-is n sn t right low i in
       let whole = direct-result w c st deep (mach .root) (addressIndexes c a) (t, right) (indexes-length (c .levels) (pageOf a)) low
-          (ap (λ p. (trace w (walk c st (mach .root) p)) .result) (path-upper c deep a low) ∙ g) in
+      (ap (λ p. (trace w (walk c st (mach .root) p)) .result) (path-upper c deep a low) ∙ g) in
       ap (λ x. translation p top (e + exitBy x) x) q
       ∙ ap (λ x. translation p top (e + x) (plainWalked (d .result) ((c .levels - deep) + d .count))) (exit-is (d .result) ((c .levels - deep) + d .count))
       ∙ ap (λ x. translation p top (e + hostExit (d .result)) (plainWalked x ((c .levels - deep) + d .count))) (sym (whole .0))
@@ -228,7 +228,7 @@ module _ (s : State) (r : Record) (m : List ℕ) (inv : Inv s r m) (st : Bool) (
   fault-path x low sv e =
       let q = request-is low ∙ ap₂ (λ b y. shadowed c mach (s .book) st deep (addressIndexes c a) path b part y) sv e in
       let f = shadow-fault w c st deep (mach .root) (addressIndexes c a) x (indexes-length (c .levels) (pageOf a)) low
-          (ap (λ p. (trace w (walk c st (mach .root) p)) .result) (path-upper c deep a low) ∙ e) in
+      (ap (λ p. (trace w (walk c st (mach .root) p)) .result) (path-upper c deep a low) ∙ e) in
       subst (λ k. Translates s r m st a k (missedBy c m (r .shadow) (r .top) (r .root) st a deep (walkedOf c m 0 (walk c st (r .root) path)))) (sym q) (record {
         pool = r .shadow;
         top = r .top;
@@ -280,11 +280,7 @@ module _ (s : State) (r : Record) (m : List ℕ) (inv : Inv s r m) (st : Bool) (
       )
 
   fill-book : (right : Bool) → deep ≤ c .levels → BookFits c (holding (s .book) (fill c (new right) (s .book .held)))
-  fill-book right low = go (leb (shadowTables (new right ∷ s .book .held)) (c .shadows))
-    where
-      go : (b : Bool) → BookFits c (holding (s .book) (cond b (new right ∷ s .book .held) (new right ∷ [])))
-      go true = record { marks = inv .book .marks; held = (found.path-depth s r m inv a low, inv .book .held) }
-      go false = record { marks = inv .book .marks; held = (found.path-depth s r m inv a low, tt) }
+  fill-book right low = fill-keeps c (s .book) (new right) (found.path-depth s r m inv a low) (inv .book)
 
   fill-all : (P : Held → Type 0) (right : Bool) → P (new right) → All P (s .book .held) → All P (fill c (new right) (s .book .held))
   fill-all P right p q = go (leb (shadowTables (new right ∷ s .book .held)) (c .shadows))

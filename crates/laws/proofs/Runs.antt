@@ -39,11 +39,11 @@ pub record BookFits (c : Config) (b : Book) : Type 0 where
   pub marks : All (MarkFits (c .levels)) (b .marks)
   pub held : All (λ (h : Held). PathFits (c .levels) (b .marks) (h .path)) (b .held)
 
-abbrev HeldFits : Config → List Mark → Held → Type 0
+abbrev pub HeldFits : Config → List Mark → Held → Type 0
 HeldFits c ms h = PathFits (c .levels) ms (h .path)
 
 -- fewer held paths
-kept-fits : (c : Config) (b : Book) (f : Held → Bool) → BookFits c b → BookFits c (holding b (keep f (b .held)))
+pub kept-fits : (c : Config) (b : Book) (f : Held → Bool) → BookFits c b → BookFits c (holding b (keep f (b .held)))
 kept-fits c b f i = record {
   marks = i .marks;
   held = all-map (λ h. HeldFits c (b .marks) h × T (f h)) (HeldFits c (b .marks)) (keep f (b .held)) (λ h k. k .0)
@@ -83,14 +83,14 @@ clear-keeps c b m i = record {
       (all-keep (HeldFits c (b .marks)) (λ h. not (begins (m .prefix) (h .path))) (b .held) (i .held));
 }
 
-fill-keeps : (c : Config) (b : Book) (h : Held) → HeldFits c (b .marks) h → BookFits c b → BookFits c (holding b (fill c h (b .held)))
+pub fill-keeps : (c : Config) (b : Book) (h : Held) → HeldFits c (b .marks) h → BookFits c b → BookFits c (holding b (fill c h (b .held)))
 fill-keeps c b h ok i = go (leb (shadowTables (h ∷ b .held)) (c .shadows))
   where
     go : (t : Bool) → BookFits c (holding b (cond t (h ∷ b .held) (h ∷ [])))
     go true = record { marks = i .marks; held = (ok, i .held) }
     go false = record { marks = i .marks; held = (ok, tt) }
 
-request-keeps : (c : Config) (m : Machine) (b : Book) (st : Bool) (a : ℕ) → BookFits c b
+pub request-keeps : (c : Config) (m : Machine) (b : Book) (st : Bool) (a : ℕ) → BookFits c b
     → BookFits c ((request c m b st a (depth (b .marks) (addressIndexes c a))) .book)
 unfolding request
 request-keeps c m b st a i = go (leb d (c .levels)) refl

@@ -1,0 +1,203 @@
+-- A store to a word of the guest area, with the paths that it drops, is the machine's store and the book's drop.
+-- Assumes nothing.
+use mathlib.Core.Path.{_≡_, refl, sym, ap, ap₂, _∙_, subst}
+use mathlib.Core.Logic.{_≢_, _⊎_, inl, inr}
+use Prim.Native.Nat.{ℕ, _+_, _-_, _*_, _^_, _<_, _≤_}
+use native.Mathlib.Omega.{arith}
+use mathlib.Core.Bool.{Bool, true, false, not, _&&_, _||_, cond}
+use mathlib.Core.List.{List, [], _∷_}
+use mathlib.Core.Option.{Option, none, some}
+use lib.Dec.{T, eqb, eqb-refl, ltb}
+use lib.ListN.{length, drop, set, length-set}
+use lib.Seq.{drop-set-add}
+use borrow.Author.Tests.{lt-ltb, le-ltb, ltb-false}
+use Rattle.spec.specs.Config.{Config, guestBase, frameBits}
+use Rattle.spec.specs.Prefix.{any, keep}
+use Rattle.spec.specs.Machine.{Machine, Mapping, place, stored}
+use Rattle.spec.specs.Book.{Held, Book, find, holding, dropWord, watched, readsFrame, readsWord}
+use Rattle.spec.specs.Count.{one}
+use Rattle.spec.specs.Run.{State}
+use Rattle.laws.proofs.Lists.{All, all-map, all-keep, all-both, is-true, is-false, or-cases}
+use Rattle.laws.proofs.Trail.{readsFrom}
+use Rattle.laws.proofs.Keeps.{Valid}
+use Rattle.laws.proofs.Runs.{BookFits, kept-fits}
+use Rattle.words.specs.Words.{setIn}
+use Rattle.area.specs.declared.Pool.{Pool}
+use Rattle.tree.proofs.Stores.{Beside, beside-refl}
+use Rattle.tree.proofs.Whole.{Holds, holds-store}
+use Rattle.host.specs.Walk.{page}
+use Rattle.host.specs.Map.{hostArea}
+use Rattle.host.proofs.Laws.{InGuestArea}
+use Rattle.host.proofs.Mapping.{Maps}
+use Rattle.walk.proofs.Stands.{Stands}
+use Rattle.record.specs.declared.Record.{Record}
+use Rattle.record.specs.Record.{configOf}
+use Rattle.record.proofs.Rules.{Fits}
+use Rattle.shadow.specs.declared.Cut.the-variants.{Word}
+use Rattle.shadow.specs.Held.{shadowArea}
+use Rattle.shadow.specs.Cut.{watchedOf}
+use Rattle.shadow.specs.Drop.{Outcome, outcome, scanOf}
+use Rattle.drops.proofs.Scan.{Dropped}
+use Rattle.drops.proofs.Held.{leafAt, HeldEntry}
+use Rattle.drops.proofs.Watch.{watched-is}
+use Rattle.drops.proofs.Drops.{drop-word, empty-word, empty-frame}
+use Rattle.drops.proofs.Valid.{framesAt, entryOf, valid-entry, Stays, stays-store}
+use Rattle.request.specs.Store as put
+use Rattle.request.specs.Store.{Stored, storeOf, writtenBy}
+use Rattle.unit.specs.Calls.{withHeld}
+use Rattle.claims.proofs.Invariant.{longer, topBy, frames, Inv, stands}
+use Rattle.claims.proofs.Moves.{holds-pool, fits-held, maps-beside, shadow-drop, invariant, shadow-on, longer-keep, all-kept, find-keep, inv-shadow, inv-top, frame-root}
+use Rattle.claims.proofs.Found as found
+
+-- ---- memory after a guest word is stored
+
+pub maps-store : (c : Config) {xs : List Mapping} {p : Pool} {m : List ℕ} (t i v : ℕ) → i < 512 → c .hosts ≤ t → Maps c xs p m → Maps c xs p (setIn m t i v)
+maps-store c t i v l b h = record {
+  deep = h .deep;
+  few = h .few;
+  holds = holds-store (h .holds) t i v l (inr (omega arith));
+  frames = h .frames;
+  inside = h .inside;
+}
+
+pub area-store : (c : Config) (m : List ℕ) (t i v : ℕ) → guestBase c ≤ t → drop (512 * guestBase c) (setIn m t i v) ≡ set (drop (512 * guestBase c) m) (place c t i) v
+area-store c m t i v b =
+    let e : t * 512 + i ≡ 512 * guestBase c + place c t i = omega arith in
+    ap (λ k. drop (512 * guestBase c) (set m k v)) e ∙ drop-set-add (512 * guestBase c) m (place c t i) v
+
+-- ---- lists
+
+-- a frame that no path reads in is not watched, and no word of it is read
+any-none : {A : Type 0} (f g : A → Bool) (xs : List A) → ((x : A) → T (g x) → T (f x)) → any f xs ≡ false → any g xs ≡ false
+any-none f g [] h e = refl
+any-none f g (x ∷ xs) h e = go (f x) (g x) (h x) e (any-none f g xs h)
+  where
+    go : (a b : Bool) → (T b → T a) → (a || any f xs) ≡ false → (any f xs ≡ false → any g xs ≡ false) → (b || any g xs) ≡ false
+    go a true k q ih = differ a (k tt) q
+      where
+        differ : (a : Bool) → T a → (a || any f xs) ≡ false → true ≡ false
+        differ true x q = q
+        differ false x q = absurd x
+    go true false k q ih = let z : _≡_ {A = ℕ} 0 1 = cc in absurd (omega arith)
+    go false false k q ih = ih q
+
+word-frame : (t i : ℕ) (h : Held) → readsFrame t h ≡ false → readsWord t i h ≡ false
+word-frame t i h e = any-none (λ r. eqb t (r .0)) (λ r. eqb t (r .0) && eqb i (r .1)) (h .reads) (λ r k. left (eqb t (r .0)) (eqb i (r .1)) k) e
+  where
+    left : (a b : Bool) → T (a && b) → T a
+    left true b k = tt
+    left false b k = k
+
+-- nothing is dropped from a frame that is not watched
+pub drop-unwatched : (t i : ℕ) (hs : List Held) → watched t hs ≡ false → dropWord t i hs ≡ hs
+drop-unwatched t i [] e = refl
+drop-unwatched t i (h ∷ hs) e = go (readsFrame t h) refl e (drop-unwatched t i hs)
+  where
+    go : (b : Bool) → readsFrame t h ≡ b → (b || watched t hs) ≡ false → (watched t hs ≡ false → dropWord t i hs ≡ hs)
+        → cond (not (readsWord t i h)) (h ∷ dropWord t i hs) (dropWord t i hs) ≡ h ∷ hs
+    go true q k ih = let z : _≡_ {A = ℕ} 0 1 = cc in absurd (omega arith)
+    go false q k ih = rw (word-frame t i h q) (ap (λ l. h ∷ l) (ih k))
+
+-- the path of no index reads nothing
+watched-longer : (t : ℕ) (hs : List Held) → All (λ (h : Held). h .path ≡ [] → readsFrame t h ≡ false) hs → watched t (longer hs) ≡ watched t hs
+watched-longer t [] a = refl
+watched-longer t (h ∷ hs) a = go (ltb 0 (length (h .path))) refl (watched-longer t hs (a .1))
+  where
+    none : (p : List ℕ) → ltb 0 (length p) ≡ false → p ≡ []
+    none [] q = refl
+    none (i ∷ p) q = let k = ltb-false 0 (length (i ∷ p)) q in absurd (omega arith)
+
+    go : (b : Bool) → ltb 0 (length (h .path)) ≡ b → watched t (longer hs) ≡ watched t hs
+        → watched t (cond b (h ∷ longer hs) (longer hs)) ≡ (readsFrame t h || watched t hs)
+    go true q ih = ap (λ x. readsFrame t h || x) ih
+    go false q ih = ih ∙ ap (λ b. b || watched t hs) (sym (a .0 (none (h .path) q)))
+
+-- ---- the store
+
+pub record Puts (s : State) (r : Record) (t i v : ℕ) (x : Stored) : Type 0 where
+  pub pool : Pool
+  pub memory : List ℕ
+  pub done : x ≡ put.stored pool (one (watched t (s .book .held))) true memory
+  pub next : Inv (record { machine = stored (configOf r) (s .machine) t i v; book = holding (s .book) (dropWord t i (s .book .held)) }) (withHeld r pool (r .top)) memory
+
+module _ (s : State) (r : Record) (m : List ℕ) (inv : Inv s r m) (t i v : ℕ) (word : i < 512) (there : InGuestArea (configOf r) t) where
+  abbrev c : Config
+  c = configOf r
+
+  abbrev mach : Machine
+  mach = s .machine
+
+  abbrev kept : List Held
+  kept = dropWord t i (s .book .held)
+
+  -- the path of no index reads no word
+  empty-reads : All (λ (h : Held). h .path ≡ [] → h .reads ≡ readsFrom (framesAt c m (mach .root)) [] (h .path)) (s .book .held)
+  empty-reads = all-map (Valid c mach) _ (s .book .held)
+      (λ h k e. (valid-entry c mach m (found.memory-stands s r m inv) (found.root-small s r m inv) (found.few s r m inv) h k) .reads) (inv .valid)
+
+  watched-same : watchedOf c m (r .shadow .fresh) t ≡ watched t (s .book .held)
+  watched-same =
+      watched-is (inv .shadow) (found.held-entries s r m inv) t
+      ∙ watched-longer t (s .book .held) (all-map _ _ (s .book .held) (λ h k e. empty-frame h e (framesAt c m (mach .root)) (k e) t) empty-reads)
+
+  -- from shadow tables that hold the kept paths, and a memory that differs in them alone, to the invariant after the store
+  stored-next : (p : Pool) (n : List ℕ) → Beside (shadowArea c) m n
+      → Holds (shadowArea c) false p n (leafAt (entryOf c (frames r m)) (longer kept)) (frames r m)
+      → Inv (record { machine = stored c mach t i v; book = holding (s .book) kept }) (withHeld r p (r .top)) (setIn n t i v)
+  unfolding withHeld
+  stored-next p n b h =
+      invariant (record { machine = stored c mach t i v; book = holding (s .book) kept }) (withHeld r p (r .top)) (setIn n t i v)
+      (subst (Fits (withHeld r p (r .top))) (sym (length-set n (t * 512 + i) v ∙ b .len)) (fits-held (found.rules s r m inv) p (r .top) (holds-pool h) (found.rules s r m inv .top)))
+      (inv .word) (inv .root) maps area (kept-fits c (s .book) (λ h. not (readsWord t i h)) (inv .book)) (all-map (Stays c mach (stored c mach t i v)) _ kept (λ h k. k .after) stays) (inv .marks)
+      (shadow-on kept mach (stored c mach t i v) m (setIn n t i v) (found.memory-stands s r m inv) now (found.root-small s r m inv) (found.root-small s r m inv) (found.few s r m inv) stays
+      (holds-store (subst (λ x. Holds (shadowArea c) false p n (leafAt (entryOf c (framesAt c m x)) (longer kept)) (framesAt c m x)) (inv .root) h) t i v word (inr (there .0))))
+      top
+    where
+      maps : Maps c (mach .mappings) (r .host) (setIn n t i v)
+      maps = maps-store c t i v word (let k = there .0 in omega arith) (maps-beside c b (inv .maps))
+
+      area : drop (512 * guestBase c) (setIn n t i v) ≡ set (mach .area) (place c t i) v
+      area = area-store c n t i v (there .0) ∙ ap (λ xs. set xs (place c t i) v) (shadow-drop c b ∙ inv .area)
+
+      now : Stands c (stored c mach t i v) (setIn n t i v)
+      now = stands c (stored c mach t i v) (r .host) (setIn n t i v) maps area
+
+      stays : All (Stays c mach (stored c mach t i v)) kept
+      stays = all-map (λ h. Valid c mach h × T (not (readsWord t i h))) _ kept
+          (λ h k. stays-store c mach t i v h (found.memory-stands s r m inv .inside) (found.root-small s r m inv) (there .0) word (k .0) (k .1))
+          (all-keep (Valid c mach) (λ h. not (readsWord t i h)) (s .book .held) (inv .valid))
+
+      same-find : find [] kept ≡ find [] (s .book .held)
+      same-find = find-keep (λ h. not (readsWord t i h)) (s .book .held)
+          (all-map _ _ (s .book .held) (λ h k e. ap not (empty-word h e (framesAt c m (mach .root)) (k e) t i)) empty-reads)
+
+      top : r .top ≡ topBy (framesAt c (setIn n t i v) (mach .root) []) (find [] kept)
+      top = inv-top inv ∙ ap₂ topBy (frame-root c mach m (found.memory-stands s r m inv) (found.root-small s r m inv) ∙ sym (frame-root c (stored c mach t i v) (setIn n t i v) now (found.root-small s r m inv))) (sym same-find)
+
+  pub puts : Puts s r t i v (storeOf c m (r .shadow) t i v)
+  unfolding storeOf
+  puts = go (watched t (s .book .held)) refl
+    where
+      scanned : Dropped c m (leafAt (entryOf c (frames r m)) (dropWord t i (longer (s .book .held)))) (frames r m) (scanOf c (Word (page t) i) (r .shadow) m)
+      scanned = drop-word (inv .shadow) (found.held-entries s r m inv) t i word
+
+      tables : List Held → Type 0
+      tables l = Holds (shadowArea c) false (r .shadow) m (leafAt (entryOf c (frames r m)) l) (frames r m)
+
+      go : (b : Bool) → watched t (s .book .held) ≡ b
+          → Puts s r t i v (cond (watchedOf c m (r .shadow .fresh) t) (writtenBy (r .shadow) t i v (scanOf c (Word (page t) i) (r .shadow) m)) (put.stored (r .shadow) 0 true (setIn m t i v)))
+      go true e = record {
+        pool = scanned .pool;
+        memory = setIn (scanned .memory) t i v;
+        done = ap (λ b. cond b (writtenBy (r .shadow) t i v (scanOf c (Word (page t) i) (r .shadow) m)) (put.stored (r .shadow) 0 true (setIn m t i v))) (watched-same ∙ e)
+            ∙ ap (writtenBy (r .shadow) t i v) (scanned .done) ∙ ap (λ b. put.stored (scanned .pool) (one b) true (setIn (scanned .memory) t i v)) (sym e);
+        next = stored-next (scanned .pool) (scanned .memory) (scanned .beside)
+            (subst (λ l. Holds (shadowArea c) false (scanned .pool) (scanned .memory) (leafAt (entryOf c (frames r m)) l) (frames r m)) (sym (longer-keep (λ h. not (readsWord t i h)) (s .book .held))) (scanned .holds));
+      }
+      go false e = record {
+        pool = r .shadow;
+        memory = setIn m t i v;
+        done = ap (λ b. cond b (writtenBy (r .shadow) t i v (scanOf c (Word (page t) i) (r .shadow) m)) (put.stored (r .shadow) 0 true (setIn m t i v))) (watched-same ∙ e)
+            ∙ ap (λ b. put.stored (r .shadow) (one b) true (setIn m t i v)) (sym e);
+        next = stored-next (r .shadow) m (beside-refl (shadowArea c) m) (subst tables (ap longer (sym (drop-unwatched t i (s .book .held) e))) (inv .shadow));
+      }
