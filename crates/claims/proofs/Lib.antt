@@ -1,2 +1,4 @@
 pub mod Invariant
 pub mod Moves
+pub mod Remaps
+pub mod Opens

@@ -15,14 +15,21 @@ use Rattle.spec.specs.Prefix.{same, keep}
 use Rattle.spec.specs.Plain.{Place}
 use Rattle.spec.specs.Machine.{Machine, Mapping, lookup, hostCost}
 use Rattle.spec.specs.Book.{Held, find}
-use Rattle.spec.specs.Run.{State}
+use Rattle.spec.specs.Answer as say
+use Rattle.spec.specs.Answer.{line}
+use Rattle.spec.specs.Call as outcome
+use Rattle.spec.specs.Call.{Call, machineStep}
+use Rattle.spec.specs.Count.{bookStep}
+use Rattle.spec.specs.Refusal.{firstFailed, refusal}
+use Rattle.spec.specs.Run.{State, step}
 use Rattle.laws.proofs.Lists.{All, all-map, all-keep}
 use Rattle.laws.proofs.Trail.{frameIn, frameAt}
 use Rattle.laws.proofs.Keeps.{Valid}
-use Rattle.laws.proofs.Runs.{BookFits}
+use Rattle.laws.proofs.Runs.{BookFits, step-fits}
 use Rattle.area.specs.declared.Area.{Area}
 use Rattle.area.specs.declared.Pool.{Pool}
 use Rattle.area.specs.Pool.{noneOf}
+use Rattle.tree.proofs.Change.{some-inj}
 use Rattle.tree.proofs.Stores.{Beside, beside-drop}
 use Rattle.tree.proofs.Whole.{Holds, holds-none, holds-leaves, holds-beside}
 use Rattle.host.specs.Map.{hostArea}
@@ -38,8 +45,8 @@ use Rattle.record.proofs.Rules.{Sized, Fits, PoolFits, fits-layout, fits-true}
 use Rattle.shadow.specs.Held.{shadowArea}
 use Rattle.drops.proofs.Held.{leafAt, leaf-none}
 use Rattle.drops.proofs.Valid.{framesAt, entryOf, Stays, holds-on}
-use Rattle.unit.specs.Calls.{withHeld, withHost}
-use Rattle.claims.proofs.Invariant.{longer, topBy, frames, Inv, stands}
+use Rattle.unit.specs.Calls.{Ended, withHeld, withHost, refused}
+use Rattle.claims.proofs.Invariant.{longer, topBy, frames, Inv, Follows, stands}
 
 -- ---- the record
 -- an area that holds leaves keeps a pool in its ranges
@@ -202,3 +209,38 @@ pub shadow-on : {c : Config} {p : Pool} {o : List ℕ} (hs : List Held) (s t : M
     → Holds (shadowArea c) false p o (leafAt (entryOf c (framesAt c m (s .root))) (longer hs)) (framesAt c m (s .root))
     → Holds (shadowArea c) false p o (leafAt (entryOf c (framesAt c n (t .root))) (longer hs)) (framesAt c n (t .root))
 shadow-on {c = c} hs s t m n sm tn bs bt few a h = holds-on (longer hs) s t m n sm tn bs bt few (all-longer (Stays c s t) hs a) h
+
+-- ---- a call
+-- "A refused call changes nothing"
+pub follows-no : (x : Call) {s : State} {r : Record} {m : List ℕ} (n : ℕ) → Inv s r m → refusal (configOf r) x (s .machine) (s .book) ≡ some n
+    → Follows x s r (refused r n m)
+unfolding step
+follows-no x n h e = record { config = refl; says = rw e; next = rw e h }
+
+-- a call that is granted and says no more leaves the invariant on machine and book after it
+pub record Left (t : State) (r : Record) (e : Ended) : Type 0 where
+  pub config : configOf (e .reply .unit) ≡ configOf r
+  pub says : line (e .reply .answer) ≡ say.ok
+  pub next : Inv t (e .reply .unit) (e .memory)
+
+-- machine and book after a call that is granted
+abbrev pub after : Config → Call → State → State
+after c x s = record { machine = (machineStep c x (s .machine)) .1; book = (bookStep c x (s .machine) (s .book)) .book }
+
+pub follows-ok : (x : Call) (s : State) (r : Record) (e : Ended) → refusal (configOf r) x (s .machine) (s .book) ≡ none
+    → (machineStep (configOf r) x (s .machine)) .0 ≡ outcome.ok → Left (after (configOf r) x s) r e → Follows x s r e
+unfolding step
+follows-ok x s r e free ok l = record { config = l .config; says = rw (free, ok) (l .says); next = rw free (l .next) }
+
+pub after-fits : (c : Config) (x : Call) (s : State) → refusal c x (s .machine) (s .book) ≡ none → BookFits c (s .book) → BookFits c ((after c x s) .book)
+unfolding step
+after-fits c x s free b = rw free at (step-fits c x s b)
+
+-- the number of a refusal
+pub first-positive : (xs : List (Bool × ℕ)) (n : ℕ) → All (λ x. 0 < x .1) xs → firstFailed xs ≡ some n → 0 < n
+first-positive [] n a e = let z : _≡_ {A = ℕ} 0 1 = cc in absurd (omega arith)
+first-positive (x ∷ xs) n a e = go (x .0) e (first-positive xs n (a .1))
+  where
+    go : (b : Bool) → cond b (firstFailed xs) (some (x .1)) ≡ some n → (firstFailed xs ≡ some n → 0 < n) → 0 < n
+    go true k ih = ih k
+    go false k ih = subst (λ y. 0 < y) (some-inj k) (a .0)
