@@ -6,7 +6,7 @@ use mathlib.Core.Logic.{_⊎_, inl, inr}
 use Prim.Native.Nat.{ℕ, _+_, _*_, _/_, _^_, _<_, _≤_}
 use native.Mathlib.Omega.{arith}
 use mathlib.Core.Bool.{Bool, true, false, _&&_, cond}
-use mathlib.Core.List.{List, [], _∷_}
+use mathlib.Core.List.{List, [], _∷_, head-eq-of-cons-eq}
 use mathlib.Core.Option.{Option, none, some}
 use lib.Dec.{T, ltb}
 use lib.ListN.{length, drop}
@@ -29,7 +29,6 @@ use Rattle.laws.proofs.Runs.{BookFits, step-fits}
 use Rattle.area.specs.declared.Area.{Area}
 use Rattle.area.specs.declared.Pool.{Pool}
 use Rattle.area.specs.Pool.{noneOf}
-use Rattle.tree.proofs.Change.{some-inj}
 use Rattle.tree.proofs.Stores.{Beside, beside-drop}
 use Rattle.tree.proofs.Whole.{Holds, holds-none, holds-leaves, holds-beside}
 use Rattle.host.specs.Map.{hostArea}
@@ -43,9 +42,11 @@ use Rattle.record.specs.declared.Record.{Record}
 use Rattle.record.specs.Record.{levels, configOf, fitsOf}
 use Rattle.record.proofs.Rules.{Sized, Fits, PoolFits, fits-layout, fits-true}
 use Rattle.shadow.specs.Held.{shadowArea}
+use Rattle.shadow.specs.Drop as drop
+use Rattle.drops.proofs.Scan.{Dropped}
 use Rattle.drops.proofs.Held.{leafAt, leaf-none}
-use Rattle.drops.proofs.Valid.{framesAt, entryOf, Stays, holds-on}
-use Rattle.unit.specs.Calls.{Ended, withHeld, withHost, refused}
+use Rattle.drops.proofs.Valid.{framesAt, entryOf, valid-entry, Stays, holds-on}
+use Rattle.unit.specs.Calls.{Ended, withHeld, withHost, refused, droppedBy}
 use Rattle.claims.proofs.Invariant.{longer, topBy, frames, Inv, Follows, stands}
 
 -- ---- the record
@@ -178,6 +179,9 @@ all-kept P f xs a = all-map _ _ (keep f xs) (λ x k. k .0) (all-keep P f xs a)
 pub all-longer : (P : Held → Type 0) (hs : List Held) → All P hs → All P (longer hs)
 all-longer P hs a = all-kept P (λ (h : Held). ltb 0 (length (h .path))) hs a
 
+the-some : {A : Type 0} {x y : A} → some x ≡ some y → x ≡ y
+the-some {x = x} e = ap (λ o. elim o [ none ↦ x | some z ↦ z ]) e
+
 same-empty : (h : Held) → same [] (h .path) ≡ true → h .path ≡ []
 same-empty h e = go (h .path) e
   where
@@ -196,6 +200,20 @@ find-keep f (h ∷ hs) a = go (f h) refl (same [] (h .path)) refl (find-keep f h
     go false p true q ih = let e : true ≡ false = sym (a .0 (same-empty h q)) ∙ p in let z : _≡_ {A = ℕ} 0 1 = cc in absurd (omega arith)
     go false p false q ih = ih
 
+-- a drop of none
+pub keep-all : {A : Type 0} (f : A → Bool) (xs : List A) → All (λ x. f x ≡ true) xs → keep f xs ≡ xs
+keep-all f [] a = refl
+keep-all f (x ∷ xs) a = rw (a .0) (ap (λ l. x ∷ l) (keep-all f xs (a .1)))
+
+-- what is found has what every one has
+pub find-all : (P : Held → Type 0) (p : List ℕ) (hs : List Held) (x : Held) → All P hs → find p hs ≡ some x → P x
+find-all P p [] x a e = let z : _≡_ {A = ℕ} 0 1 = cc in absurd (omega arith)
+find-all P p (h ∷ hs) x a e = go (same p (h .path)) e (find-all P p hs x (a .1))
+  where
+    go : (b : Bool) → cond b (some h) (find p hs) ≡ some x → (find p hs ≡ some x → P x) → P x
+    go true k ih = subst P (the-some k) (a .0)
+    go false k ih = ih k
+
 -- no path is held
 pub shadow-none : {r : Record} {len : ℕ} → Fits r len → (m : List ℕ) → length m ≡ len → (w : Held → ℕ) (F : List ℕ → ℕ)
     → Holds (shadowArea (configOf r)) false noneOf m (leafAt w []) F
@@ -210,6 +228,22 @@ pub shadow-on : {c : Config} {p : Pool} {o : List ℕ} (hs : List Held) (s t : M
     → Holds (shadowArea c) false p o (leafAt (entryOf c (framesAt c n (t .root))) (longer hs)) (framesAt c n (t .root))
 shadow-on {c = c} hs s t m n sm tn bs bt few a h = holds-on (longer hs) s t m n sm tn bs bt few (all-longer (Stays c s t) hs a) h
 
+-- the held frame of the path of no index stays too
+pub top-on : (c : Config) (hs : List Held) (s t : Machine) (m n : List ℕ) → Stands c s m → Stands c t n
+    → s .root < 2 ^ frameBits c → t .root < 2 ^ frameBits c → c .frames ≤ 65536 → All (Stays c s t) hs
+    → topBy (framesAt c m (s .root) []) (find [] hs) ≡ topBy (framesAt c n (t .root) []) (find [] hs)
+top-on c hs s t m n sm tn bs bt few a = go (find [] hs) refl
+  where
+    go : (o : Option Held) → find [] hs ≡ o → topBy (framesAt c m (s .root) []) o ≡ topBy (framesAt c n (t .root) []) o
+    go none e = refl
+    go (some x) e =
+        let v = find-all (Stays c s t) [] hs x a e in
+        let before = (valid-entry c s m sm bs few x (v .before)) .uses in
+        let after = (valid-entry c t n tn bt few x (v .after)) .uses in
+        let roots : s .root ≡ t .root = head-eq-of-cons-eq (sym before ∙ after) in
+        let found : lookup (t .root) (t .mappings) ≡ lookup (t .root) (s .mappings) = (subst (All (λ g. lookup g (t .mappings) ≡ lookup g (s .mappings))) after (v .mapped)) .0 in
+        frame-root c s m sm bs ∙ ap (λ g. frameIn (lookup g (s .mappings))) roots ∙ sym (ap frameIn found) ∙ sym (frame-root c t n tn bt)
+
 -- ---- a call
 -- "A refused call changes nothing"
 pub follows-no : (x : Call) {s : State} {r : Record} {m : List ℕ} (n : ℕ) → Inv s r m → refusal (configOf r) x (s .machine) (s .book) ≡ some n
@@ -222,6 +256,11 @@ pub record Left (t : State) (r : Record) (e : Ended) : Type 0 where
   pub config : configOf (e .reply .unit) ≡ configOf r
   pub says : line (e .reply .answer) ≡ say.ok
   pub next : Inv t (e .reply .unit) (e .memory)
+
+-- after a drop
+pub dropped-left : {c : Config} {m : List ℕ} {lv guest : List ℕ → ℕ} {t : drop.Outcome} (d : Dropped c m lv guest t) (s : State) (r next : Record) (top : ℕ)
+    → configOf (withHeld next (d .pool) top) ≡ configOf r → Inv s (withHeld next (d .pool) top) (d .memory) → Left s r (droppedBy r next top t)
+dropped-left d s r next top e h = rw (d .done) (record { config = e; says = refl; next = h })
 
 -- machine and book after a call that is granted
 abbrev pub after : Config → Call → State → State
@@ -243,4 +282,4 @@ first-positive (x ∷ xs) n a e = go (x .0) e (first-positive xs n (a .1))
   where
     go : (b : Bool) → cond b (firstFailed xs) (some (x .1)) ≡ some n → (firstFailed xs ≡ some n → 0 < n) → 0 < n
     go true k ih = ih k
-    go false k ih = subst (λ y. 0 < y) (some-inj k) (a .0)
+    go false k ih = subst (λ y. 0 < y) (the-some k) (a .0)
