@@ -1,4 +1,5 @@
 pub mod Invariant
 pub mod Moves
 pub mod Remaps
+pub mod Marks
 pub mod Opens
