@@ -1,7 +1,7 @@
 -- A mark set and a mark cleared follow the specification.
 -- Assumes nothing.
 use mathlib.Core.Path.{_≡_, refl, sym, ap, ap₂, _∙_, subst}
-use mathlib.Core.Logic.{_⊎_, inl, inr}
+use mathlib.Core.Logic.{_⊎_, inl}
 use Prim.Native.Nat.{ℕ, zero, suc, _+_, _-_, _*_, _/_, _^_, _<_, _≤_}
 use native.Mathlib.Omega.{arith}
 use native.Mathlib.Decide.{decLe}
@@ -9,14 +9,13 @@ use borrow.Author.Tests.{ltb-true, ltb-false, ne-eqb}
 use mathlib.Core.Bool.{Bool, true, false, not, _&&_, cond}
 use mathlib.Core.List.{List, [], _∷_}
 use mathlib.Core.Option.{Option, none, some}
-use lib.Dec.{T, eqb, ltb}
+use lib.Dec.{eqb, ltb}
 use lib.Count.{ones}
 use lib.Pow.{pow-mono, pow-pos}
 use lib.ListN.{length, take}
-use Rattle.spec.specs.Config.{Config, guestBase}
+use Rattle.spec.specs.Config.{Config}
 use Rattle.spec.specs.Entry.{pageOf, index, indexes}
 use Rattle.spec.specs.Prefix.{begins, any, keep}
-use Rattle.spec.specs.Machine.{Machine}
 use Rattle.spec.specs.Book.{Mark, Held, markAt, sameMark, find, dropPrefix}
 use Rattle.spec.specs.Call as outcome
 use Rattle.spec.specs.Call.{Call, setMark, clearMark, addressIndexes, machineStep}
@@ -29,12 +28,11 @@ use Rattle.laws.proofs.Runs.{BookFits}
 use Rattle.entry.specs.Levels.{ofLevels}
 use Rattle.entry.proofs.Indexes.{indexes-length, indexes-take}
 use Rattle.tree.proofs.Paths.{Small}
-use Rattle.tree.proofs.Whole.{Holds}
 use Rattle.host.proofs.Laws.{InGuestArea}
 use Rattle.walk.proofs.Stands.{Stands}
 use Rattle.marks.specs.declared.Marks.{Marks}
 use Rattle.marks.specs.Key.{keyOf, keyFits, keysFit}
-use Rattle.marks.specs.Table.{room, keys, inserted, tableOf, withKey, withoutKey, placeOf, setRefusal, clearRefusal, number}
+use Rattle.marks.specs.Table.{room, inserted, tableOf, withKey, withoutKey, placeOf, setRefusal, clearRefusal, number}
 use Rattle.marks.specs.Reading.{markOf, marksOf}
 use Rattle.marks.proofs.Turn.{keys-count}
 use Rattle.marks.proofs.Insert.{inserted-length}
@@ -47,13 +45,12 @@ use Rattle.marks.proofs.Book.{keysOf, page-small, marks-fit, may-set, may-clear
 use Rattle.record.specs.declared.Record.{Record}
 use Rattle.record.specs.Record.{levels, configOf, withMarks}
 use Rattle.record.proofs.Rules.{Fits, fits-marks, fits-keys}
-use Rattle.shadow.specs.Held.{shadowArea}
 use Rattle.shadow.specs.Drop.{Outcome, dropPrefixOf}
 use Rattle.drops.proofs.Scan.{Dropped}
 use Rattle.drops.proofs.Held.{leafAt}
 use Rattle.drops.proofs.Drops.{prefix-all, drop-prefix}
-use Rattle.drops.proofs.Valid.{framesAt, entryOf, valid-entries, Stays, stays-same}
-use Rattle.unit.specs.Calls.{Ended, refused, withHeld, judged, droppedBy, markedOf, setMarkCall, clearMarkCall}
+use Rattle.drops.proofs.Valid.{framesAt, entryOf, valid-entries, stays-same}
+use Rattle.unit.specs.Calls.{refused, withHeld, judged, markedOf, setMarkCall, clearMarkCall}
 use Rattle.claims.proofs.Invariant.{longer, topBy, Inv, Follows, stands}
 use Rattle.claims.proofs.Moves.{Left, dropped-left, after, follows-no, follows-ok, after-fits, first-positive, invariant, inv-fits, inv-stands, inv-root, inv-shadow, inv-top, fits-held, holds-pool, maps-beside, shadow-drop, shadow-on, top-on, longer-keep, all-longer, all-kept, find-keep}
 

@@ -2,13 +2,13 @@
 -- machine that memory stands for, the held paths.
 -- Assumes nothing.
 use mathlib.Core.Path.{_≡_, refl, sym, ap, _∙_, subst}
-use mathlib.Core.Logic.{_⊎_, inl, inr}
-use Prim.Native.Nat.{ℕ, _+_, _*_, _/_, _^_, _<_, _≤_}
+use mathlib.Core.Logic.{_⊎_, inl}
+use Prim.Native.Nat.{ℕ, _+_, _*_, _^_, _<_, _≤_}
 use native.Mathlib.Omega.{arith}
-use mathlib.Core.Bool.{Bool, true, false, _&&_, cond}
+use mathlib.Core.Bool.{Bool, true, false, cond}
 use mathlib.Core.List.{List, [], _∷_, head-eq-of-cons-eq}
-use mathlib.Core.Option.{Option, none, some}
-use lib.Dec.{T, ltb}
+use mathlib.Core.Option.{Option, none, some, Option·some-injective}
+use lib.Dec.{ltb}
 use lib.ListN.{length, drop}
 use Rattle.spec.specs.Config.{Config, guestBase, frameBits}
 use Rattle.spec.specs.Prefix.{same, keep}
@@ -39,8 +39,8 @@ use Rattle.walk.proofs.Stands.{Stands}
 use Rattle.marks.specs.Reading.{marksOf}
 use Rattle.marks.proofs.Order.{SameMembers}
 use Rattle.record.specs.declared.Record.{Record}
-use Rattle.record.specs.Record.{levels, configOf, fitsOf}
-use Rattle.record.proofs.Rules.{Sized, Fits, PoolFits, fits-layout, fits-true}
+use Rattle.record.specs.Record.{levels, configOf}
+use Rattle.record.proofs.Rules.{Fits, PoolFits, fits-layout, fits-true}
 use Rattle.shadow.specs.Held.{shadowArea}
 use Rattle.shadow.specs.Drop as drop
 use Rattle.drops.proofs.Scan.{Dropped}
@@ -179,9 +179,6 @@ all-kept P f xs a = all-map _ _ (keep f xs) (λ x k. k .0) (all-keep P f xs a)
 pub all-longer : (P : Held → Type 0) (hs : List Held) → All P hs → All P (longer hs)
 all-longer P hs a = all-kept P (λ (h : Held). ltb 0 (length (h .path))) hs a
 
-the-some : {A : Type 0} {x y : A} → some x ≡ some y → x ≡ y
-the-some {x = x} e = ap (λ o. elim o [ none ↦ x | some z ↦ z ]) e
-
 same-empty : (h : Held) → same [] (h .path) ≡ true → h .path ≡ []
 same-empty h e = go (h .path) e
   where
@@ -211,7 +208,7 @@ find-all P p [] x a e = let z : _≡_ {A = ℕ} 0 1 = cc in absurd (omega arith)
 find-all P p (h ∷ hs) x a e = go (same p (h .path)) e (find-all P p hs x (a .1))
   where
     go : (b : Bool) → cond b (some h) (find p hs) ≡ some x → (find p hs ≡ some x → P x) → P x
-    go true k ih = subst P (the-some k) (a .0)
+    go true k ih = subst P (Option·some-injective h x k) (a .0)
     go false k ih = ih k
 
 -- no path is held
@@ -282,4 +279,4 @@ first-positive (x ∷ xs) n a e = go (x .0) e (first-positive xs n (a .1))
   where
     go : (b : Bool) → cond b (firstFailed xs) (some (x .1)) ≡ some n → (firstFailed xs ≡ some n → 0 < n) → 0 < n
     go true k ih = ih k
-    go false k ih = subst (λ y. 0 < y) (the-some k) (a .0)
+    go false k ih = subst (λ y. 0 < y) (Option·some-injective (x .1) n k) (a .0)

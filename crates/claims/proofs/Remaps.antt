@@ -2,7 +2,7 @@
 -- Assumes nothing.
 use mathlib.Core.Path.{_≡_, refl, sym, ap, ap₂, _∙_, subst}
 use mathlib.Core.Logic.{_≢_, _⊎_, inl, inr}
-use Prim.Native.Nat.{ℕ, pred, _+_, _*_, _^_, _<_, _≤_}
+use Prim.Native.Nat.{ℕ, pred, _*_, _^_, _<_, _≤_}
 use native.Mathlib.Omega.{arith}
 use borrow.Author.Tests.{ltb-true, leb-false, eqb-true, eqb-false, ne-eqb}
 use mathlib.Core.Bool.{Bool, true, false, not, _||_, cond}
@@ -16,11 +16,11 @@ use Rattle.spec.specs.declared.Fault.{Fault}
 use Rattle.spec.specs.Config.{Config, guestBase, frameBits}
 use Rattle.spec.specs.Entry.{frameOf, indexes}
 use Rattle.spec.specs.Prefix.{any}
-use Rattle.spec.specs.Walk.{Walk, World, Trace, Result, granted, trace}
+use Rattle.spec.specs.Walk.{Walk, World, Trace, granted, trace}
 use Rattle.spec.specs.Plain.{Place, hosted, levels, walk}
 use Rattle.spec.specs.Machine.{Machine, Mapping, lookup, isMapped, with, without, hostTables, hostCost, remapped, world}
 use Rattle.spec.specs.Book.{Held, find, holding, usesMapping, dropMapping}
-use Rattle.spec.specs.Call.{Call, root, map, unmap, machineStep}
+use Rattle.spec.specs.Call.{root, map, unmap, machineStep}
 use Rattle.spec.specs.Count.{bookStep}
 use Rattle.spec.specs.Refusal.{firstFailed, frameFits, inGuestArea, tests, refusal}
 use Rattle.spec.specs.Run.{State}
