@@ -1,7 +1,10 @@
-pub mod Invariant
-pub mod Moves
-pub mod Paths
 pub mod Found
-pub mod Translates
+pub mod Invariant
+pub mod Marks
+pub mod Moves
+pub mod Opens
+pub mod Paths
 pub mod Puts
+pub mod Remaps
 pub mod Requests
+pub mod Translates

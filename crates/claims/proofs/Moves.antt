@@ -2,24 +2,30 @@
 -- machine that memory stands for, the held paths.
 -- Assumes nothing.
 use mathlib.Core.Path.{_≡_, refl, sym, ap, _∙_, subst}
-use mathlib.Core.Logic.{_⊎_, inl, inr}
-use Prim.Native.Nat.{ℕ, _+_, _*_, _/_, _^_, _<_, _≤_}
+use mathlib.Core.Logic.{_⊎_, inl}
+use Prim.Native.Nat.{ℕ, _+_, _*_, _^_, _<_, _≤_}
 use native.Mathlib.Omega.{arith}
-use mathlib.Core.Bool.{Bool, true, false, _&&_, cond}
-use mathlib.Core.List.{List, [], _∷_}
-use mathlib.Core.Option.{Option, none, some}
-use lib.Dec.{T, ltb}
+use mathlib.Core.Bool.{Bool, true, false, cond}
+use mathlib.Core.List.{List, [], _∷_, head-eq-of-cons-eq}
+use mathlib.Core.Option.{Option, none, some, Option·some-injective}
+use lib.Dec.{ltb}
 use lib.ListN.{length, drop}
 use Rattle.spec.specs.Config.{Config, guestBase, frameBits}
 use Rattle.spec.specs.Prefix.{same, keep}
 use Rattle.spec.specs.Plain.{Place}
 use Rattle.spec.specs.Machine.{Machine, Mapping, lookup, hostCost}
 use Rattle.spec.specs.Book.{Held, find}
-use Rattle.spec.specs.Run.{State}
+use Rattle.spec.specs.Answer as say
+use Rattle.spec.specs.Answer.{line}
+use Rattle.spec.specs.Call as outcome
+use Rattle.spec.specs.Call.{Call, machineStep}
+use Rattle.spec.specs.Count.{bookStep}
+use Rattle.spec.specs.Refusal.{firstFailed, refusal}
+use Rattle.spec.specs.Run.{State, step}
 use Rattle.laws.proofs.Lists.{All, all-map, all-keep}
 use Rattle.laws.proofs.Trail.{frameIn, frameAt}
 use Rattle.laws.proofs.Keeps.{Valid}
-use Rattle.laws.proofs.Runs.{BookFits}
+use Rattle.laws.proofs.Runs.{BookFits, step-fits}
 use Rattle.area.specs.declared.Area.{Area}
 use Rattle.area.specs.declared.Pool.{Pool}
 use Rattle.area.specs.Pool.{noneOf}
@@ -33,13 +39,15 @@ use Rattle.walk.proofs.Stands.{Stands}
 use Rattle.marks.specs.Reading.{marksOf}
 use Rattle.marks.proofs.Order.{SameMembers}
 use Rattle.record.specs.declared.Record.{Record}
-use Rattle.record.specs.Record.{levels, configOf, fitsOf}
-use Rattle.record.proofs.Rules.{Sized, Fits, PoolFits, fits-layout, fits-true}
+use Rattle.record.specs.Record.{levels, configOf}
+use Rattle.record.proofs.Rules.{Fits, PoolFits, fits-layout, fits-true}
 use Rattle.shadow.specs.Held.{shadowArea}
+use Rattle.shadow.specs.Drop as drop
+use Rattle.drops.proofs.Scan.{Dropped}
 use Rattle.drops.proofs.Held.{leafAt, leaf-none}
-use Rattle.drops.proofs.Valid.{framesAt, entryOf, Stays, holds-on}
-use Rattle.unit.specs.Calls.{withHeld, withHost}
-use Rattle.claims.proofs.Invariant.{longer, topBy, frames, Inv, stands}
+use Rattle.drops.proofs.Valid.{framesAt, entryOf, valid-entry, Stays, holds-on}
+use Rattle.unit.specs.Calls.{Ended, withHeld, withHost, refused, droppedBy}
+use Rattle.claims.proofs.Invariant.{longer, topBy, frames, Inv, Follows, stands}
 
 -- ---- the record
 -- an area that holds leaves keeps a pool in its ranges
@@ -189,6 +197,20 @@ find-keep f (h ∷ hs) a = go (f h) refl (same [] (h .path)) refl (find-keep f h
     go false p true q ih = let e : true ≡ false = sym (a .0 (same-empty h q)) ∙ p in let z : _≡_ {A = ℕ} 0 1 = cc in absurd (omega arith)
     go false p false q ih = ih
 
+-- a drop of none
+pub keep-all : {A : Type 0} (f : A → Bool) (xs : List A) → All (λ x. f x ≡ true) xs → keep f xs ≡ xs
+keep-all f [] a = refl
+keep-all f (x ∷ xs) a = rw (a .0) (ap (λ l. x ∷ l) (keep-all f xs (a .1)))
+
+-- what is found has what every one has
+pub find-all : (P : Held → Type 0) (p : List ℕ) (hs : List Held) (x : Held) → All P hs → find p hs ≡ some x → P x
+find-all P p [] x a e = let z : _≡_ {A = ℕ} 0 1 = cc in absurd (omega arith)
+find-all P p (h ∷ hs) x a e = go (same p (h .path)) e (find-all P p hs x (a .1))
+  where
+    go : (b : Bool) → cond b (some h) (find p hs) ≡ some x → (find p hs ≡ some x → P x) → P x
+    go true k ih = subst P (Option·some-injective h x k) (a .0)
+    go false k ih = ih k
+
 -- no path is held
 pub shadow-none : {r : Record} {len : ℕ} → Fits r len → (m : List ℕ) → length m ≡ len → (w : Held → ℕ) (F : List ℕ → ℕ)
     → Holds (shadowArea (configOf r)) false noneOf m (leafAt w []) F
@@ -202,3 +224,59 @@ pub shadow-on : {c : Config} {p : Pool} {o : List ℕ} (hs : List Held) (s t : M
     → Holds (shadowArea c) false p o (leafAt (entryOf c (framesAt c m (s .root))) (longer hs)) (framesAt c m (s .root))
     → Holds (shadowArea c) false p o (leafAt (entryOf c (framesAt c n (t .root))) (longer hs)) (framesAt c n (t .root))
 shadow-on {c = c} hs s t m n sm tn bs bt few a h = holds-on (longer hs) s t m n sm tn bs bt few (all-longer (Stays c s t) hs a) h
+
+-- the held frame of the path of no index stays too
+pub top-on : (c : Config) (hs : List Held) (s t : Machine) (m n : List ℕ) → Stands c s m → Stands c t n
+    → s .root < 2 ^ frameBits c → t .root < 2 ^ frameBits c → c .frames ≤ 65536 → All (Stays c s t) hs
+    → topBy (framesAt c m (s .root) []) (find [] hs) ≡ topBy (framesAt c n (t .root) []) (find [] hs)
+top-on c hs s t m n sm tn bs bt few a = go (find [] hs) refl
+  where
+    go : (o : Option Held) → find [] hs ≡ o → topBy (framesAt c m (s .root) []) o ≡ topBy (framesAt c n (t .root) []) o
+    go none e = refl
+    go (some x) e =
+        let v = find-all (Stays c s t) [] hs x a e in
+        let before = (valid-entry c s m sm bs few x (v .before)) .uses in
+        let after = (valid-entry c t n tn bt few x (v .after)) .uses in
+        let roots : s .root ≡ t .root = head-eq-of-cons-eq (sym before ∙ after) in
+        let found : lookup (t .root) (t .mappings) ≡ lookup (t .root) (s .mappings) = (subst (All (λ g. lookup g (t .mappings) ≡ lookup g (s .mappings))) after (v .mapped)) .0 in
+        frame-root c s m sm bs ∙ ap (λ g. frameIn (lookup g (s .mappings))) roots ∙ sym (ap frameIn found) ∙ sym (frame-root c t n tn bt)
+
+-- ---- a call
+-- "A refused call changes nothing"
+pub follows-no : (x : Call) {s : State} {r : Record} {m : List ℕ} (n : ℕ) → Inv s r m → refusal (configOf r) x (s .machine) (s .book) ≡ some n
+    → Follows x s r (refused r n m)
+unfolding step
+follows-no x n h e = record { config = refl; says = rw e; next = rw e h }
+
+-- a call that is granted and says no more leaves the invariant on machine and book after it
+pub record Left (t : State) (r : Record) (e : Ended) : Type 0 where
+  pub config : configOf (e .reply .unit) ≡ configOf r
+  pub says : line (e .reply .answer) ≡ say.ok
+  pub next : Inv t (e .reply .unit) (e .memory)
+
+-- after a drop
+pub dropped-left : {c : Config} {m : List ℕ} {lv guest : List ℕ → ℕ} {t : drop.Outcome} (d : Dropped c m lv guest t) (s : State) (r next : Record) (top : ℕ)
+    → configOf (withHeld next (d .pool) top) ≡ configOf r → Inv s (withHeld next (d .pool) top) (d .memory) → Left s r (droppedBy r next top t)
+dropped-left d s r next top e h = rw (d .done) (record { config = e; says = refl; next = h })
+
+-- machine and book after a call that is granted
+abbrev pub after : Config → Call → State → State
+after c x s = record { machine = (machineStep c x (s .machine)) .1; book = (bookStep c x (s .machine) (s .book)) .book }
+
+pub follows-ok : (x : Call) (s : State) (r : Record) (e : Ended) → refusal (configOf r) x (s .machine) (s .book) ≡ none
+    → (machineStep (configOf r) x (s .machine)) .0 ≡ outcome.ok → Left (after (configOf r) x s) r e → Follows x s r e
+unfolding step
+follows-ok x s r e free ok l = record { config = l .config; says = rw (free, ok) (l .says); next = rw free (l .next) }
+
+pub after-fits : (c : Config) (x : Call) (s : State) → refusal c x (s .machine) (s .book) ≡ none → BookFits c (s .book) → BookFits c ((after c x s) .book)
+unfolding step
+after-fits c x s free b = rw free at (step-fits c x s b)
+
+-- the number of a refusal
+pub first-positive : (xs : List (Bool × ℕ)) (n : ℕ) → All (λ x. 0 < x .1) xs → firstFailed xs ≡ some n → 0 < n
+first-positive [] n a e = let z : _≡_ {A = ℕ} 0 1 = cc in absurd (omega arith)
+first-positive (x ∷ xs) n a e = go (x .0) e (first-positive xs n (a .1))
+  where
+    go : (b : Bool) → cond b (firstFailed xs) (some (x .1)) ≡ some n → (firstFailed xs ≡ some n → 0 < n) → 0 < n
+    go true k ih = ih k
+    go false k ih = subst (λ y. 0 < y) (Option·some-injective (x .1) n k) (a .0)

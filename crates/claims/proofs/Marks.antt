@@ -1,0 +1,262 @@
+-- A mark set and a mark cleared follow the specification.
+-- Assumes nothing.
+use mathlib.Core.Path.{_≡_, refl, sym, ap, ap₂, _∙_, subst}
+use mathlib.Core.Logic.{_⊎_, inl}
+use Prim.Native.Nat.{ℕ, zero, suc, _+_, _-_, _*_, _/_, _^_, _<_, _≤_}
+use native.Mathlib.Omega.{arith}
+use native.Mathlib.Decide.{decLe}
+use borrow.Author.Tests.{ltb-true, ltb-false, ne-eqb}
+use mathlib.Core.Bool.{Bool, true, false, not, _&&_, cond}
+use mathlib.Core.List.{List, [], _∷_}
+use mathlib.Core.Option.{Option, none, some}
+use lib.Dec.{eqb, ltb}
+use lib.Count.{ones}
+use lib.Pow.{pow-mono, pow-pos}
+use lib.ListN.{length, take}
+use Rattle.spec.specs.Config.{Config}
+use Rattle.spec.specs.Entry.{pageOf, index, indexes}
+use Rattle.spec.specs.Prefix.{begins, any, keep}
+use Rattle.spec.specs.Book.{Mark, Held, markAt, sameMark, find, dropPrefix}
+use Rattle.spec.specs.Call as outcome
+use Rattle.spec.specs.Call.{Call, setMark, clearMark, addressIndexes, machineStep}
+use Rattle.spec.specs.Count.{bookStep}
+use Rattle.spec.specs.Refusal.{allOf, markFits, tests, refusal}
+use Rattle.spec.specs.Run.{State}
+use Rattle.laws.proofs.Lists.{All, all-map, all-any}
+use Rattle.laws.proofs.Keeps.{Valid}
+use Rattle.laws.proofs.Runs.{BookFits}
+use Rattle.entry.specs.Levels.{ofLevels}
+use Rattle.entry.proofs.Indexes.{indexes-length, indexes-take}
+use Rattle.tree.proofs.Paths.{Small}
+use Rattle.host.proofs.Laws.{InGuestArea}
+use Rattle.walk.proofs.Stands.{Stands}
+use Rattle.marks.specs.declared.Marks.{Marks}
+use Rattle.marks.specs.Key.{keyOf, keyFits, keysFit}
+use Rattle.marks.specs.Table.{room, inserted, tableOf, withKey, withoutKey, placeOf, setRefusal, clearRefusal, number}
+use Rattle.marks.specs.Reading.{markOf, marksOf}
+use Rattle.marks.proofs.Turn.{keys-count}
+use Rattle.marks.proofs.Insert.{inserted-length}
+use Rattle.marks.proofs.Ascending.{and-right, level-below}
+use Rattle.marks.proofs.Order.{SameMembers, members-fold, members-map, members-alike}
+use Rattle.marks.proofs.Tables.{keys-with, keys-without, inserted-members, around-members}
+use Rattle.marks.proofs.Reading as reading
+use Rattle.marks.proofs.Reading.{key-fits}
+use Rattle.marks.proofs.Book.{keysOf, page-small, marks-fit, may-set, may-clear, set-refused, clear-refused, set-granted, clear-granted}
+use Rattle.record.specs.declared.Record.{Record}
+use Rattle.record.specs.Record.{levels, configOf, withMarks}
+use Rattle.record.proofs.Rules.{Fits, fits-marks, fits-keys}
+use Rattle.shadow.specs.Drop.{Outcome, dropPrefixOf}
+use Rattle.drops.proofs.Scan.{Dropped}
+use Rattle.drops.proofs.Held.{leafAt}
+use Rattle.drops.proofs.Drops.{prefix-all, drop-prefix}
+use Rattle.drops.proofs.Valid.{framesAt, entryOf, valid-entries, stays-same}
+use Rattle.unit.specs.Calls.{refused, withHeld, judged, markedOf, setMarkCall, clearMarkCall}
+use Rattle.claims.proofs.Invariant.{longer, topBy, Inv, Follows, stands}
+use Rattle.claims.proofs.Moves.{Left, dropped-left, after, follows-no, follows-ok, after-fits, first-positive, invariant, inv-fits, inv-stands, inv-root, inv-shadow, inv-top, fits-held, holds-pool, maps-beside, shadow-drop, shadow-on, top-on, longer-keep, all-longer, all-kept, find-keep}
+
+-- ---- the rule of marks, whatever their order
+and-either : (a b r : Bool) → (a && (b && r)) ≡ (b && (a && r))
+and-either true true r = refl
+and-either true false r = refl
+and-either false true r = refl
+and-either false false r = refl
+
+members-fit : (c : Config) {ks js : List ℕ} → SameMembers ks js → keysFit (c .levels) ks ≡ keysFit (c .levels) js
+members-fit c {ks} {js} d =
+    let e = members-map (markOf (c .levels)) d in
+    sym (reading.fits-keys c ks)
+    ∙ ap₂ _&&_ (members-fold (allOf (markFits c)) (λ x t. markFits c x && t) (λ x xs. refl) (λ x y t. and-either (markFits c x) (markFits c y) t) e) (members-alike e)
+    ∙ reading.fits-keys c js
+
+-- ---- the table after a mark is set or cleared
+module _ (n : ℕ) (t : Marks) (a level : ℕ) (word : t .set < 2 ^ 64) where
+  k : ℕ
+  k = keyOf level (pageOf a)
+
+  pub set-word : withKey t (keyOf level (pageOf a)) .set < 2 ^ 64
+  unfolding withKey tableOf
+  set-word = go (ltb (ones (t .set)) room) refl
+    where
+      more : List ℕ
+      more = inserted (keyOf level (pageOf a)) (keysOf t)
+
+      go : (b : Bool) → ltb (ones (t .set)) room ≡ b → (cond b (tableOf more) t) .set < 2 ^ 64
+      go true e =
+          let few : length more ≤ 64 = omega (arith, inserted-length (keyOf level (pageOf a)) (keysOf t), keys-count (t .place) (t .set) word, ltb-true (ones (t .set)) room e) in
+          let top : 2 ^ length more ≤ 2 ^ 64 = pow-mono few in
+          omega (arith, pow-pos (length more))
+      go false e = word
+
+  pub clear-word : withoutKey t (keyOf level (pageOf a)) .set < 2 ^ 64
+  unfolding withoutKey
+  clear-word = go (placeOf (t .place) (t .set) (keyOf level (pageOf a)))
+    where
+      go : (i : ℕ) → (cond (ltb i room) (record { set = t .set - 2 ^ i; place = t .place }) t) .set < 2 ^ 64
+      go i = by (ltb i room)
+        where
+          by : (b : Bool) → (cond b (record { set = t .set - 2 ^ i; place = t .place }) t) .set < 2 ^ 64
+          by true = omega arith
+          by false = word
+
+  module _ (small : n < 7) (whole : keysFit n (keysOf t) ≡ true) where
+    pub set-rule : number (setRefusal n (keysOf t) a level) ≡ 0 → keysFit n (keysOf (withKey t (keyOf level (pageOf a)))) ≡ true
+    unfolding keysFit k
+    set-rule e =
+        let may = may-set n t a level e in
+        let fits = key-fits (ofLevels n) level (pageOf a) (page-small (ofLevels n) a (may .address)) (omega (arith, level-below n level (may .fits))) (may .fits) in
+        ap (keysFit n) (keys-with t k word (may .free)) ∙ members-fit (ofLevels n) (inserted-members k (keysOf t)) ∙ rw (fits, may .new, whole)
+
+    pub clear-rule : number (clearRefusal n (keysOf t) a level) ≡ 0 → keysFit n (keysOf (withoutKey t (keyOf level (pageOf a)))) ≡ true
+    unfolding keysFit k
+    clear-rule e =
+        let without = around-members k _ _ (keys-without t k (may-clear n t a level e .held)) in
+        let new = keysOf (withoutKey t k) in
+        and-right (keyFits n k && not (any (eqb k) new)) (keysFit n new) (sym (members-fit (ofLevels n) without) ∙ whole)
+
+-- ---- the prefix of a mark
+taken : (n l p : ℕ) → indexes (n - l) (p / 2 ^ (9 * l)) ≡ take (n - l) (indexes n p)
+unfolding indexes
+taken n l p = elim (decLe l n) [
+  | yes le ↦ let all : n - l + l ≡ n = omega arith in rw all at (sym (indexes-take (n - l) l p))
+  | no gt ↦ let none : n - l ≡ 0 = omega arith in rw none
+]
+
+indexes-small : (n p : ℕ) → Small (indexes n p)
+unfolding indexes index
+indexes-small zero p = tt
+indexes-small (suc n) p = (omega arith, indexes-small n p)
+
+-- it leaves the path of no index where it has an index itself
+begins-none : (is p : List ℕ) → 0 < length is → p ≡ [] → not (begins is p) ≡ true
+begins-none [] p l e = absurd (omega arith)
+begins-none (i ∷ is) p l e = ap (λ q. not (begins (i ∷ is) q)) e
+
+none-of : (is : List ℕ) → length is ≡ 0 → is ≡ []
+none-of [] e = refl
+none-of (i ∷ is) e = absurd (omega arith)
+
+-- ---- the drop, for any table that holds the book's marks after the call
+module _ (s : State) (r : Record) (m : List ℕ) (h : Inv s r m) (a n : ℕ) (t : Marks) (ms : List Mark)
+    (word : t .set < 2 ^ 64) (rule : keysFit levels (keysOf t) ≡ true) (agree : SameMembers (marksOf levels t) ms)
+    (book : BookFits (configOf r) (record { marks = ms; held = dropPrefix (take (levels - n) (addressIndexes (configOf r) a)) (s .book .held) })) where
+  p : List ℕ
+  p = take (levels - n) (addressIndexes (configOf r) a)
+
+  is : List ℕ
+  is = indexes (levels - n) (pageOf a / 2 ^ (9 * n))
+
+  same : is ≡ p
+  unfolding p is
+  same = taken levels n (pageOf a)
+
+  long : length p ≡ levels - n
+  unfolding is
+  long = sym (ap length same) ∙ indexes-length (levels - n) (pageOf a / 2 ^ (9 * n))
+
+  held : List Held
+  held = s .book .held
+
+  left : List Held
+  left = dropPrefix p held
+
+  F : List ℕ → ℕ
+  F = framesAt (configOf r) m (s .machine .root)
+
+  top : ℕ
+  top = cond (ltb n levels) (r .top) 0
+
+  abbrev marked : State
+  marked = record { machine = s .machine; book = record { marks = ms; held = dropPrefix (take (levels - n) (addressIndexes (configOf r) a)) (s .book .held) } }
+
+  drops : Dropped (configOf r) m (leafAt (entryOf (configOf r) F) (longer left)) F (dropPrefixOf (configOf r) (r .shadow) m is)
+  unfolding F held left is
+  drops =
+      let entries = valid-entries (configOf r) (s .machine) m (inv-stands h) (inv-root h) (h .maps .few) (longer held) (all-longer _ held (h .valid)) in
+      let d = drop-prefix (inv-shadow h) entries is (omega (arith, indexes-length (levels - n) (pageOf a / 2 ^ (9 * n)))) (indexes-small (levels - n) (pageOf a / 2 ^ (9 * n))) in
+      subst (λ hs. Dropped (configOf r) m (leafAt (entryOf (configOf r) F) hs) F (dropPrefixOf (configOf r) (r .shadow) m is))
+      (ap (λ q. dropPrefix q (longer held)) same ∙ sym (longer-keep (λ x. not (begins p (x .path))) held)) d
+
+  top-fits : (top ≡ 0) ⊎ InGuestArea (configOf r) top
+  unfolding top
+  top-fits = go (ltb n levels)
+    where
+      go : (b : Bool) → (cond b (r .top) 0 ≡ 0) ⊎ InGuestArea (configOf r) (cond b (r .top) 0)
+      go true = inv-fits h .top
+      go false = inl refl
+
+  -- "4 and 5 keep none": then the path of no index goes
+  top-is : top ≡ topBy (F []) (find [] left)
+  unfolding top F left held
+  top-is = go (ltb n levels) refl
+    where
+      go : (b : Bool) → ltb n levels ≡ b → cond b (r .top) 0 ≡ topBy (F []) (find [] (dropPrefix p held))
+      go true e =
+          let some = ltb-true n levels e in
+          inv-top h ∙ sym (ap (topBy (F [])) (find-keep (λ x. not (begins p (x .path))) held (all-any _ held (λ x q. begins-none p (x .path) (omega (arith, long)) q))))
+      go false e =
+          let l = ltb-false n levels e in
+          let none : p ≡ [] = none-of p (omega (arith, long)) in
+          sym (ap (λ q. topBy (F []) (find [] (dropPrefix q held))) none ∙ ap (λ hs. topBy (F []) (find [] hs)) (prefix-all held))
+
+  kept : {o : Outcome} (d : Dropped (configOf r) m (leafAt (entryOf (configOf r) F) (longer left)) F o) → Inv marked (withHeld (withMarks r t) (d .pool) top) (d .memory)
+  unfolding withHeld withMarks F held left p
+  kept d =
+      let c = configOf r in
+      let valid = all-kept (Valid c (s .machine)) (λ x. not (begins p (x .path))) held (h .valid) in
+      let maps = maps-beside c (d .beside) (h .maps) in
+      let area = shadow-drop c (d .beside) ∙ h .area in
+      let now : Stands c (s .machine) (d .memory) = stands c (s .machine) (r .host) (d .memory) maps area in
+      let staying = all-map _ _ left (λ x v. stays-same c (s .machine) x v) valid in
+      let marks = marks-fit c t word (omega arith) ∙ rule in
+      invariant marked (withHeld (withMarks r t) (d .pool) top) (d .memory)
+      (subst (Fits (withHeld (withMarks r t) (d .pool) top)) (sym (d .beside .len)) (fits-held (fits-marks (inv-fits h) t marks) (d .pool) top (holds-pool (d .holds)) top-fits))
+      word (h .root) maps area book valid agree
+      (shadow-on left (s .machine) (s .machine) m (d .memory) (inv-stands h) now (inv-root h) (inv-root h) (h .maps .few) staying (d .holds))
+      (top-is ∙ top-on c left (s .machine) (s .machine) m (d .memory) (inv-stands h) now (inv-root h) (inv-root h) (h .maps .few) staying)
+
+  marked-left : Left marked r (markedOf r m a n t)
+  unfolding markedOf is top withHeld withMarks
+  marked-left = dropped-left drops marked r (withMarks r t) top refl (kept drops)
+
+-- ---- set and clear
+module _ (s : State) (r : Record) (m : List ℕ) (h : Inv s r m) (a n : ℕ) where
+  -- a call on marks, refused as the specification says
+  by-refusal : (x : Call) (t : Marks) (o : Option ℕ) → o ≡ refusal (configOf r) x (s .machine) (s .book)
+      → All (λ (y : Bool × ℕ). 0 < y .1) (tests (configOf r) x (s .machine) (s .book)) → (machineStep (configOf r) x (s .machine)) .0 ≡ outcome.ok
+      → (refusal (configOf r) x (s .machine) (s .book) ≡ none → Left (after (configOf r) x s) r (markedOf r m a n t))
+      → Follows x s r (judged r m (cond (eqb (number o) 0) (markedOf r m a n t) (refused r (number o) m)))
+  unfolding refusal
+  by-refusal x t o e positive ok granted = rw (h .fits) (go o (sym e))
+    where
+      go : (o : Option ℕ) → refusal (configOf r) x (s .machine) (s .book) ≡ o → Follows x s r (cond (eqb (number o) 0) (markedOf r m a n t) (refused r (number o) m))
+      go none q = follows-ok x s r _ q ok (granted q)
+      go (some k) q =
+          let above = first-positive (tests (configOf r) x (s .machine) (s .book)) k positive q in
+          rw (ne-eqb k 0 (λ z. omega arith)) (follows-no x k h q)
+
+  whole : keysFit levels (keysOf (r .marks)) ≡ true
+  whole = fits-keys (h .word) (inv-fits h)
+
+  pub set-mark-follows : Follows (setMark a n) s r (setMarkCall r m a n)
+  unfolding setMarkCall tests machineStep bookStep
+  set-mark-follows =
+      let same = set-refused (configOf r) (r .marks) (s .book) (omega arith) (h .word) (h .marks) (s .machine) a n refl in
+      by-refusal (setMark a n) (withKey (r .marks) (keyOf n (pageOf a))) (setRefusal levels (keysOf (r .marks)) a n) same
+      (omega arith, (omega arith, (omega arith, (omega arith, tt)))) refl
+      (λ e.
+      let free : number (setRefusal levels (keysOf (r .marks)) a n) ≡ 0 = ap number (same ∙ e) in
+      marked-left s r m h a n (withKey (r .marks) (keyOf n (pageOf a))) (markAt (configOf r) n (addressIndexes (configOf r) a) ∷ s .book .marks)
+      (set-word levels (r .marks) a n (h .word)) (set-rule levels (r .marks) a n (h .word) (omega arith) whole free)
+      (set-granted (configOf r) (r .marks) (s .book) (omega arith) (h .word) (h .marks) a n free) (after-fits (configOf r) (setMark a n) s e (h .book)))
+
+  pub clear-mark-follows : Follows (clearMark a n) s r (clearMarkCall r m a n)
+  unfolding clearMarkCall tests machineStep bookStep
+  clear-mark-follows =
+      let same = clear-refused (configOf r) (r .marks) (s .book) (omega arith) (h .word) (h .marks) (s .machine) a n in
+      by-refusal (clearMark a n) (withoutKey (r .marks) (keyOf n (pageOf a))) (clearRefusal levels (keysOf (r .marks)) a n) same
+      (omega arith, (omega arith, (omega arith, tt))) refl
+      (λ e.
+      let free : number (clearRefusal levels (keysOf (r .marks)) a n) ≡ 0 = ap number (same ∙ e) in
+      marked-left s r m h a n (withoutKey (r .marks) (keyOf n (pageOf a))) (keep (λ y. not (sameMark (markAt (configOf r) n (addressIndexes (configOf r) a)) y)) (s .book .marks))
+      (clear-word levels (r .marks) a n (h .word)) (clear-rule levels (r .marks) a n (h .word) (omega arith) whole free)
+      (clear-granted (configOf r) (r .marks) (s .book) (omega arith) (h .word) (h .marks) a n whole free) (after-fits (configOf r) (clearMark a n) s e (h .book)))

@@ -1,0 +1,81 @@
+-- An opening says what the specification's says; what a granted one leaves stands for machine and book.
+-- Assumes nothing.
+use mathlib.Core.Path.{_≡_, refl, sym, subst}
+use Prim.Native.Nat.{ℕ}
+use native.Mathlib.Omega.{arith}
+use mathlib.Core.List.{List, [], Permᴰ·refl}
+use native.Mathlib.Decide.{ℕ-discrete}
+use mathlib.Core.Logic.{_≢_}
+use borrow.Author.Tests.{ne-eqb}
+use lib.ListN.{length}
+use Rattle.spec.specs.declared.Answer.the-variants as answer
+use Rattle.spec.specs.Answer.{line}
+use Rattle.spec.specs.Config.{Config}
+use Rattle.spec.specs.Run.{opened, opening}
+use Rattle.laws.proofs.Runs.{opened-fits}
+use Rattle.tree.specs.Run.{get}
+use Rattle.tree.specs.Host.{hostMap}
+use Rattle.tree.proofs.Claim.{leaves}
+use Rattle.tree.proofs.Whole.{holds-leaves}
+use Rattle.host.proofs.Mapping.{Maps}
+use Rattle.marks.specs.Table.{tableOf}
+use Rattle.marks.proofs.Order.{SameMembers}
+use Rattle.marks.proofs.Book.{no-marks}
+use Rattle.record.specs.Record.{levels, configBy, zeros}
+use Rattle.record.specs.Open.{refusalOf, firstOf, grantedOf}
+use Rattle.record.proofs.Rules.{granted-sized}
+use Rattle.record.proofs.Opening.{refused-opening, refused-open, granted-opening, granted-open, granted-fits, granted-guest, granted-host, granted-shadow}
+use Rattle.drops.proofs.Held.{leafAt, leaf-none}
+use Rattle.drops.proofs.Valid.{framesAt, entryOf}
+use Rattle.unit.specs.Calls.{ended, refused, openCall}
+use Rattle.claims.proofs.Invariant.{Inv}
+
+no-leaves : (c : Config) (y : List ℕ) → 0 ≡ leaves (hostMap c []) y
+unfolding hostMap get
+no-leaves c y = refl
+
+-- "a refused one returns one of zeros"
+pub refused-call : (m : List ℕ) (h s : ℕ) → refusalOf (length m) h s ≢ 0 → openCall m h s ≡ refused zeros (refusalOf (length m) h s) m
+unfolding openCall
+refused-call m h s n = rw (refused-open m h s n, ne-eqb (refusalOf (length m) h s) 0 n)
+
+pub granted-call : (m : List ℕ) (h s : ℕ) → refusalOf (length m) h s ≡ 0 → openCall m h s ≡ ended (grantedOf m h s .unit) answer.Ok (grantedOf m h s .memory)
+unfolding openCall
+granted-call m h s e = rw (granted-open m h s e)
+
+-- whatever the memory and the numbers
+pub open-says : (m : List ℕ) (h s : ℕ) → line (openCall m h s .reply .answer) ≡ (opening (configBy (length m) h s) m) .0
+open-says m h s = go (ℕ-discrete (refusalOf (length m) h s) 0)
+  where
+    go : Dec (refusalOf (length m) h s ≡ 0) → line (openCall m h s .reply .answer) ≡ (opening (configBy (length m) h s) m) .0
+    go (yes e) = rw (granted-call m h s e, granted-opening m h s e)
+    go (no n) = rw (refused-call m h s n, refused-opening m h s n)
+
+-- "It starts with the opening's H, S and guest area, nothing mapped, root 0"
+module _ (m : List ℕ) (h s : ℕ) (grant : refusalOf (length m) h s ≡ 0) where
+  maps : let k = grantedOf m h s in Maps (configBy (length m) h s) [] (k .unit .host) (k .memory)
+  maps = record {
+    deep = omega arith;
+    few = granted-sized (length m) h s grant .frames;
+    holds = holds-leaves (granted-host m h s grant) (leaves (hostMap (configBy (length m) h s) [])) (no-leaves (configBy (length m) h s));
+    frames = tt;
+    inside = tt;
+  }
+
+  pub opened-inv : let k = grantedOf m h s in Inv (opened (configBy (length m) h s) m) (k .unit) (k .memory)
+  unfolding grantedOf firstOf tableOf
+  opened-inv =
+      let c = configBy (length m) h s in
+      let F = framesAt c (grantedOf m h s .memory) 0 in
+      record {
+        fits = granted-fits m h s grant;
+        word = omega arith;
+        root = refl;
+        maps = maps;
+        area = granted-guest m h s grant;
+        book = opened-fits c m;
+        valid = tt;
+        marks = subst (λ ms. SameMembers ms []) (sym (no-marks levels (tableOf []) refl)) (Permᴰ·refl []);
+        shadow = holds-leaves (granted-shadow m h s grant F) (leafAt (entryOf c F) []) (λ y. sym (leaf-none (entryOf c F) y));
+        top = refl;
+      }

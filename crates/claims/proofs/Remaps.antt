@@ -1,0 +1,343 @@
+-- A root load, a map and an unmap follow the specification.
+-- Assumes nothing.
+use mathlib.Core.Path.{_≡_, refl, sym, ap, ap₂, _∙_, subst}
+use mathlib.Core.Logic.{_≢_, _⊎_, inl, inr}
+use Prim.Native.Nat.{ℕ, pred, _*_, _^_, _<_, _≤_}
+use native.Mathlib.Omega.{arith}
+use borrow.Author.Tests.{ltb-true, leb-false, eqb-true, eqb-false, ne-eqb}
+use mathlib.Core.Bool.{Bool, true, false, not, _||_, cond}
+use mathlib.Core.List.{List, [], _∷_}
+use mathlib.Core.Option.{Option, none, some}
+use lib.Dec.{T, eqb, leb}
+use lib.Pow.{pow-mono}
+use lib.ListN.{length}
+use Rattle.spec.specs.declared.Answer.the-variants as answer
+use Rattle.spec.specs.declared.Fault.{Fault}
+use Rattle.spec.specs.Config.{Config, guestBase, frameBits}
+use Rattle.spec.specs.Entry.{frameOf, indexes}
+use Rattle.spec.specs.Prefix.{any}
+use Rattle.spec.specs.Walk.{Walk, World, Trace, granted, trace}
+use Rattle.spec.specs.Plain.{Place, hosted, levels, walk}
+use Rattle.spec.specs.Machine.{Machine, Mapping, lookup, isMapped, with, without, hostTables, hostCost, remapped, world}
+use Rattle.spec.specs.Book.{Held, find, holding, usesMapping, dropMapping}
+use Rattle.spec.specs.Call.{root, map, unmap, machineStep}
+use Rattle.spec.specs.Count.{bookStep}
+use Rattle.spec.specs.Refusal.{firstFailed, frameFits, inGuestArea, tests, refusal}
+use Rattle.spec.specs.Run.{State}
+use Rattle.laws.proofs.Lists.{All, all-map, all-keep, is-true}
+use Rattle.laws.proofs.Granted.{through, then-trace, hosted-granted, level-granted}
+use Rattle.laws.proofs.Trail.{readsFrom, usesFrom}
+use Rattle.laws.proofs.Local.{Seen, seen}
+use Rattle.laws.proofs.Keeps.{Valid, again, lookup-with, lookup-without}
+use Rattle.laws.proofs.Runs.{BookFits, all-passed}
+use Rattle.words.specs.Words.{at}
+use Rattle.area.specs.declared.Pool.{Pool}
+use Rattle.area.specs.Pool.{noneOf}
+use Rattle.area.specs.Tree.{insertOf}
+use Rattle.area.specs.Remove.{removeOf}
+use Rattle.tree.specs.Host.{hostEntry}
+use Rattle.tree.proofs.Change.{some-inj, not-some, differ}
+use Rattle.tree.proofs.Stores.{Beside, beside-refl, beside-place}
+use Rattle.tree.proofs.Whole.{Holds, holds-beside}
+use Rattle.tree.proofs.Hosts.{host-full, host-absent}
+use Rattle.host.specs.Walk.{hostWalkOf}
+use Rattle.host.specs.Map.{hostArea, Changed, changed, changedBy, mapOf, unmapOf, maps, unmaps, mappingOnly, noBook, numberBy, mappingBy}
+use Rattle.host.proofs.Laws.{InGuestArea}
+use Rattle.host.proofs.Mapping.{Maps, Step, answerBy, answerOf, walk-is, map-is, unmap-is}
+use Rattle.walk.proofs.Stands.{Stands}
+use Rattle.record.specs.declared.Record.{Record}
+use Rattle.record.specs.Record.{configOf, withRoot}
+use Rattle.record.proofs.Rules.{Fits, fits-root}
+use Rattle.shadow.specs.declared.Cut.the-variants.{Names}
+use Rattle.shadow.specs.Held.{shadowArea}
+use Rattle.shadow.specs.Drop.{Outcome, scanOf}
+use Rattle.drops.proofs.Scan.{Dropped}
+use Rattle.drops.proofs.Held.{leafAt, HeldEntry, HeldEntries}
+use Rattle.drops.proofs.Drops.{namedIn, guestFrame, mapping-all, drop-mapping, empty-mapping}
+use Rattle.drops.proofs.Valid.{framesAt, entryOf, valid-entries, Stays, stays-mapping}
+use Rattle.unit.specs.Calls.{Ended, ended, refused, withHeld, withHost, droppedBy, unmappedOf, mappedBy, rootCall, mapCall, unmapCall}
+use Rattle.claims.proofs.Invariant.{longer, topBy, Inv, Follows, stands}
+use Rattle.claims.proofs.Moves.{Left, dropped-left, after, follows-no, follows-ok, after-fits, first-positive, invariant, inv-fits, inv-stands, inv-root, inv-shadow, inv-top, fits-held, fits-host, holds-pool, maps-beside, shadow-drop, host-drop, shadow-none, shadow-on, top-on, keep-all, longer-keep, all-longer, find-keep}
+
+no-place : {r : Place} → none ≡ some r → ⊥
+no-place e = let z : _≡_ {A = ℕ} 0 1 = cc in omega arith
+
+unmapped-lookup : (g : ℕ) (xs : List Mapping) → isMapped g xs ≡ false → lookup g xs ≡ none
+unmapped-lookup g [] h = refl
+unmapped-lookup g (x ∷ xs) h = go (eqb g (x .guest)) h (unmapped-lookup g xs)
+  where
+    go : (b : Bool) → (b || isMapped g xs) ≡ false → (isMapped g xs ≡ false → lookup g xs ≡ none) → cond b (some (x .to, x .right)) (lookup g xs) ≡ none
+    go true k ih = differ k
+    go false k ih = ih k
+
+-- ---- root
+root-left : (s : State) (r : Record) (m : List ℕ) → Inv s r m → (g : ℕ) → frameFits (configOf r) g ≡ true
+    → Left (after (configOf r) (root g) s) r (ended (withRoot (withHeld r noneOf 0) g) answer.Ok m)
+unfolding withHeld withRoot machineStep bookStep refusal tests
+root-left s r m h g e =
+    let f = inv-fits h in
+    let F = framesAt (configOf r) m g in
+    let none = shadow-none f m refl (entryOf (configOf r) F) F in
+    record {
+      config = refl;
+      says = refl;
+      next = invariant (after (configOf r) (root g) s) (withRoot (withHeld r noneOf 0) g) m
+          (fits-root (fits-held f noneOf 0 (holds-pool none) (inl refl)) g (ltb-true g (2 ^ frameBits (configOf r)) e))
+          (h .word) refl (h .maps) (h .area) (after-fits (configOf r) (root g) s (rw e) (h .book)) tt (h .marks) none refl;
+    }
+
+-- "A root load drops all"
+pub root-follows : (s : State) (r : Record) (m : List ℕ) → Inv s r m → (g : ℕ) → Follows (root g) s r (rootCall r m g)
+unfolding rootCall refusal tests machineStep
+root-follows s r m h g = rw (h .fits) (go (frameFits (configOf r) g) refl)
+  where
+    go : (b : Bool) → frameFits (configOf r) g ≡ b → Follows (root g) s r (cond b (ended (withRoot (withHeld r noneOf 0) g) answer.Ok m) (refused r 8 m))
+    go true e = follows-ok (root g) s r _ (rw e) refl (root-left s r m h g e)
+    go false e = follows-no (root g) 8 h (rw e)
+
+-- ---- every mapping that a granted walk uses is there
+module _ (w : World) (c : Config) (st : Bool) where
+  levels-found : (n t : ℕ) (v : Bool) (is : List ℕ) (r : Place) → (trace w (levels c st n t v is)) .result ≡ granted r
+      → All (λ g. w .hostAt g ≢ none) ((trace w (levels c st n t v is)) .uses)
+  unfolding levels trace
+  levels-found n t v [] r h = tt
+  levels-found n t v (i ∷ is) r h =
+      let l = level-granted w c st n t v i is r h in
+      subst (λ (x : Trace Fault Place). All (λ g. w .hostAt g ≢ none) (x .uses)) (sym (l .whole))
+      ((λ e. no-place (sym e ∙ l .found)), levels-found (pred n) (l .at .0) (l .at .1) is r (l .next))
+
+  walk-found : (g : ℕ) (is : List ℕ) (r : Place) → (trace w (walk c st g is)) .result ≡ granted r → All (λ f. w .hostAt f ≢ none) ((trace w (walk c st g is)) .uses)
+  unfolding walk
+  walk-found g is r h =
+      let k : Place → Walk Fault Place = λ q. levels c st (c .levels) (q .0) true is in
+      let t = through w (hosted g) k r h in
+      let a = hosted-granted w g (t .mid) (t .first) in
+      let e = then-trace w (hosted g) k (w .hostCost g) [] (g ∷ []) (t .mid) (a .1) in
+      subst (λ (x : Trace Fault Place). All (λ f. w .hostAt f ≢ none) (x .uses)) (sym e)
+      ((λ z. no-place (sym z ∙ a .0)), levels-found (c .levels) (t .mid .0) true is r (t .next))
+
+none-used : (P : ℕ → Type 0) (g : ℕ) (us : List ℕ) → All P us → (P g → ⊥) → any (eqb g) us ≡ false
+none-used P g [] a n = refl
+none-used P g (u ∷ us) a n = rw (ne-eqb g u (λ e. n (subst P (sym e) (a .0)))) (none-used P g us (a .1) n)
+
+-- a frame that is not mapped has no path to drop
+valid-unused : (c : Config) (s : Machine) (h : Held) → Valid c s h → (g : ℕ) → lookup g (s .mappings) ≡ none → usesMapping g h ≡ false
+unfolding again seen world
+valid-unused c s h v g e =
+    let found = walk-found (world c s) c false (s .root) (h .path) (v .frame, h .right) (ap (λ (x : Seen Fault Place). x .result) (v .comes)) in
+    none-used (λ f. lookup f (s .mappings) ≢ none) g (h .uses)
+    (subst (All (λ f. lookup f (s .mappings) ≢ none)) (ap (λ (x : Seen Fault Place). x .uses) (v .comes)) found) (λ k. k e)
+
+-- ---- after one frame's mapping changed
+module _ (s : State) (r : Record) (m : List ℕ) (h : Inv s r m) (g : ℕ) (ys : List Mapping) (others : (f : ℕ) → (f ≡ g → ⊥) → lookup f ys ≡ lookup f (s .machine .mappings))
+    (p : Pool) (n : List ℕ) (maps : Maps (configOf r) ys p n) (beside : Beside (hostArea (configOf r)) m n)
+    (book : BookFits (configOf r) (holding (s .book) (dropMapping g (s .book .held)))) where
+  c : Config
+  c = configOf r
+
+  -- machine and book after it
+  abbrev changedState : State
+  changedState = record { machine = remapped (s .machine) ys; book = holding (s .book) (dropMapping g (s .book .held)) }
+
+  held : List Held
+  held = s .book .held
+
+  left : List Held
+  left = dropMapping g held
+
+  F : List ℕ → ℕ
+  F = framesAt (configOf r) m (s .machine .root)
+
+  staying : All (Stays c (s .machine) (remapped (s .machine) ys)) left
+  unfolding c left held
+  staying = all-map _ _ left (λ x k. stays-mapping c (s .machine) ys g x others (k .0) (k .1))
+      (all-keep (Valid c (s .machine)) (λ x. not (usesMapping g x)) held (h .valid))
+
+  -- with shadow tables that hold what the drop leaves
+  moved : (q : Pool) (top : ℕ) (o : List ℕ) → Beside (shadowArea (configOf r)) n o → (top ≡ 0) ⊎ InGuestArea (configOf r) top
+      → Holds (shadowArea (configOf r)) false q o (leafAt (entryOf (configOf r) F) (longer left)) F → top ≡ topBy (F []) (find [] left)
+      → Inv changedState (withHeld (withHost r p) q top) o
+  unfolding withHeld withHost c left held F
+  moved q top o k fits holds is =
+      let old = inv-fits h in
+      let after : Maps c ys p o = maps-beside c k maps in
+      let area = shadow-drop c k ∙ host-drop c beside ∙ h .area in
+      let now : Stands c (changedState .machine) o = stands c (changedState .machine) p o after area in
+      let few = h .maps .few in
+      let long : length m ≡ length o = sym (k .len ∙ beside .len) in
+      invariant changedState (withHeld (withHost r p) q top) o
+      (subst (Fits (withHeld (withHost r p) q top)) long (fits-held (fits-host old p (holds-pool (after .holds))) q top (holds-pool holds) fits))
+      (h .word) (h .root) after area book (all-map _ _ left (λ x v. v .after) staying) (h .marks)
+      (shadow-on left (s .machine) (changedState .machine) m o (inv-stands h) now (inv-root h) (inv-root h) few staying holds)
+      (is ∙ top-on c left (s .machine) (changedState .machine) m o (inv-stands h) now (inv-root h) (inv-root h) few staying)
+
+  entries : (hs : List Held) → All (Valid (configOf r) (s .machine)) hs
+      → HeldEntries (configOf r) F (namedIn m F) (s .machine .root) (entryOf (configOf r) F) hs
+  unfolding F
+  entries hs a = valid-entries (configOf r) (s .machine) m (inv-stands h) (inv-root h) (h .maps .few) hs a
+
+  -- "every one if the frame is the root's"
+  all-left : g ≡ s .machine .root → Inv changedState (withHeld (withHost r p) noneOf 0) n
+  unfolding left held
+  all-left e =
+      let gone : dropMapping g held ≡ [] = ap (λ x. dropMapping x held) e ∙ mapping-all (entries held (h .valid)) in
+      moved noneOf 0 n (beside-refl (shadowArea (configOf r)) n) (inl refl)
+      (subst (λ hs. Holds (shadowArea (configOf r)) false noneOf n (leafAt (entryOf (configOf r) F) (longer hs)) F) (sym gone)
+      (shadow-none (inv-fits h) n (beside .len) (entryOf (configOf r) F) F))
+      (sym (ap (λ hs. topBy (F []) (find [] hs)) gone))
+
+  -- the shadow tables are as they were
+  shadow-stays : Holds (shadowArea (configOf r)) false (r .shadow) n (leafAt (entryOf (configOf r) F) (longer held)) F
+  unfolding F held
+  shadow-stays = holds-beside (inv-shadow h) (hostArea (configOf r)) n (inr (omega arith)) beside
+
+  -- nothing is dropped where the frame was not mapped
+  none-left : lookup g (s .machine .mappings) ≡ none → Inv changedState (withHost r p) n
+  unfolding withHeld withHost left held F
+  none-left e =
+      let same : dropMapping g held ≡ held = keep-all _ held (all-map _ _ held (λ x v. ap not (valid-unused (configOf r) (s .machine) x v g e)) (h .valid)) in
+      moved (r .shadow) (r .top) n (beside-refl (shadowArea (configOf r)) n) (inv-fits h .top)
+      (subst (λ hs. Holds (shadowArea (configOf r)) false (r .shadow) n (leafAt (entryOf (configOf r) F) (longer hs)) F) (sym same) shadow-stays)
+      (inv-top h ∙ sym (ap (λ hs. topBy (F []) (find [] hs)) same))
+
+  -- the guest entries on a held path are not in the host area
+  named-same : (is q : List ℕ) → All (λ (x : ℕ × ℕ). guestBase (configOf r) ≤ x .0) (readsFrom F q is) → usesFrom (namedIn m F) q is ≡ usesFrom (namedIn n F) q is
+  unfolding namedIn
+  named-same [] q a = refl
+  named-same (i ∷ is) q a =
+      ap₂ (λ x us. frameOf x ∷ us) (sym (beside-place beside (at (F q) i) (inr (omega (arith, a .0))))) (named-same is (i ∷ q) (a .1))
+
+  entries-after : HeldEntries (configOf r) F (namedIn n F) (s .machine .root) (entryOf (configOf r) F) (longer held)
+  unfolding held
+  entries-after = record { all = all-map _ _ (longer held) (λ x e. go x e) ((entries (longer held) (all-longer _ held (h .valid))) .all) }
+    where
+      go : (x : Held) → HeldEntry (configOf r) F (namedIn m F) (s .machine .root) (entryOf (configOf r) F x) x
+          → HeldEntry (configOf r) F (namedIn n F) (s .machine .root) (entryOf (configOf r) F x) x
+      go x e = record {
+        set = e .set;
+        area = e .area;
+        ends = e .ends;
+        reads = e .reads;
+        uses = e .uses ∙ ap (λ us. s .machine .root ∷ us) (named-same (x .path) [] (subst (All _) (e .reads) (e .inside)));
+        inside = e .inside;
+      }
+
+  -- the path of no index uses the root's mapping alone
+  top-stays : g ≢ s .machine .root → r .top ≡ topBy (F []) (find [] left)
+  unfolding F left held
+  top-stays n = inv-top h ∙ sym (ap (topBy (F [])) (find-keep (λ x. not (usesMapping g x)) held
+      (all-map _ _ held (λ x e q. ap not (empty-mapping x q (namedIn m F) (s .machine .root) (e .uses) g ∙ ne-eqb g (s .machine .root) n)) ((entries held (h .valid)) .all))))
+
+  -- the paths that used the mapping go, and no other
+  scan-left : g ≢ s .machine .root
+      → Left changedState r (droppedBy r (withHost r p) (r .top) (scanOf (configOf r) (Names (guestFrame g)) (r .shadow) n))
+  unfolding withHeld withHost left held
+  scan-left other = go (drop-mapping shadow-stays entries-after g other)
+    where
+      go : {t : Outcome} → Dropped (configOf r) n (leafAt (entryOf (configOf r) F) (dropMapping g (longer held))) F t → Left changedState r (droppedBy r (withHost r p) (r .top) t)
+      go d = dropped-left d changedState r (withHost r p) (r .top) refl
+          (moved (d .pool) (r .top) (d .memory) (d .beside) (inv-fits h .top)
+          (subst (λ hs. Holds (shadowArea (configOf r)) false (d .pool) (d .memory) (leafAt (entryOf (configOf r) F) hs) F) (sym (longer-keep (λ x. not (usesMapping g x)) held)) (d .holds))
+          (top-stays other))
+
+  unmapped-left : Left changedState r (unmappedOf r (withHost r p) n g)
+  unfolding unmappedOf withHeld withHost
+  unmapped-left = go (eqb g (r .root)) refl
+    where
+      go : (b : Bool) → eqb g (r .root) ≡ b
+          → Left changedState r (cond b (ended (withHeld (withHost r p) noneOf 0) answer.Ok n) (droppedBy r (withHost r p) (r .top) (scanOf (configOf r) (Names (guestFrame g)) (r .shadow) n)))
+      go true e = record { config = refl; says = refl; next = all-left (eqb-true g (r .root) e ∙ h .root) }
+      go false e = scan-left (λ k. eqb-false g (r .root) e (k ∙ sym (h .root)))
+
+-- ---- a refusal leaves the host tables
+module _ (c : Config) (xs : List Mapping) (p : Pool) (m : List ℕ) (h : Maps c xs p m) (n g : ℕ) where
+  small : frameFits c g ≡ true → g < 2 ^ (9 * c .levels)
+  small e = let w : 2 ^ frameBits c ≤ 2 ^ (9 * c .levels) = pow-mono (omega arith) in omega (arith, ltb-true g (2 ^ frameBits c) e)
+
+  map-refused : (f : ℕ) (w : Bool) → refusal c (map g f w) (mappingOnly xs) noBook ≡ some n → mapOf c p m g f w ≡ changed p n m
+  unfolding mapOf refusal tests
+  map-refused f w e = go (frameFits c g) refl (inGuestArea c f) (leb (hostTables c (with g f w xs)) (c .hosts)) refl e
+    where
+      go : (a : Bool) → frameFits c g ≡ a → (b d : Bool) → leb (hostTables c (with g f w xs)) (c .hosts) ≡ d → firstFailed ((a, 8) ∷ (b, 9) ∷ (d, 10) ∷ []) ≡ some n
+          → cond a (cond b (changedBy p 10 (insertOf (hostArea c) [] p m (indexes (c .levels) g) (hostEntry f w))) (changed p 9 m)) (changed p 8 m) ≡ changed p n m
+      go false q b d l k = ap (λ x. changed p x m) (some-inj k)
+      go true q false d l k = ap (λ x. changed p x m) (some-inj k)
+      go true q true false l k =
+          let z = host-full c g (small q) xs (h .frames) (h .deep) refl (h .holds) f w (leb-false (hostTables c (with g f w xs)) (c .hosts) l) in
+          ap (changedBy p 10) z ∙ ap (λ x. changed p x m) (some-inj k)
+      go true q true true l k = absurd (not-some refl k)
+
+  unmap-refused : refusal c (unmap g) (mappingOnly xs) noBook ≡ some n → unmapOf c p m g ≡ changed p n m
+  unfolding unmapOf refusal tests
+  unmap-refused e = go (frameFits c g) refl (isMapped g xs) refl e
+    where
+      go : (a : Bool) → frameFits c g ≡ a → (b : Bool) → isMapped g xs ≡ b → firstFailed ((a, 8) ∷ (b, 12) ∷ []) ≡ some n
+          → cond a (changedBy p 12 (removeOf (hostArea c) true p m (indexes (c .levels) g))) (changed p 8 m) ≡ changed p n m
+      go false q b l k = ap (λ x. changed p x m) (some-inj k)
+      go true q false l k =
+          ap (changedBy p 12) (host-absent c g (small q) xs (h .frames) (h .deep) refl (h .holds) (unmapped-lookup g xs l)) ∙ ap (λ x. changed p x m) (some-inj k)
+      go true q true l k = absurd (not-some refl k)
+
+-- ---- map and unmap
+module _ (s : State) (r : Record) (m : List ℕ) (h : Inv s r m) (g : ℕ) where
+  -- a frame that fits is walked as the mapping says
+  walked : T (frameFits (configOf r) g) → hostWalkOf (configOf r) m g ≡ answerOf (configOf r) (s .machine .mappings) g
+  walked a = walk-is (configOf r) (s .machine .mappings) (r .host) m (h .maps) g (ltb-true g (2 ^ frameBits (configOf r)) (is-true (frameFits (configOf r) g) a))
+
+  -- "A mapped frame is mapped anew": then the paths that used its mapping go
+  module _ (f : ℕ) (w : Bool) where
+    mapped-left : (p : Pool) (n : List ℕ) → Maps (configOf r) (with g f w (s .machine .mappings)) p n → Beside (hostArea (configOf r)) m n
+        → refusal (configOf r) (map g f w) (s .machine) (s .book) ≡ none
+        → Left (after (configOf r) (map g f w) s) r (mappedBy r (changed p 0 n) g (answerOf (configOf r) (s .machine .mappings) g))
+    unfolding machineStep bookStep withHost
+    mapped-left p n hosts beside e = go (lookup g (s .machine .mappings)) refl
+      where
+        others : (y : ℕ) → (y ≡ g → ⊥) → lookup y (with g f w (s .machine .mappings)) ≡ lookup y (s .machine .mappings)
+        others y k = lookup-with g y f w (s .machine .mappings) k
+
+        go : (o : Option Place) → lookup g (s .machine .mappings) ≡ o
+            → Left (after (configOf r) (map g f w) s) r (mappedBy r (changed p 0 n) g (answerBy (hostCost (configOf r) (s .machine .mappings) g) o))
+        go none q = record {
+          config = refl;
+          says = refl;
+          next = none-left s r m h g (with g f w (s .machine .mappings)) others p n hosts beside (after-fits (configOf r) (map g f w) s e (h .book)) q;
+        }
+        go (some x) q = unmapped-left s r m h g (with g f w (s .machine .mappings)) others p n hosts beside (after-fits (configOf r) (map g f w) s e (h .book))
+
+    pub map-follows : Follows (map g f w) s r (mapCall r m g f w)
+    unfolding mapCall refusal tests machineStep
+    map-follows = rw (h .fits) (go (refusal (configOf r) (map g f w) (s .machine) (s .book)) refl)
+      where
+        over : Changed → Ended
+        over t = cond (eqb (t .change .refusal) 0) (mappedBy r t g (hostWalkOf (configOf r) m g)) (refused r (t .change .refusal) (t .memory))
+
+        go : (o : Option ℕ) → refusal (configOf r) (map g f w) (s .machine) (s .book) ≡ o → Follows (map g f w) s r (over (mapOf (configOf r) (r .host) m g f w))
+        go (some n) e =
+            let positive = first-positive (tests (configOf r) (map g f w) (s .machine) (s .book)) n (omega arith, (omega arith, (omega arith, tt))) e in
+            rw (map-refused (configOf r) (s .machine .mappings) (r .host) m (h .maps) n g f w e, ne-eqb n 0 (λ z. omega arith)) (follows-no (map g f w) n h e)
+        go none e =
+            let t : Step (configOf r) (with g f w (s .machine .mappings)) (r .host) m 0 (mapOf (configOf r) (r .host) m g f w) =
+            subst (λ o. Step (configOf r) (mappingBy o (maps g f w) (s .machine .mappings)) (r .host) m (numberBy o) (mapOf (configOf r) (r .host) m g f w)) e
+            (map-is (configOf r) (s .machine .mappings) (r .host) m (h .maps) g f w) in
+            let a = all-passed (tests (configOf r) (map g f w) (s .machine) (s .book)) e in
+            rw (t .done, walked (a .0))
+            (follows-ok (map g f w) s r _ e refl (mapped-left (t .pool) (t .memory) (t .stands) (t .beside) e))
+
+  pub unmap-follows : Follows (unmap g) s r (unmapCall r m g)
+  unfolding unmapCall refusal tests machineStep bookStep
+  unmap-follows = rw (h .fits) (go (refusal (configOf r) (unmap g) (s .machine) (s .book)) refl)
+    where
+      over : Changed → Ended
+      over t = cond (eqb (t .change .refusal) 0) (unmappedOf r (withHost r (t .change .pool)) (t .memory) g) (refused r (t .change .refusal) (t .memory))
+
+      go : (o : Option ℕ) → refusal (configOf r) (unmap g) (s .machine) (s .book) ≡ o → Follows (unmap g) s r (over (unmapOf (configOf r) (r .host) m g))
+      go (some n) e =
+          let positive = first-positive (tests (configOf r) (unmap g) (s .machine) (s .book)) n (omega arith, (omega arith, tt)) e in
+          rw (unmap-refused (configOf r) (s .machine .mappings) (r .host) m (h .maps) n g e, ne-eqb n 0 (λ z. omega arith)) (follows-no (unmap g) n h e)
+      go none e =
+          let t : Step (configOf r) (without g (s .machine .mappings)) (r .host) m 0 (unmapOf (configOf r) (r .host) m g) =
+          subst (λ o. Step (configOf r) (mappingBy o (unmaps g) (s .machine .mappings)) (r .host) m (numberBy o) (unmapOf (configOf r) (r .host) m g)) e
+          (unmap-is (configOf r) (s .machine .mappings) (r .host) m (h .maps) g) in
+          rw (t .done)
+          (follows-ok (unmap g) s r _ e refl (unmapped-left s r m h g (without g (s .machine .mappings)) (λ y k. lookup-without g y (s .machine .mappings) k)
+          (t .pool) (t .memory) (t .stands) (t .beside) (after-fits (configOf r) (unmap g) s e (h .book))))
