@@ -204,7 +204,7 @@ table-fits c m n st g right = rw (table-step c m n st g right) (go (hostWalkOf c
     go (host.Absent k) f = tt
     go host.Damaged f = tt
 
-page-fits : (c : Config) (m : List ℕ) (n : ℕ) (st : Bool) (g : ℕ) (right : Bool) → TurnFits c n (walkedOf c m n (next st true g right))
+pub page-fits : (c : Config) (m : List ℕ) (n : ℕ) (st : Bool) (g : ℕ) (right : Bool) → TurnFits c n (walkedOf c m n (next st true g right))
 unfolding foundOf
 page-fits c m n st g right = rw (page-step c m n st g right) (first (not st || right))
   where

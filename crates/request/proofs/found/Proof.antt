@@ -1,0 +1,30 @@
+use borrow.Author.Tests.{lt-ltb, le-ltb, eq-eqb, ne-eqb}
+use Rattle.request.specs.Translate.{foundOf}
+use borrow.Author.Needs.{needs}
+use Rattle.request.proofs.found.Statement.{statement}
+use Rattle.request.proofs.found.Tie as tie
+
+path-of-requires : tie.Need-path-of-requires
+path-of-requires c κs = search needs
+
+sub-held : tie.Need-sub-held
+sub-held c = search needs
+
+held-requires : tie.Need-held-requires
+held-requires c κs = search needs
+
+returns : tie.Need-returns
+unfolding foundOf
+returns c = rw (lt-ltb _ _ (c .before .before .before .if1 .taken), ← c .before .before .path-of .ensures) (c .held .ensures)
+
+returns-2 : tie.Need-returns-2
+unfolding foundOf
+returns-2 c = rw (le-ltb _ _ (c .before .if1 .left), eq-eqb _ _ (c .if2 .taken))
+
+returns-3 : tie.Need-returns-3
+unfolding foundOf
+returns-3 c = rw (le-ltb _ _ (c .before .if1 .left), ne-eqb _ _ (c .if2 .left))
+
+pub found-spec : {M : Type 1} → statement M
+found-spec =
+    tie.close (tie.spec path-of-requires sub-held held-requires returns returns-2 returns-3)

@@ -1,0 +1,20 @@
+use Rattle.request.specs.Translate.{plainOf}
+use borrow.Author.Needs.{needs}
+use Rattle.request.proofs.plain.Statement.{statement}
+use Rattle.request.proofs.plain.Tie as tie
+
+page-requires : tie.Need-page-requires
+page-requires c κs = search needs
+
+walk-root-requires : tie.Need-walk-root-requires
+walk-root-requires c κs = search needs
+
+exit-of-requires : tie.Need-exit-of-requires
+exit-of-requires c κs = search needs
+
+returns : tie.Need-returns
+unfolding plainOf
+returns c = rw (← c .before .before .page .ensures, ← c .before .walk-root .ensures, ← c .exit-of .ensures)
+
+pub plain-spec : {M : Type 1} → statement M
+plain-spec = tie.close (tie.spec page-requires walk-root-requires exit-of-requires returns)

@@ -1,0 +1,19 @@
+use borrow.Author.Tests.{eq-eqb, ne-eqb}
+use Rattle.request.specs.Translate.{servesOf}
+use borrow.Author.Needs.{needs}
+use Rattle.request.proofs.serves.Statement.{statement}
+use Rattle.request.proofs.serves.Tie as tie
+
+granted-requires : tie.Need-granted-requires
+granted-requires c κs = search needs
+
+returns : tie.Need-returns
+unfolding servesOf
+returns c = rw (eq-eqb _ _ (c .before .if1 .taken)) (c .granted .ensures)
+
+returns-2 : tie.Need-returns-2
+unfolding servesOf
+returns-2 c = rw (ne-eqb _ _ (c .if1 .left))
+
+pub serves-spec : {M : Type 1} → statement M
+serves-spec = tie.close (tie.spec granted-requires returns returns-2)
