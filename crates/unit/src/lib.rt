@@ -1,15 +1,27 @@
 // The unit's calls: record by value and memory lent in, record and answer out. Each tests the record first (3).
 ghost use mathlib.Core.Path.{_≡_};
+ghost use mathlib.Core.Bool.{_&&_};
 ghost use Prim.Native.Nat.{_<_};
-ghost use Rattle.unit.specs.Calls.{ends, Sound, answerOf, topAfter, withHeld, withHost, openCall, rootCall, unmappedOf, mappedBy, mapCall, unmapCall, markedOf, setMarkCall, clearMarkCall};
+ghost use Rattle.spec.specs.Entry.{pageOf, wordOf};
+ghost use Rattle.spec.specs.Refusal.{addressFits, deviceFits, wordAligned};
+ghost use Rattle.entry.specs.Levels.{ofLevels};
+ghost use Rattle.host.specs.Walk.{LayoutFits, config};
+ghost use Rattle.marks.specs.Key.{depthOf};
+ghost use Rattle.marks.specs.Table.{keys};
+ghost use Rattle.record.specs.Record.{levels};
+ghost use Rattle.request.specs.Translate.{outs, translateOf};
+ghost use Rattle.unit.specs.Calls.{ends, Sound, answerOf, topAfter, withHeld, withHost, openCall, loadOf, storeCall, deviceCall, rootCall, unmappedOf, mappedBy, mapCall, unmapCall, markedOf, setMarkCall, clearMarkCall};
 use area::Pool;
 use entry::GuestPhysical;
 use entry::GuestVirtual;
 use entry::HostPhysical;
 use host::HostWalk;
+use host::Layout;
 use marks::Marks;
 use record::Record;
+use request::Translated;
 use spec::Answer;
+use walk::Walked;
 
 // What a call hands back.
 pub struct Reply {
@@ -56,6 +68,305 @@ pub fn open(mem: &mut [u64], hosts: u64, shadows: u64) -> Reply
     Reply {
         unit: unit,
         answer: answer_of(opened.refusal),
+    }
+}
+
+// ---- load, store, device store
+
+// Is it the address of a word that the guest's tables translate?
+fn address_ok(a: GuestVirtual) -> bool
+    ensures { λ r. ⌜ r ≡ (addressFits (ofLevels levels) (a .0) && wordAligned (a .0)) ⌝ }
+{
+    if a.fits(record::LEVELS) {
+        a.0 % 8 == 0
+    } else {
+        false
+    }
+}
+
+// Is it the guest-physical address of a word?
+fn device_ok(a: u64) -> bool
+    ensures { λ r. ⌜ r ≡ (deviceFits (ofLevels levels) a && wordAligned a) ⌝ }
+{
+    if a >> (12 + entry::frame_bits(record::LEVELS)) == 0 {
+        a % 8 == 0
+    } else {
+        false
+    }
+}
+
+// The page number of an address.
+fn page_of(a: u64) -> u64
+    ensures { λ r. ⌜ r ≡ pageOf a ⌝ }
+{
+    a / 4096
+}
+
+// The word of its page that an address names.
+fn word_of(a: u64) -> u64
+    ensures { λ r. ⌜ (r ≡ wordOf a) × (r < 512) ⌝ }
+{
+    a % 4096 / 8
+}
+
+// The translation of an address at the depth that the marks give it.
+fn translated(
+    place: &[u64; 64],
+    set: u64,
+    mem: &mut [u64],
+    l: Layout,
+    pool: Pool,
+    top: u64,
+    root: GuestPhysical,
+    store: bool,
+    a: GuestVirtual,
+) -> Translated
+    requires { ⌜ (LayoutFits l) × (top < 1099511627776) ⌝ }
+    ensures { λ r. ⌜ outs r (now (mem .exit)) ≡ translateOf (config l) (now (mem .entry)) pool top (root .0) store (a .0) (depthOf (pageOf (a .0)) (keys (now (place .entry)) set)) ⌝ }
+{
+    let d = marks::depth(place, set, a);
+    request::translate(mem, l, pool, top, root, store, a, d)
+}
+
+// Loads a word: 3, 4, 11.
+pub fn load(mut unit: Record, mem: &mut [u64], a: u64) -> Reply
+    ensures { λ r. ⌜ ends r (now (mem .exit)) ≡ loadOf unit (now (mem .entry)) a ⌝ }
+{
+    let at = GuestVirtual(a);
+    if record::fits(
+        &unit.marks.place,
+        unit.marks.set,
+        unit.words,
+        unit.hosts,
+        unit.shadows,
+        unit.root,
+        unit.top,
+        unit.host,
+        unit.shadow,
+        mem.len(),
+    ) {
+        if address_ok(at) {
+            let l = record::layout(unit.words, unit.hosts, unit.shadows);
+            let root = GuestPhysical(unit.root);
+            let t = translated(
+                &unit.marks.place,
+                unit.marks.set,
+                mem,
+                l,
+                unit.shadow,
+                unit.top,
+                root,
+                false,
+                at,
+            );
+            let walked = t.walked;
+            let pool = t.pool;
+            match walked {
+                Walked::Arrived {
+                    page,
+                    writable,
+                    reads,
+                } => {
+                    let word = words::word_in(mem, page.0, word_of(a));
+                    unit.shadow = pool;
+                    unit.top = t.top;
+                    Reply {
+                        unit: unit,
+                        answer: Answer::Value {
+                            word: word,
+                            references: reads,
+                            exits: t.exits,
+                        },
+                    }
+                }
+                Walked::Faulted { fault, reads } => {
+                    unit.shadow = pool;
+                    unit.top = t.top;
+                    Reply {
+                        unit: unit,
+                        answer: Answer::Faulted {
+                            fault: fault,
+                            references: reads,
+                            exits: t.exits,
+                        },
+                    }
+                }
+                Walked::Damaged => Reply {
+                    unit: unit,
+                    answer: Answer::Refused(11),
+                },
+            }
+        } else {
+            Reply {
+                unit: unit,
+                answer: Answer::Refused(4),
+            }
+        }
+    } else {
+        Reply {
+            unit: unit,
+            answer: Answer::Refused(3),
+        }
+    }
+}
+
+// Stores a word; the paths whose shadow part read it are dropped: 3, 4, 11.
+fn store(mut unit: Record, mem: &mut [u64], a: u64, v: u64) -> Reply
+    ensures { λ r. ⌜ ends r (now (mem .exit)) ≡ storeCall unit (now (mem .entry)) a v ⌝ }
+{
+    let at = GuestVirtual(a);
+    if record::fits(
+        &unit.marks.place,
+        unit.marks.set,
+        unit.words,
+        unit.hosts,
+        unit.shadows,
+        unit.root,
+        unit.top,
+        unit.host,
+        unit.shadow,
+        mem.len(),
+    ) {
+        if address_ok(at) {
+            let l = record::layout(unit.words, unit.hosts, unit.shadows);
+            let root = GuestPhysical(unit.root);
+            let t = translated(
+                &unit.marks.place,
+                unit.marks.set,
+                mem,
+                l,
+                unit.shadow,
+                unit.top,
+                root,
+                true,
+                at,
+            );
+            let walked = t.walked;
+            let pool = t.pool;
+            match walked {
+                Walked::Arrived {
+                    page,
+                    writable,
+                    reads,
+                } => {
+                    let put = request::put_word(mem, l, pool, page, word_of(a), v);
+                    let after = put.pool;
+                    if put.ok {
+                        unit.shadow = after;
+                        unit.top = t.top;
+                        Reply {
+                            unit: unit,
+                            answer: Answer::Done {
+                                references: reads,
+                                exits: t.exits + put.exits,
+                            },
+                        }
+                    } else {
+                        Reply {
+                            unit: unit,
+                            answer: Answer::Refused(11),
+                        }
+                    }
+                }
+                Walked::Faulted { fault, reads } => {
+                    unit.shadow = pool;
+                    unit.top = t.top;
+                    Reply {
+                        unit: unit,
+                        answer: Answer::Faulted {
+                            fault: fault,
+                            references: reads,
+                            exits: t.exits,
+                        },
+                    }
+                }
+                Walked::Damaged => Reply {
+                    unit: unit,
+                    answer: Answer::Refused(11),
+                },
+            }
+        } else {
+            Reply {
+                unit: unit,
+                answer: Answer::Refused(4),
+            }
+        }
+    } else {
+        Reply {
+            unit: unit,
+            answer: Answer::Refused(3),
+        }
+    }
+}
+
+// A device stores a word at a guest-physical address; the paths whose shadow part read it are dropped: 3, 4, 11.
+pub fn device_store(mut unit: Record, mem: &mut [u64], a: u64, v: u64) -> Reply
+    ensures { λ r. ⌜ ends r (now (mem .exit)) ≡ deviceCall unit (now (mem .entry)) a v ⌝ }
+{
+    if record::fits(
+        &unit.marks.place,
+        unit.marks.set,
+        unit.words,
+        unit.hosts,
+        unit.shadows,
+        unit.root,
+        unit.top,
+        unit.host,
+        unit.shadow,
+        mem.len(),
+    ) {
+        if device_ok(a) {
+            let l = record::layout(unit.words, unit.hosts, unit.shadows);
+            let guest = GuestPhysical(page_of(a));
+            let walked = walk::to_page(mem, l, true, guest, true, 0);
+            match walked {
+                Walked::Arrived {
+                    page,
+                    writable,
+                    reads,
+                } => {
+                    let put = request::put_word(mem, l, unit.shadow, page, word_of(a), v);
+                    let after = put.pool;
+                    if put.ok {
+                        unit.shadow = after;
+                        Reply {
+                            unit: unit,
+                            answer: Answer::Done {
+                                references: reads,
+                                exits: put.exits,
+                            },
+                        }
+                    } else {
+                        Reply {
+                            unit: unit,
+                            answer: Answer::Refused(11),
+                        }
+                    }
+                }
+                Walked::Faulted { fault, reads } => Reply {
+                    unit: unit,
+                    answer: Answer::Faulted {
+                        fault: fault,
+                        references: reads,
+                        exits: request::exit_of(walked),
+                    },
+                },
+                Walked::Damaged => Reply {
+                    unit: unit,
+                    answer: Answer::Refused(11),
+                },
+            }
+        } else {
+            Reply {
+                unit: unit,
+                answer: Answer::Refused(4),
+            }
+        }
+    } else {
+        Reply {
+            unit: unit,
+            answer: Answer::Refused(3),
+        }
     }
 }
 
