@@ -1,6 +1,6 @@
 -- The calls of the unit, as total definitions over any record, any memory and any numbers.
 -- Assumes nothing.
-use Prim.Native.Nat.{ℕ, _+_, _-_, _*_, _/_, _^_}
+use Prim.Native.Nat.{ℕ, _+_, _-_, _*_, _/_, _^_, _≤_}
 use mathlib.Core.Bool.{Bool, true, false, _&&_, cond}
 use mathlib.Core.List.{List}
 use lib.Dec.{eqb, ltb}
@@ -16,8 +16,8 @@ use Rattle.area.specs.declared.Pool.{Pool}
 use Rattle.area.specs.Pool.{noneOf}
 use Rattle.host.specs.declared.HostWalk.{HostWalk}
 use Rattle.host.specs.declared.HostWalk.the-variants as host
-use Rattle.host.specs.Walk.{hostWalkOf}
-use Rattle.host.specs.Map.{Changed, mapOf, unmapOf}
+use Rattle.host.specs.Walk.{LayoutFits, hostWalkOf}
+use Rattle.host.specs.Map.{mapOf, unmapOf}
 use Rattle.walk.specs.declared.Walked.{Walked}
 use Rattle.walk.specs.declared.Walked.the-variants as walked
 use Rattle.walk.specs.Memory.{walkedOf}
@@ -27,7 +27,7 @@ use Rattle.marks.specs.Table.{keys, withKey, withoutKey, setRefusal, clearRefus
 use Rattle.shadow.specs.declared.Cut.the-variants.{Names}
 use Rattle.shadow.specs.Drop.{Outcome, scanOf, dropPrefixOf}
 use Rattle.record.specs.declared.Record.{Record}
-use Rattle.record.specs.Record.{levels, configOf, fitsOf, withRoot, withMarks}
+use Rattle.record.specs.Record.{levels, layoutOf, configOf, fitsOf, withRoot, withMarks}
 use Rattle.record.specs.Open.{Opening, openOf}
 use Rattle.request.specs.Translate.{Out, translateOf, exitBy}
 use Rattle.request.specs.Store.{Stored, storeOf}
@@ -74,14 +74,22 @@ withHost r p = record {
   marks = r .marks;
 }
 
+-- the ranges that a record which breaks no rule has, as the functions below the calls ask for them
+abbrev pub Sound : Record → Type 0
+Sound r = LayoutFits (layoutOf (r .words) (r .hosts) (r .shadows)) × (r .shadow .fresh ≤ r .shadows)
+
 -- "3 first, if the memory's length is another or the record breaks a rule"
 abbrev pub judged : Record → List ℕ → Ended → Ended
 judged r m next = cond (fitsOf r (length m)) next (refused r 3 m)
 
 -- ---- open
 
+-- ok, or the refusal with that number
+abbrev pub answerOf : ℕ → Answer
+answerOf n = cond (eqb n 0) answer.Ok (answer.Refused n)
+
 abbrev pub openedBy : Record → ℕ → List ℕ → Ended
-openedBy r n m = ended r (cond (eqb n 0) answer.Ok (answer.Refused n)) m
+openedBy r n m = ended r (answerOf n) m
 
 unfoldable pub openCall : List ℕ → ℕ → ℕ → Ended
 openCall m h s = let t = openOf m h s in openedBy (t .opened .unit) (t .opened .refusal) (t .memory)
@@ -156,15 +164,15 @@ unmappedOf r next m g =
     (droppedBy r next (r .top) (scanOf (configOf r) (Names (record { 0 = g })) (r .shadow) m))
 
 -- a frame that was not mapped before has no path to drop
-abbrev pub mappedBy : Record → Changed → ℕ → HostWalk → Ended
-mappedBy r t g (host.Found f w) = unmappedOf r (withHost r (t .change .pool)) (t .memory) g
-mappedBy r t g (host.Absent n) = ended (withHost r (t .change .pool)) answer.Ok (t .memory)
-mappedBy r t g host.Damaged = refused r 11 (t .memory)
+abbrev pub mappedBy : Record → Pool → List ℕ → ℕ → HostWalk → Ended
+mappedBy r p m g (host.Found f w) = unmappedOf r (withHost r p) m g
+mappedBy r p m g (host.Absent n) = ended (withHost r p) answer.Ok m
+mappedBy r p m g host.Damaged = refused r 11 m
 
 unfoldable pub mapCall : Record → List ℕ → ℕ → ℕ → Bool → Ended
 mapCall r m g f w =
     let t = mapOf (configOf r) (r .host) m g f w in
-    judged r m (cond (eqb (t .change .refusal) 0) (mappedBy r t g (hostWalkOf (configOf r) m g)) (refused r (t .change .refusal) (t .memory)))
+    judged r m (cond (eqb (t .change .refusal) 0) (mappedBy r (t .change .pool) (t .memory) g (hostWalkOf (configOf r) m g)) (refused r (t .change .refusal) (t .memory)))
 
 unfoldable pub unmapCall : Record → List ℕ → ℕ → Ended
 unmapCall r m g =
@@ -173,10 +181,14 @@ unmapCall r m g =
 
 -- ---- marks
 
--- "A mark set or cleared drops the paths that begin with its prefix": the frame held at depth N too where it keeps no index
+-- the frame held at depth N after a mark of level n: it goes too where the mark keeps no index
+abbrev pub topAfter : ℕ → ℕ → ℕ
+topAfter n top = cond (ltb n levels) top 0
+
+-- "A mark set or cleared drops the paths that begin with its prefix"
 unfoldable pub markedOf : Record → List ℕ → ℕ → ℕ → Marks → Ended
 markedOf r m a n t =
-    droppedBy r (withMarks r t) (cond (ltb n levels) (r .top) 0) (dropPrefixOf (configOf r) (r .shadow) m (indexes (levels - n) (pageOf a / 2 ^ (9 * n))))
+    droppedBy r (withMarks r t) (topAfter n (r .top)) (dropPrefixOf (configOf r) (r .shadow) m (indexes (levels - n) (pageOf a / 2 ^ (9 * n))))
 
 abbrev pub keysOf : Record → List ℕ
 keysOf r = keys (r .marks .place) (r .marks .set)

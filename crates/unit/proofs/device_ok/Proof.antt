@@ -1,0 +1,23 @@
+use borrow.Author.Tests.{eq-eqb, ne-eqb}
+use Rattle.entry.proofs.Entries.{shift-out}
+use borrow.Author.Needs.{needs}
+use Rattle.unit.proofs.device_ok.Statement.{statement}
+use Rattle.unit.proofs.device_ok.Tie as tie
+
+frame-bits-requires : tie.Need-frame-bits-requires
+frame-bits-requires c κs = search needs
+
+add-if1 : tie.Need-add-if1
+add-if1 c = search needs
+
+shr-if1 : tie.Need-shr-if1
+shr-if1 c = search needs
+
+returns : tie.Need-returns
+returns c = rw (← shift-out (c .before .before .args .a) 48, eq-eqb _ _ (rw (c .before .frame-bits .ensures) at (c .if1 .taken)))
+
+returns-2 : tie.Need-returns-2
+returns-2 c = rw (← shift-out (c .before .before .args .a) 48, ne-eqb _ _ (rw (c .before .frame-bits .ensures) at (c .if1 .left)))
+
+pub device-ok-spec : {M : Type 1} → statement M
+device-ok-spec = tie.close (tie.spec frame-bits-requires add-if1 shr-if1 returns returns-2)

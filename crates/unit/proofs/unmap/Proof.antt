@@ -1,0 +1,52 @@
+use borrow.Author.Tests.{eq-eqb, ne-eqb}
+use mathlib.Core.Path.{sym, _∙_}
+use native.Mathlib.Omega.{arith}
+use Rattle.unit.specs.Calls.{unmapCall}
+use Rattle.unit.proofs.Ranges.{fits-sound}
+use borrow.Author.Needs.{needs}
+use Rattle.unit.proofs.unmap.Statement.{statement}
+use Rattle.unit.proofs.unmap.Tie as tie
+
+fits-requires : tie.Need-fits-requires
+fits-requires c κs = search needs
+
+layout-requires : tie.Need-layout-requires
+layout-requires c κs = search needs
+
+unmap-requires : tie.Need-unmap-requires
+unmap-requires c κs = rw (c .before .layout .ensures) (fits-sound (c .before .before .before .before .before .args .unit) _ (sym (c .before .before .before .fits2 .ensures) ∙ c .before .before .if1 .taken) .0, omega arith)
+
+remapped-requires : tie.Need-remapped-requires
+remapped-requires c κs = fits-sound (c .before .before .before .before .before .before .before .before .before .before .before .before .args .unit) _ (sym (c .before .before .before .before .before .before .before .before .before .before .fits2 .ensures) ∙ c .before .before .before .before .before .before .before .before .before .if1 .taken)
+
+same-length : tie.Need-same-length
+same-length c = search needs
+
+returns : tie.Need-returns
+unfolding unmapCall
+returns c = rw (← c .before .before .before .before .before .before .before .before .before .before .before .before .before .fits2 .ensures, c .before .before .before .before .before .before .before .before .before .before .before .before .if1 .taken, ← (rw (c .before .before .before .before .before .before .before .before .before .before .before .layout .ensures) at (c .before .before .before .before .before .before .before .before .before .unmap .ensures)), eq-eqb _ _ (c .before .before .before .before .if2 .taken)) (c .before .before .remapped .ensures)
+
+same-length-2 : tie.Need-same-length-2
+same-length-2 c = search needs
+
+returns-2 : tie.Need-returns-2
+unfolding unmapCall
+returns-2 c = rw (← c .before .before .before .before .before .before .before .before .before .fits2 .ensures, c .before .before .before .before .before .before .before .before .if1 .taken, ← (rw (c .before .before .before .before .before .before .before .layout .ensures) at (c .before .before .before .before .before .unmap .ensures)), ne-eqb _ _ (c .if2 .left))
+
+returns-3 : tie.Need-returns-3
+unfolding unmapCall
+returns-3 c = rw (← c .before .fits2 .ensures, c .if1 .left)
+
+pub unmap-spec : {M : Type 1} → statement M
+unmap-spec =
+    tie.close
+    (tie.spec
+    fits-requires
+    layout-requires
+    unmap-requires
+    remapped-requires
+    same-length
+    returns
+    same-length-2
+    returns-2
+    returns-3)
