@@ -1,20 +1,19 @@
 -- The record and the lent memory stand for machine and book: what every granted opening has and every call keeps.
 -- Assumes nothing.
-use mathlib.Core.Path.{_≡_, refl, sym, ap, _∙_, subst}
-use Prim.Native.Nat.{ℕ, _+_, _*_, _^_, _<_, _≤_}
-use native.Mathlib.Omega.{arith}
-use mathlib.Core.Bool.{Bool, true, false, cond}
-use mathlib.Core.List.{List, [], _∷_}
+use mathlib.Core.Path.{_≡_, refl}
+use Prim.Native.Nat.{ℕ, _*_, _^_, _<_}
+use mathlib.Core.Bool.{true, false}
+use mathlib.Core.List.{List, []}
 use mathlib.Core.Option.{Option, none, some}
-use lib.Dec.{T, ltb}
+use lib.Dec.{ltb}
 use lib.ListN.{length, drop}
-use Rattle.spec.specs.Config.{Config, guestBase, frameBits}
-use Rattle.spec.specs.Answer.{Line, line}
+use Rattle.spec.specs.Config.{Config, guestBase}
+use Rattle.spec.specs.Answer.{line}
 use Rattle.spec.specs.Prefix.{keep}
 use Rattle.spec.specs.Plain.{Place}
-use Rattle.spec.specs.Machine.{Machine, Mapping, lookup}
-use Rattle.spec.specs.Book.{Held, Book, find}
-use Rattle.spec.specs.Call.{Call, root, map, unmap, setMark, clearMark, load, store, device}
+use Rattle.spec.specs.Machine.{Machine, lookup}
+use Rattle.spec.specs.Book.{Held, find}
+use Rattle.spec.specs.Call.{Call}
 use Rattle.spec.specs.Run.{State, step}
 use Rattle.laws.proofs.Lists.{All}
 use Rattle.laws.proofs.Asks.{AnswerIn}
@@ -29,11 +28,10 @@ use Rattle.marks.specs.Reading.{marksOf}
 use Rattle.marks.proofs.Order.{SameMembers}
 use Rattle.record.specs.declared.Record.{Record}
 use Rattle.record.specs.Record.{levels, configOf, fitsOf}
-use Rattle.record.proofs.Rules.{Fits, fits-layout}
 use Rattle.shadow.specs.Held.{shadowArea}
 use Rattle.drops.proofs.Held.{leafAt}
 use Rattle.drops.proofs.Valid.{framesAt, entryOf}
-use Rattle.unit.specs.Calls.{Ended, loadOf, storeCall, deviceCall, rootCall, mapCall, unmapCall, setMarkCall, clearMarkCall}
+use Rattle.unit.specs.Calls.{Ended}
 
 -- the held paths that stand in the shadow tables: those with an index; the one of no index stands in the record
 abbrev pub longer : List Held → List Held
@@ -72,16 +70,6 @@ stands c s p m h e = record {
     go g (some x) q = lookup-inside c g (s .mappings) x (h .inside) q
 
 -- ---- what a call of the unit does, and that it follows the specification's step
-
-unfoldable pub callOf : Call → Record → List ℕ → Ended
-callOf (root g) r m = rootCall r m g
-callOf (map g f w) r m = mapCall r m g f w
-callOf (unmap g) r m = unmapCall r m g
-callOf (setMark a n) r m = setMarkCall r m a n
-callOf (clearMark a n) r m = clearMarkCall r m a n
-callOf (load a) r m = loadOf r m a
-callOf (store a v) r m = storeCall r m a v
-callOf (device a v) r m = deviceCall r m a v
 
 -- the call x, which leaves e, says what the specification's step says, and keeps the invariant
 pub record Follows (x : Call) (s : State) (r : Record) (e : Ended) : Type 0 where

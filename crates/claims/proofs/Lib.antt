@@ -1,10 +1,11 @@
-pub mod Found
 pub mod Invariant
-pub mod Marks
 pub mod Moves
-pub mod Opens
 pub mod Paths
-pub mod Puts
-pub mod Remaps
-pub mod Requests
+pub mod Found
 pub mod Translates
+pub mod Puts
+pub mod Requests
+pub mod Remaps
+pub mod Marks
+pub mod Opens
+pub mod Demands

@@ -288,7 +288,7 @@ module _ (s : State) (r : Record) (m : List ℕ) (h : Inv s r m) (g : ℕ) where
   module _ (f : ℕ) (w : Bool) where
     mapped-left : (p : Pool) (n : List ℕ) → Maps (configOf r) (with g f w (s .machine .mappings)) p n → Beside (hostArea (configOf r)) m n
         → refusal (configOf r) (map g f w) (s .machine) (s .book) ≡ none
-        → Left (after (configOf r) (map g f w) s) r (mappedBy r (changed p 0 n) g (answerOf (configOf r) (s .machine .mappings) g))
+        → Left (after (configOf r) (map g f w) s) r (mappedBy r p n g (answerOf (configOf r) (s .machine .mappings) g))
     unfolding machineStep bookStep withHost
     mapped-left p n hosts beside e = go (lookup g (s .machine .mappings)) refl
       where
@@ -296,7 +296,7 @@ module _ (s : State) (r : Record) (m : List ℕ) (h : Inv s r m) (g : ℕ) where
         others y k = lookup-with g y f w (s .machine .mappings) k
 
         go : (o : Option Place) → lookup g (s .machine .mappings) ≡ o
-            → Left (after (configOf r) (map g f w) s) r (mappedBy r (changed p 0 n) g (answerBy (hostCost (configOf r) (s .machine .mappings) g) o))
+            → Left (after (configOf r) (map g f w) s) r (mappedBy r p n g (answerBy (hostCost (configOf r) (s .machine .mappings) g) o))
         go none q = record {
           config = refl;
           says = refl;
@@ -309,7 +309,7 @@ module _ (s : State) (r : Record) (m : List ℕ) (h : Inv s r m) (g : ℕ) where
     map-follows = rw (h .fits) (go (refusal (configOf r) (map g f w) (s .machine) (s .book)) refl)
       where
         over : Changed → Ended
-        over t = cond (eqb (t .change .refusal) 0) (mappedBy r t g (hostWalkOf (configOf r) m g)) (refused r (t .change .refusal) (t .memory))
+        over t = cond (eqb (t .change .refusal) 0) (mappedBy r (t .change .pool) (t .memory) g (hostWalkOf (configOf r) m g)) (refused r (t .change .refusal) (t .memory))
 
         go : (o : Option ℕ) → refusal (configOf r) (map g f w) (s .machine) (s .book) ≡ o → Follows (map g f w) s r (over (mapOf (configOf r) (r .host) m g f w))
         go (some n) e =

@@ -1,0 +1,81 @@
+-- Demand 3: every run of the unit is the run of the machine without shadow and its book. Demand 2 follows.
+-- Assumes nothing.
+use mathlib.Core.Path.{_≡_, refl, sym, ap, ap₂, _∙_, subst}
+use mathlib.Core.Logic.{_≢_}
+use Prim.Native.Nat.{ℕ, _+_, _*_}
+use native.Mathlib.Omega.{arith}
+use mathlib.Core.Bool.{Bool, true, false, cond}
+use mathlib.Core.List.{List, [], _∷_}
+use mathlib.Core.Option.{Option, none, some}
+use lib.Dec.{eqb}
+use lib.ListN.{length, drop}
+use Rattle.spec.specs.Answer as say
+use Rattle.spec.specs.Answer.{Line, line}
+use Rattle.spec.specs.Config.{Config, guestBase}
+use Rattle.spec.specs.Machine.{Machine}
+use Rattle.spec.specs.Book.{Book}
+use Rattle.spec.specs.Call.{Call, root, map, unmap, setMark, clearMark, load, store, device}
+use Rattle.spec.specs.Refusal.{firstFailed, tests, refusal}
+use Rattle.spec.specs.Run.{State, step, run, after, answered, opened}
+use Rattle.laws.proofs.Lists.{All}
+use Rattle.record.specs.declared.Record.{Record}
+use Rattle.record.specs.Record.{configOf, configBy}
+use Rattle.record.specs.Open.{refusalOf, firstOf, grantedOf}
+use Rattle.unit.specs.Calls.{Ended, openCall}
+use Rattle.claims.specs.Run.{callOf, guestArea, unitRun, unitAfter, machineRun}
+use Rattle.claims.proofs.Invariant.{Inv, Follows}
+use Rattle.claims.proofs.Opens.{opened-inv, granted-call}
+use Rattle.claims.proofs.Remaps.{root-follows, map-follows, unmap-follows}
+use Rattle.claims.proofs.Marks.{set-mark-follows, clear-mark-follows}
+use Rattle.claims.proofs.Requests.{load-follows, store-follows, device-follows}
+
+-- every call follows the specification's step
+pub follows : (x : Call) (s : State) (r : Record) (m : List ℕ) → Inv s r m → Follows x s r (callOf x r m)
+unfolding callOf
+follows (root g) s r m i = root-follows s r m i g
+follows (map g f w) s r m i = map-follows s r m i g f w
+follows (unmap g) s r m i = unmap-follows s r m i g
+follows (setMark a n) s r m i = set-mark-follows s r m i a n
+follows (clearMark a n) s r m i = clear-mark-follows s r m i a n
+follows (load a) s r m i = load-follows s r m i a
+follows (store a v) s r m i = store-follows s r m i a v
+follows (device a v) s r m i = device-follows s r m i a v
+
+-- a list of calls, from any state that the record and the memory stand for
+pub runs-follow : (c : Config) (xs : List Call) (s : State) (r : Record) (m : List ℕ) → configOf r ≡ c → Inv s r m → unitRun xs r m ≡ machineRun (run c xs s)
+unfolding unitRun run
+runs-follow c [] s r m e i = refl
+runs-follow c (x ∷ xs) s r m e i =
+    let f = follows x s r m i in
+    let u = callOf x r m in
+    let now : step (configOf r) x s ≡ step c x s = ap (λ k. step k x s) e in
+    ap₂ (λ o os. o ∷ os)
+    (ap₂ (λ l g. (l, g)) (f .says ∙ ap (λ o. o .0) now) (f .next .area ∙ ap (λ o. o .1 .machine .area) now))
+    (runs-follow c xs ((step c x s) .1) (u .reply .unit) (u .memory) (f .config ∙ e) (subst (λ o. Inv (o .1) (u .reply .unit) (u .memory)) now (f .next)))
+
+-- and the invariant at its end
+pub after-follow : (c : Config) (xs : List Call) (s : State) (r : Record) (m : List ℕ) (d : Ended) → configOf r ≡ c → Inv s r m → r ≡ d .reply .unit → m ≡ d .memory
+    → let e = unitAfter xs r m d in (configOf (e .reply .unit) ≡ c) × Inv (after c xs s) (e .reply .unit) (e .memory)
+unfolding unitAfter after
+after-follow c [] s r m d k i p q = (ap configOf (sym p) ∙ k, subst (λ x. Inv s x (d .memory)) p (subst (Inv s r) q i))
+after-follow c (x ∷ xs) s r m d k i p q =
+    let f = follows x s r m i in
+    let u = callOf x r m in
+    let now : step (configOf r) x s ≡ step c x s = ap (λ y. step y x s) k in
+    after-follow c xs ((step c x s) .1) (u .reply .unit) (u .memory) u (f .config ∙ k) (subst (λ o. Inv (o .1) (u .reply .unit) (u .memory)) now (f .next)) refl refl
+
+opened-config : (m : List ℕ) (h s : ℕ) → configOf (grantedOf m h s .unit) ≡ configBy (length m) h s
+unfolding grantedOf firstOf
+opened-config m h s = refl
+
+-- Demand 3. "For every granted opening, on any memory, and every list of calls after it: each value, fault, refusal, count and
+-- the guest words equal those of document 01's machine without shadow and its book"
+pub demand-3 : (m : List ℕ) (h s : ℕ) (xs : List Call) → refusalOf (length m) h s ≡ 0
+    → let e = openCall m h s in
+    let c = configBy (length m) h s in
+    unitRun xs (e .reply .unit) (e .memory) ≡ machineRun (run c xs (opened c m))
+demand-3 m h s xs g =
+    let c = configBy (length m) h s in
+    let k = grantedOf m h s in
+    ap (λ (e : Ended). unitRun xs (e .reply .unit) (e .memory)) (granted-call m h s g)
+    ∙ runs-follow c xs (opened c m) (k .unit) (k .memory) (opened-config m h s) (opened-inv m h s g)

@@ -1,0 +1,43 @@
+-- A run of the unit: an opening and a list of calls, by the very definitions that the unit's contracts cite.
+-- Assumes nothing.
+use Prim.Native.Nat.{ℕ, _*_}
+use mathlib.Core.List.{List, [], _∷_}
+use lib.ListN.{drop}
+use Rattle.spec.specs.Config.{guestBase}
+use Rattle.spec.specs.Answer.{Line, line}
+use Rattle.spec.specs.Call.{Call, root, map, unmap, setMark, clearMark, load, store, device}
+use Rattle.spec.specs.Run.{State}
+use Rattle.record.specs.declared.Record.{Record}
+use Rattle.record.specs.Record.{configOf}
+use Rattle.unit.specs.Calls.{Ended, loadOf, storeCall, deviceCall, rootCall, mapCall, unmapCall, setMarkCall, clearMarkCall}
+
+unfoldable pub callOf : Call → Record → List ℕ → Ended
+callOf (root g) r m = rootCall r m g
+callOf (map g f w) r m = mapCall r m g f w
+callOf (unmap g) r m = unmapCall r m g
+callOf (setMark a n) r m = setMarkCall r m a n
+callOf (clearMark a n) r m = clearMarkCall r m a n
+callOf (load a) r m = loadOf r m a
+callOf (store a v) r m = storeCall r m a v
+callOf (device a v) r m = deviceCall r m a v
+
+-- the guest area of a memory
+abbrev pub guestArea : Record → List ℕ → List ℕ
+guestArea r m = drop (512 * guestBase (configOf r)) m
+
+-- what the unit says at each call of a list, with the guest area after it
+unfoldable pub unitRun : List Call → Record → List ℕ → List (Line × List ℕ)
+unitRun [] r m = []
+unitRun (x ∷ xs) r m =
+    let e : Ended = callOf x r m in
+    (line (e .reply .answer), guestArea (e .reply .unit) (e .memory)) ∷ unitRun xs (e .reply .unit) (e .memory)
+
+-- the record and the memory after a list of calls
+unfoldable pub unitAfter : List Call → Record → List ℕ → Ended → Ended
+unitAfter [] r m e = e
+unitAfter (x ∷ xs) r m e = unitAfter xs (callOf x r m .reply .unit) (callOf x r m .memory) (callOf x r m)
+
+-- the specification's run as it is compared: each line with the machine's guest area after it
+abbrev pub machineRun : List (Line × State) → List (Line × List ℕ)
+machineRun [] = []
+machineRun (o ∷ os) = (o .0, o .1 .machine .area) ∷ machineRun os
