@@ -211,7 +211,7 @@ pub fn load(mut unit: Record, mem: &mut [u64], a: u64) -> Reply
 }
 
 // Stores a word; the paths whose shadow part read it are dropped: 3, 4, 11.
-fn store(mut unit: Record, mem: &mut [u64], a: u64, v: u64) -> Reply
+pub fn store(mut unit: Record, mem: &mut [u64], a: u64, v: u64) -> Reply
     ensures { λ r. ⌜ ends r (now (mem .exit)) ≡ storeCall unit (now (mem .entry)) a v ⌝ }
 {
     let at = GuestVirtual(a);
