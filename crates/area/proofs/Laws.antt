@@ -17,22 +17,12 @@ use Rattle.area.specs.declared.Way.the-variants.{To, Not, Bad}
 use Rattle.area.specs.declared.Look.{Look}
 use Rattle.area.specs.declared.Look.the-variants.{Seen, Broken}
 use Rattle.area.specs.Header.{entryIn, putOf, guestOf, parentOf, slotOf, insideOf, bareOf}
+use Rattle.laws.proofs.Indexes.{indexes-step}
 use Rattle.area.specs.Pool.{hopOf, onWay, end, poolOf, freshOf, freedOf, takeOf}
 use Rattle.area.specs.Tree.{lookOf, headed, tableOf, enterOf, hung, hangOf, descendOf, onward, downOf}
 use Rattle.area.specs.Remove.{unhangOf, shutOf, releaseOf, lastOf, lastIndex}
 
 -- ---- indexes
-pub indexes-none : (g : ℕ) → indexes 0 g ≡ []
-unfolding indexes
-indexes-none g = refl
-
-pub indexes-step : (k g : ℕ) → 0 < k → indexes k g ≡ index (k - 1) g ∷ indexes (k - 1) g
-unfolding indexes
-indexes-step zero g l = absurd (omega arith)
-indexes-step (suc k) g l =
-    let d : suc k - 1 ≡ k = omega arith in
-    rw d
-
 pub indexes-last : (k g : ℕ) → lastIndex (index k g) (indexes k g) ≡ index 0 g
 unfolding lastIndex indexes
 indexes-last zero g = refl

@@ -13,7 +13,6 @@ use lib.ListN.{length}
 use Rattle.spec.specs.declared.Fault.{Fault}
 use Rattle.spec.specs.Config.{Config, guestBase, frameBits}
 use Rattle.spec.specs.Entry.{frameOf, writable, indexes, pageOf}
-use Rattle.entry.proofs.Entries.{index-fits}
 use Rattle.spec.specs.Prefix.{same, begins, keep}
 use Rattle.spec.specs.Walk.{World, Trace, Result, granted, failed, trace}
 use Rattle.spec.specs.Plain.{Place, hosted, levels, walk, upper}
@@ -25,12 +24,13 @@ use Rattle.spec.specs.Run.{State}
 use Rattle.laws.proofs.Lists.{All, all-map, all-keep, is-true, is-false, same-is}
 use Rattle.laws.proofs.Local.{Seen, seen}
 use Rattle.laws.proofs.Granted.{granted-is, through, walk-serves}
-use Rattle.laws.proofs.Counts.{indexes-length}
+use Rattle.laws.proofs.Indexes.{indexes-length, indexes-all}
 use Rattle.laws.proofs.Depth.{PathFits, no-proper-prefix, fill-fits}
 use Rattle.laws.proofs.Keeps.{Valid, again}
 use Rattle.laws.proofs.Runs.{BookFits}
 use Rattle.tree.proofs.Paths.{onto, Small}
 use Rattle.tree.proofs.Find.{steps}
+use Rattle.tree.proofs.Hosts.{indexes-small}
 use Rattle.tree.proofs.Whole as tree
 use Rattle.host.specs.declared.HostWalk.{HostWalk}
 use Rattle.host.specs.declared.HostWalk.the-variants as host
@@ -50,7 +50,7 @@ use Rattle.drops.proofs.Fill.{frame-small}
 use Rattle.drops.proofs.Valid.{framesAt, entryOf, valid-entries, valid-frame, inside-area}
 use Rattle.request.specs.Translate.{pathIndexes, foundOf, servesOf}
 use Rattle.claims.proofs.Invariant.{longer, topBy, frames, Inv, stands}
-use Rattle.claims.proofs.Paths.{indexes-all, path-upper, walk-above}
+use Rattle.claims.proofs.Paths.{path-upper, walk-above}
 
 -- ---- lists of held paths
 
@@ -128,15 +128,10 @@ module _ (s : State) (r : Record) (m : List ℕ) (inv : Inv s r m) where
       apart-from h f = (no-proper-prefix (cfg .levels) (s .book .marks) (h .path) path f path-depth, no-proper-prefix (cfg .levels) (s .book .marks) path (h .path) path-depth f)
 
       pub path-free : 0 < length path → tree.Fits (shadowArea cfg) (leafAt (entryOf cfg (frames r m)) (longer (s .book .held))) path
-      unfolding indexes
       path-free l =
-          path-fits cfg (entryOf cfg (frames r m)) (longer (s .book .held)) path l (omega (arith, path-length)) (small (cfg .levels - deep) (pageOf a / 2 ^ (9 * deep)))
+          path-fits cfg (entryOf cfg (frames r m)) (longer (s .book .held)) path l (omega (arith, path-length)) (indexes-small (cfg .levels - deep) (pageOf a / 2 ^ (9 * deep)))
           (all-map (λ h. PathFits (cfg .levels) (s .book .marks) (h .path) × T (ltb 0 (length (h .path)))) (Apart path) (longer (s .book .held)) (λ h k. apart-from h (k .0))
           (all-keep (λ h. PathFits (cfg .levels) (s .book .marks) (h .path)) (λ (h : Held). ltb 0 (length (h .path))) (s .book .held) (inv .book .held)))
-        where
-          small : (n p : ℕ) → Small (indexes n p)
-          small zero p = tt
-          small (suc n) p = (index-fits n p, small n p)
 
       -- at depth N the path has no index
       pub path-empty : cfg .levels ≤ deep → path ≡ []

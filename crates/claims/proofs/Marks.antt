@@ -26,7 +26,8 @@ use Rattle.laws.proofs.Lists.{All, all-map, all-any}
 use Rattle.laws.proofs.Keeps.{Valid}
 use Rattle.laws.proofs.Runs.{BookFits}
 use Rattle.entry.specs.Levels.{ofLevels}
-use Rattle.entry.proofs.Indexes.{indexes-length, indexes-take}
+use Rattle.laws.proofs.Indexes.{indexes-length, indexes-take}
+use Rattle.tree.proofs.Hosts.{indexes-small}
 use Rattle.tree.proofs.Paths.{Small}
 use Rattle.host.proofs.Laws.{InGuestArea}
 use Rattle.walk.proofs.Stands.{Stands}
@@ -120,11 +121,6 @@ taken n l p = elim (decLe l n) [
   | yes le ↦ let all : n - l + l ≡ n = omega arith in rw all at (sym (indexes-take (n - l) l p))
   | no gt ↦ let none : n - l ≡ 0 = omega arith in rw none
 ]
-
-indexes-small : (n p : ℕ) → Small (indexes n p)
-unfolding indexes index
-indexes-small zero p = tt
-indexes-small (suc n) p = (omega arith, indexes-small n p)
 
 -- it leaves the path of no index where it has an index itself
 begins-none : (is p : List ℕ) → 0 < length is → p ≡ [] → not (begins is p) ≡ true

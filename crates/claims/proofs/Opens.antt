@@ -17,7 +17,7 @@ use Rattle.tree.specs.Run.{get}
 use Rattle.tree.specs.Host.{hostMap}
 use Rattle.tree.proofs.Claim.{leaves}
 use Rattle.tree.proofs.Whole.{holds-leaves}
-use Rattle.host.proofs.Mapping.{Maps}
+use Rattle.host.proofs.Mapping.{Maps, no-leaves}
 use Rattle.marks.specs.Table.{tableOf}
 use Rattle.marks.proofs.Order.{SameMembers}
 use Rattle.marks.proofs.Book.{no-marks}
@@ -29,10 +29,6 @@ use Rattle.drops.proofs.Held.{leafAt, leaf-none}
 use Rattle.drops.proofs.Valid.{framesAt, entryOf}
 use Rattle.unit.specs.Calls.{ended, refused, openCall}
 use Rattle.claims.proofs.Invariant.{Inv}
-
-no-leaves : (c : Config) (y : List ℕ) → 0 ≡ leaves (hostMap c []) y
-unfolding hostMap get
-no-leaves c y = refl
 
 -- "a refused one returns one of zeros"
 pub refused-call : (m : List ℕ) (h s : ℕ) → refusalOf (length m) h s ≢ 0 → openCall m h s ≡ refused zeros (refusalOf (length m) h s) m

@@ -19,16 +19,10 @@ use Rattle.spec.specs.Call.{addressIndexes}
 use Rattle.spec.specs.Count.{hostExit}
 use Rattle.laws.proofs.Lists.{All}
 use Rattle.laws.proofs.Bind.{bind-cong}
-use Rattle.laws.proofs.Counts.{indexes-length}
+use Rattle.laws.proofs.Indexes.{indexes-length, indexes-split, indexes-take}
 use Rattle.entry.proofs.Entries.{index-fits}
-use Rattle.entry.proofs.Indexes.{indexes-split, indexes-take}
 use Rattle.walk.proofs.Stands.{plainWalked}
 use Rattle.request.specs.Translate.{exitBy, pathIndexes}
-
-pub indexes-all : (n p : ℕ) → All (λ i. i < 512) (indexes n p)
-unfolding indexes
-indexes-all zero p = tt
-indexes-all (suc n) p = (index-fits n p, indexes-all n p)
 
 -- the path of an address at depth d, and the indexes below it
 pub path-upper : (c : Config) (d a : ℕ) → d ≤ c .levels → upper c d (addressIndexes c a) ≡ pathIndexes c d a

@@ -43,7 +43,7 @@ use Rattle.tree.proofs.Hosts.{host-full, host-absent}
 use Rattle.host.specs.Walk.{hostWalkOf}
 use Rattle.host.specs.Map.{hostArea, Changed, changed, changedBy, mapOf, unmapOf, maps, unmaps, mappingOnly, noBook, numberBy, mappingBy}
 use Rattle.host.proofs.Laws.{InGuestArea}
-use Rattle.host.proofs.Mapping.{Maps, Step, answerBy, answerOf, walk-is, map-is, unmap-is}
+use Rattle.host.proofs.Mapping.{Maps, Step, answerBy, answerOf, walk-is, map-is, unmap-is, unmapped-lookup}
 use Rattle.walk.proofs.Stands.{Stands}
 use Rattle.record.specs.declared.Record.{Record}
 use Rattle.record.specs.Record.{configOf, withRoot}
@@ -61,14 +61,6 @@ use Rattle.claims.proofs.Moves.{Left, dropped-left, after, follows-no, 
 
 no-place : {r : Place} → none ≡ some r → ⊥
 no-place e = let z : _≡_ {A = ℕ} 0 1 = cc in omega arith
-
-unmapped-lookup : (g : ℕ) (xs : List Mapping) → isMapped g xs ≡ false → lookup g xs ≡ none
-unmapped-lookup g [] h = refl
-unmapped-lookup g (x ∷ xs) h = go (eqb g (x .guest)) h (unmapped-lookup g xs)
-  where
-    go : (b : Bool) → (b || isMapped g xs) ≡ false → (isMapped g xs ≡ false → lookup g xs ≡ none) → cond b (some (x .to, x .right)) (lookup g xs) ≡ none
-    go true k ih = differ k
-    go false k ih = ih k
 
 -- ---- root
 root-left : (s : State) (r : Record) (m : List ℕ) → Inv s r m → (g : ℕ) → frameFits (configOf r) g ≡ true

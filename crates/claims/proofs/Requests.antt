@@ -44,7 +44,8 @@ use Rattle.request.specs.Store as put
 use Rattle.request.specs.Store.{Stored, storeOf}
 use Rattle.unit.specs.Calls.{Ended, ended, refused, judged, withHeld, addressOk, deviceOk, translatedOf, heldAfter, loadBy, loadOf, writtenBy, storeBy, storeCall, deviceBy, deviceCall}
 use Rattle.claims.proofs.Invariant.{Inv, Follows, stands}
-use Rattle.claims.proofs.Paths.{indexes-all, exit-is}
+use Rattle.claims.proofs.Paths.{exit-is}
+use Rattle.laws.proofs.Indexes.{indexes-all}
 use Rattle.claims.proofs.Found as found
 use Rattle.claims.proofs.Translates.{Translates, translates}
 use Rattle.claims.proofs.Puts.{Puts, puts}

@@ -27,7 +27,7 @@ use Rattle.laws.proofs.Lists.{All, all-map, is-true, is-false}
 use Rattle.laws.proofs.Local.{Seen, seen}
 use Rattle.laws.proofs.Granted.{granted-is, walk-same, walk-serves}
 use Rattle.laws.proofs.Parts.{shadow-fault, direct-result}
-use Rattle.laws.proofs.Counts.{indexes-length}
+use Rattle.laws.proofs.Indexes.{indexes-length, indexes-all}
 use Rattle.laws.proofs.Depth.{PathFits, no-proper-prefix, depth-bound}
 use Rattle.laws.proofs.Keeps.{Valid, again, fill-valid}
 use Rattle.laws.proofs.Runs.{BookFits, fill-keeps}
@@ -59,7 +59,7 @@ use Rattle.request.specs.Translate.{Out, outs, translation, exitBy, pathIndexes
 use Rattle.unit.specs.Calls.{withHeld, depthAt, translatedOf}
 use Rattle.claims.proofs.Invariant.{longer, topBy, frames, Inv, stands}
 use Rattle.claims.proofs.Moves.{holds-pool, fits-held, maps-beside, shadow-drop, invariant, shadow-on}
-use Rattle.claims.proofs.Paths.{indexes-all, path-upper, path-lower, walk-above, exit-is}
+use Rattle.claims.proofs.Paths.{path-upper, path-lower, walk-above, exit-is}
 use Rattle.claims.proofs.Found as found
 
 -- what a translation on s leaves: the plain walk's result, the book's references and exits, and the book's next state

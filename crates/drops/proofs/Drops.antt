@@ -34,7 +34,7 @@ use Rattle.tree.proofs.Invariant.{slot, Leaf, none-below}
 use Rattle.tree.proofs.Remove.{front, front-last, last-small, front-none}
 use Rattle.tree.proofs.Remove as remove
 use Rattle.tree.proofs.Whole.{Holds, holds-none, holds-leaves, above-leaf}
-use Rattle.tree.proofs.Hosts.{eqb-sym}
+use Rattle.laws.proofs.Indexes.{eqb-sym}
 use Rattle.shadow.specs.declared.Cut.{Cut}
 use Rattle.shadow.specs.declared.Cut.the-variants.{Word, Names, Slot}
 use Rattle.shadow.specs.Held.{shadowArea}

@@ -11,7 +11,7 @@ use Rattle.spec.specs.Config.{Config, guestBase}
 use Rattle.spec.specs.Entry.{present, writable, frameOf, indexes}
 use Rattle.spec.specs.Refusal.{inGuestArea}
 use Rattle.laws.proofs.Lists.{and-left, and-right}
-use Rattle.laws.proofs.Counts.{indexes-length}
+use Rattle.laws.proofs.Indexes.{indexes-length}
 use Rattle.area.specs.declared.Way.{Way}
 use Rattle.area.specs.declared.Way.the-variants.{To, Not, Bad}
 use Rattle.area.specs.declared.Look.{Look}

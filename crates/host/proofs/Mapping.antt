@@ -52,7 +52,7 @@ pub record Maps (c : Config) (xs : List Mapping) (p : Pool) (m : List ℕ) : Typ
   pub frames : Frames c xs
   pub inside : All (λ (x : Mapping). InGuestArea c (x .to)) xs
 
-frame-small : (c : Config) (g : ℕ) → g < 2 ^ frameBits c → g < 2 ^ (9 * c .levels)
+pub frame-small : (c : Config) (g : ℕ) → g < 2 ^ frameBits c → g < 2 ^ (9 * c .levels)
 frame-small c g h = let w : 2 ^ frameBits c ≤ 2 ^ (9 * c .levels) = pow-mono (omega arith) in omega arith
 
 pub lookup-inside : (c : Config) (g : ℕ) (xs : List Mapping) (r : Place) → All (λ (x : Mapping). InGuestArea c (x .to)) xs → lookup g xs ≡ some r → InGuestArea c (r .0)
@@ -109,7 +109,7 @@ mapped-lookup g (x ∷ xs) h = go (eqb g (x .guest)) h (mapped-lookup g xs)
     go true k ih = ((x .to, x .right), refl)
     go false k ih = ih k
 
-unmapped-lookup : (g : ℕ) (xs : List Mapping) → isMapped g xs ≡ false → lookup g xs ≡ none
+pub unmapped-lookup : (g : ℕ) (xs : List Mapping) → isMapped g xs ≡ false → lookup g xs ≡ none
 unmapped-lookup g [] h = refl
 unmapped-lookup g (x ∷ xs) h = go (eqb g (x .guest)) h (unmapped-lookup g xs)
   where
@@ -254,7 +254,7 @@ remaps-walk c ms p m xs h g b =
 
 -- ---- an opening: nothing is mapped, and the top table stands
 
-no-leaves : (c : Config) (y : List ℕ) → 0 ≡ leaves (hostMap c []) y
+pub no-leaves : (c : Config) (y : List ℕ) → 0 ≡ leaves (hostMap c []) y
 unfolding hostMap get
 no-leaves c y = refl
 

@@ -1,4 +1,5 @@
 pub mod Lists
+pub mod Indexes
 pub mod Bind
 pub mod Local
 pub mod Distinct

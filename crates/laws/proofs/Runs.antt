@@ -23,7 +23,8 @@ use Rattle.spec.specs.Count.{Counted, serves, heldBy, shadowed, unshadowed, req
 use Rattle.spec.specs.Refusal.{firstFailed, levelFits, addressFits, tests, refusal}
 use Rattle.spec.specs.Run.{State, answered, step, after, opened}
 use Rattle.laws.proofs.Lists.{All, all-map, all-keep, not-both, same-is, and-left, and-right}
-use Rattle.laws.proofs.Counts.{indexes-length, request-count}
+use Rattle.laws.proofs.Counts.{request-count}
+use Rattle.laws.proofs.Indexes.{indexes-length}
 use Rattle.laws.proofs.Depth.{MarkFits, PathFits, depth-bound, no-proper-prefix, fill-fits, set-fits, clear-fits}
 
 -- a call that is not refused passed every test

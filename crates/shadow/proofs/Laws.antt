@@ -15,7 +15,8 @@ use Rattle.area.specs.declared.Way.the-variants as way
 use Rattle.area.specs.Header.{entryIn, parentOf, slotOf, insideOf}
 use Rattle.area.specs.Pool.{onWay, noneOf}
 use Rattle.area.specs.Tree.{topOf}
-use Rattle.area.proofs.Laws.{indexes-step, indexes-last, parent-small, Small}
+use Rattle.area.proofs.Laws.{indexes-last, parent-small, Small}
+use Rattle.laws.proofs.Indexes.{indexes-step}
 use Rattle.host.specs.declared.HostWalk.{HostWalk}
 use Rattle.host.specs.declared.HostWalk.the-variants.{Found, Absent, Damaged}
 use Rattle.host.specs.Walk.{page, hostWalkOf}

@@ -13,7 +13,7 @@ use Rattle.spec.specs.Entry.{bitSet, present, writable, frameOf, index, indexes
 use Rattle.spec.specs.Prefix.{same}
 use Rattle.spec.specs.Machine.{Mapping, lookup, with, hostPaths, hostTables, costOf, hostCost}
 use Rattle.spec.specs.Machine as machine
-use Rattle.entry.proofs.Indexes.{indexes-length, indexes-same}
+use Rattle.laws.proofs.Indexes.{indexes-length, indexes-same, eqb-sym}
 use Rattle.area.specs.declared.Area.{Area}
 use Rattle.area.specs.declared.Pool.{Pool}
 use Rattle.area.specs.declared.Way.the-variants.{Not}
@@ -59,7 +59,7 @@ entry-small f false l = omega arith
 abbrev pub Frames : Config → List machine.Mapping → Type 0
 Frames c xs = All (λ (x : Mapping). x .guest < 2 ^ (9 * c .levels)) xs
 
-indexes-small : (n g : ℕ) → Small (indexes n g)
+pub indexes-small : (n g : ℕ) → Small (indexes n g)
 unfolding indexes index
 indexes-small zero g = tt
 indexes-small (suc n) g = (omega arith, indexes-small n g)
@@ -78,13 +78,6 @@ host-even : (c : Config) (xs : List Mapping) → Even (c .levels) (hostMap c xs)
 unfolding Even hostMap
 host-even c [] = tt
 host-even c (x ∷ xs) = (indexes-length (c .levels) (x .guest), host-even c xs)
-
-pub eqb-sym : (a b : ℕ) → eqb a b ≡ eqb b a
-eqb-sym a b = go (eqb a b) refl
-  where
-    go : (t : Bool) → eqb a b ≡ t → t ≡ eqb b a
-    go true e = sym (eq-eqb b a (sym (eqb-true a b e)))
-    go false e = sym (ne-eqb b a (λ f. eqb-false a b e (sym f)))
 
 module _ (c : Config) (g : ℕ) (small : g < 2 ^ (9 * c .levels)) where
   is : List ℕ

@@ -14,7 +14,7 @@ use Rattle.spec.specs.Config.{Config}
 use Rattle.spec.specs.Entry.{present, writable, frameOf, malformed, index, indexes}
 use Rattle.spec.specs.Walk.{Walk, done, fail, host, word, _>>=_, _>>_, World, Trace, Result, granted, failed, trace}
 use Rattle.spec.specs.Plain.{Place, must, mapped, hosted, entry, next, levels, walk}
-use Rattle.laws.proofs.Counts.{indexes-step}
+use Rattle.laws.proofs.Indexes.{indexes-step}
 use Rattle.laws.proofs.Bind.{onto, trace-bind, bind-assoc}
 use Rattle.entry.specs.declared.HostPhysical.{HostPhysical}
 use Rattle.words.specs.Words.{wordIn}

@@ -2,9 +2,9 @@ use Prim.Native.Nat.{_-_}
 use native.Mathlib.Omega.{arith}
 use Rattle.spec.specs.Entry.{index, indexes}
 use Rattle.area.specs.Remove.{removeOf}
-use Rattle.area.proofs.Laws.{indexes-step, indexes-last, last-small}
+use Rattle.area.proofs.Laws.{indexes-last, last-small}
+use Rattle.laws.proofs.Indexes.{indexes-step, indexes-length}
 use Rattle.entry.proofs.Entries.{index-fits}
-use Rattle.entry.proofs.Indexes.{indexes-length}
 use borrow.Author.Needs.{needs}
 use Rattle.area.proofs.remove.Statement.{statement}
 use Rattle.area.proofs.remove.Tie as tie
