@@ -7,7 +7,6 @@ use lib.Dec.{eqb, ltb}
 use lib.ListN.{length}
 use Rattle.spec.specs.declared.Answer.{Answer}
 use Rattle.spec.specs.declared.Answer.the-variants as answer
-use Rattle.spec.specs.Config.{Config}
 use Rattle.spec.specs.Entry.{pageOf, wordOf, indexes}
 use Rattle.spec.specs.Plain.{next}
 use Rattle.spec.specs.Refusal.{addressFits, deviceFits, wordAligned, frameFits}
@@ -28,7 +27,7 @@ use Rattle.shadow.specs.declared.Cut.the-variants.{Names}
 use Rattle.shadow.specs.Drop.{Outcome, scanOf, dropPrefixOf}
 use Rattle.record.specs.declared.Record.{Record}
 use Rattle.record.specs.Record.{levels, layoutOf, configOf, fitsOf, withRoot, withMarks}
-use Rattle.record.specs.Open.{Opening, openOf}
+use Rattle.record.specs.Open.{openOf}
 use Rattle.request.specs.Translate.{Out, translateOf, exitBy}
 use Rattle.request.specs.Store.{Stored, storeOf}
 use Rattle.unit.specs.declared.Reply.{Reply}

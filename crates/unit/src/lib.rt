@@ -113,9 +113,9 @@ fn word_of(a: u64) -> u64
 
 // The translation of an address at the depth that the marks give it.
 fn translated(
+    mem: &mut [u64],
     place: &[u64; 64],
     set: u64,
-    mem: &mut [u64],
     l: Layout,
     pool: Pool,
     top: u64,
@@ -151,9 +151,9 @@ pub fn load(mut unit: Record, mem: &mut [u64], a: u64) -> Reply
             let l = record::layout(unit.words, unit.hosts, unit.shadows);
             let root = GuestPhysical(unit.root);
             let t = translated(
+                mem,
                 &unit.marks.place,
                 unit.marks.set,
-                mem,
                 l,
                 unit.shadow,
                 unit.top,
@@ -233,9 +233,9 @@ fn store(mut unit: Record, mem: &mut [u64], a: u64, v: u64) -> Reply
             let l = record::layout(unit.words, unit.hosts, unit.shadows);
             let root = GuestPhysical(unit.root);
             let t = translated(
+                mem,
                 &unit.marks.place,
                 unit.marks.set,
-                mem,
                 l,
                 unit.shadow,
                 unit.top,
