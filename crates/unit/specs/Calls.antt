@@ -7,7 +7,6 @@ use lib.Dec.{eqb, ltb}
 use lib.ListN.{length}
 use Rattle.spec.specs.declared.Answer.{Answer}
 use Rattle.spec.specs.declared.Answer.the-variants as answer
-use Rattle.spec.specs.Config.{Config}
 use Rattle.spec.specs.Entry.{pageOf, wordOf, indexes}
 use Rattle.spec.specs.Plain.{next}
 use Rattle.spec.specs.Refusal.{addressFits, deviceFits, wordAligned, frameFits}
@@ -17,7 +16,7 @@ use Rattle.area.specs.Pool.{noneOf}
 use Rattle.host.specs.declared.HostWalk.{HostWalk}
 use Rattle.host.specs.declared.HostWalk.the-variants as host
 use Rattle.host.specs.Walk.{LayoutFits, hostWalkOf}
-use Rattle.host.specs.Map.{mapOf, unmapOf}
+use Rattle.host.specs.Map.{Changed, mapOf, unmapOf}
 use Rattle.walk.specs.declared.Walked.{Walked}
 use Rattle.walk.specs.declared.Walked.the-variants as walked
 use Rattle.walk.specs.Memory.{walkedOf}
@@ -28,7 +27,7 @@ use Rattle.shadow.specs.declared.Cut.the-variants.{Names}
 use Rattle.shadow.specs.Drop.{Outcome, scanOf, dropPrefixOf}
 use Rattle.record.specs.declared.Record.{Record}
 use Rattle.record.specs.Record.{levels, layoutOf, configOf, fitsOf, withRoot, withMarks}
-use Rattle.record.specs.Open.{Opening, openOf}
+use Rattle.record.specs.Open.{openOf}
 use Rattle.request.specs.Translate.{Out, translateOf, exitBy}
 use Rattle.request.specs.Store.{Stored, storeOf}
 use Rattle.unit.specs.declared.Reply.{Reply}
@@ -163,21 +162,21 @@ unmappedOf r next m g =
     cond (eqb g (r .root)) (ended (withHeld next noneOf 0) answer.Ok m)
     (droppedBy r next (r .top) (scanOf (configOf r) (Names (record { 0 = g })) (r .shadow) m))
 
--- a frame that was not mapped before has no path to drop
+-- the mapping of g changed; was: what its host walk came to before. A frame that was not mapped has no path to drop; an entry
+-- that named a frame outside the guest area is 11
 abbrev pub mappedBy : Record → Pool → List ℕ → ℕ → HostWalk → Ended
 mappedBy r p m g (host.Found f w) = unmappedOf r (withHost r p) m g
 mappedBy r p m g (host.Absent n) = ended (withHost r p) answer.Ok m
 mappedBy r p m g host.Damaged = refused r 11 m
 
+abbrev pub changedBy : Record → ℕ → HostWalk → Changed → Ended
+changedBy r g was t = cond (eqb (t .change .refusal) 0) (mappedBy r (t .change .pool) (t .memory) g was) (refused r (t .change .refusal) (t .memory))
+
 unfoldable pub mapCall : Record → List ℕ → ℕ → ℕ → Bool → Ended
-mapCall r m g f w =
-    let t = mapOf (configOf r) (r .host) m g f w in
-    judged r m (cond (eqb (t .change .refusal) 0) (mappedBy r (t .change .pool) (t .memory) g (hostWalkOf (configOf r) m g)) (refused r (t .change .refusal) (t .memory)))
+mapCall r m g f w = judged r m (changedBy r g (hostWalkOf (configOf r) m g) (mapOf (configOf r) (r .host) m g f w))
 
 unfoldable pub unmapCall : Record → List ℕ → ℕ → Ended
-unmapCall r m g =
-    let t = unmapOf (configOf r) (r .host) m g in
-    judged r m (cond (eqb (t .change .refusal) 0) (unmappedOf r (withHost r (t .change .pool)) (t .memory) g) (refused r (t .change .refusal) (t .memory)))
+unmapCall r m g = judged r m (changedBy r g (hostWalkOf (configOf r) m g) (unmapOf (configOf r) (r .host) m g))
 
 -- ---- marks
 

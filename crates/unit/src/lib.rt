@@ -6,15 +6,17 @@ ghost use Rattle.spec.specs.Entry.{pageOf, wordOf};
 ghost use Rattle.spec.specs.Refusal.{addressFits, deviceFits, wordAligned};
 ghost use Rattle.entry.specs.Levels.{ofLevels};
 ghost use Rattle.host.specs.Walk.{LayoutFits, config};
+ghost use Rattle.host.specs.Map.{changes};
 ghost use Rattle.marks.specs.Key.{depthOf};
 ghost use Rattle.marks.specs.Table.{keys};
 ghost use Rattle.record.specs.Record.{levels};
 ghost use Rattle.request.specs.Translate.{outs, translateOf};
-ghost use Rattle.unit.specs.Calls.{ends, Sound, answerOf, topAfter, withHeld, withHost, openCall, loadOf, storeCall, deviceCall, rootCall, unmappedOf, mappedBy, mapCall, unmapCall, markedOf, setMarkCall, clearMarkCall};
+ghost use Rattle.unit.specs.Calls.{ends, Sound, answerOf, topAfter, withHeld, withHost, openCall, loadOf, storeCall, deviceCall, rootCall, unmappedOf, changedBy, mapCall, unmapCall, markedOf, setMarkCall, clearMarkCall};
 use area::Pool;
 use entry::GuestPhysical;
 use entry::GuestVirtual;
 use entry::HostPhysical;
+use host::Change;
 use host::HostWalk;
 use host::Layout;
 use marks::Marks;
@@ -111,9 +113,9 @@ fn word_of(a: u64) -> u64
 
 // The translation of an address at the depth that the marks give it.
 fn translated(
+    mem: &mut [u64],
     place: &[u64; 64],
     set: u64,
-    mem: &mut [u64],
     l: Layout,
     pool: Pool,
     top: u64,
@@ -149,9 +151,9 @@ pub fn load(mut unit: Record, mem: &mut [u64], a: u64) -> Reply
             let l = record::layout(unit.words, unit.hosts, unit.shadows);
             let root = GuestPhysical(unit.root);
             let t = translated(
+                mem,
                 &unit.marks.place,
                 unit.marks.set,
-                mem,
                 l,
                 unit.shadow,
                 unit.top,
@@ -231,9 +233,9 @@ pub fn store(mut unit: Record, mem: &mut [u64], a: u64, v: u64) -> Reply
             let l = record::layout(unit.words, unit.hosts, unit.shadows);
             let root = GuestPhysical(unit.root);
             let t = translated(
+                mem,
                 &unit.marks.place,
                 unit.marks.set,
-                mem,
                 l,
                 unit.shadow,
                 unit.top,
@@ -425,21 +427,29 @@ fn remapped(unit: Record, host: Pool, mem: &mut [u64], g: GuestPhysical) -> Repl
     }
 }
 
-// What the mapping of g was before decides what is dropped: a frame that was not mapped has no path.
-fn mapped(unit: Record, host: Pool, mem: &mut [u64], g: GuestPhysical, was: HostWalk) -> Reply
+// What a change of the mapping of g yields; was: what its host walk came to before.
+fn changed(unit: Record, change: Change, mem: &mut [u64], g: GuestPhysical, was: HostWalk) -> Reply
     requires { ⌜ Sound unit ⌝ }
-    ensures { λ r. ⌜ ends r (now (mem .exit)) ≡ mappedBy unit host (now (mem .entry)) (g .0) was ⌝ }
+    ensures { λ r. ⌜ ends r (now (mem .exit)) ≡ changedBy unit (g .0) was (changes change (now (mem .entry))) ⌝ }
 {
-    match was {
-        HostWalk::Found { page, writable } => remapped(unit, host, mem, g),
-        HostWalk::Absent { reads } => Reply {
-            unit: with_host(unit, host),
-            answer: Answer::Ok,
-        },
-        HostWalk::Damaged => Reply {
+    let host = change.pool;
+    if change.refusal == 0 {
+        match was {
+            HostWalk::Found { page, writable } => remapped(unit, host, mem, g),
+            HostWalk::Absent { reads } => Reply {
+                unit: with_host(unit, host),
+                answer: Answer::Ok,
+            },
+            HostWalk::Damaged => Reply {
+                unit: unit,
+                answer: Answer::Refused(11),
+            },
+        }
+    } else {
+        Reply {
             unit: unit,
-            answer: Answer::Refused(11),
-        },
+            answer: Answer::Refused(change.refusal),
+        }
     }
 }
 
@@ -452,15 +462,7 @@ pub fn map(unit: Record, mem: &mut [u64], g: u64, f: u64, writable: bool) -> Rep
         let l = record::layout(unit.words, unit.hosts, unit.shadows);
         let was = host::host_walk(mem, l, guest);
         let change = host::map(mem, l, unit.host, guest, HostPhysical(f), writable);
-        let pool = change.pool;
-        if change.refusal == 0 {
-            mapped(unit, pool, mem, guest, was)
-        } else {
-            Reply {
-                unit: unit,
-                answer: Answer::Refused(change.refusal),
-            }
-        }
+        changed(unit, change, mem, guest, was)
     } else {
         Reply {
             unit: unit,
@@ -476,16 +478,9 @@ pub fn unmap(unit: Record, mem: &mut [u64], g: u64) -> Reply
     let guest = GuestPhysical(g);
     if unit.fits(mem.len()) {
         let l = record::layout(unit.words, unit.hosts, unit.shadows);
+        let was = host::host_walk(mem, l, guest);
         let change = host::unmap(mem, l, unit.host, guest);
-        let pool = change.pool;
-        if change.refusal == 0 {
-            remapped(unit, pool, mem, guest)
-        } else {
-            Reply {
-                unit: unit,
-                answer: Answer::Refused(change.refusal),
-            }
-        }
+        changed(unit, change, mem, guest, was)
     } else {
         Reply {
             unit: unit,

@@ -1,12 +1,29 @@
 use native.Mathlib.Nat.{zero-add}
 use native.Mathlib.Omega.{arith}
-use mathlib.Core.Path.{refl, sym, subst, _∙_}
-use Rattle.record.specs.Record.{configOf}
-use Rattle.unit.specs.Calls.{withHeld, deviceCall}
+use mathlib.Core.Path.{_≡_, sym, _∙_}
+use mathlib.Core.Bool.{true}
+use lib.ListN.{length}
+use Rattle.record.specs.Record.{configOf, fitsOf}
+use Rattle.spec.specs.Entry.{pageOf}
+use Rattle.spec.specs.Plain.{next}
+use Rattle.walk.specs.Memory.{walkedOf}
+use Rattle.unit.specs.Calls.{withHeld, deviceBy, deviceCall}
 use Rattle.unit.proofs.Ranges.{fits-sound, small, device-arrived}
 use borrow.Author.Needs.{needs}
 use Rattle.unit.proofs.device_store.Statement.{statement}
 use Rattle.unit.proofs.device_store.Tie as tie
+
+-- the record breaks no rule
+fit : (c : tie.Then1) → fitsOf (c .before .before .before .before .before .before .before .args .t1) (length (c .before .before .before .before .before .before .before .args .mem .now)) ≡ true
+fit c = sym (c .before .fits2 .ensures) ∙ c .if1 .taken
+
+walk : (c : tie.After-to-page) → c .to-page .result ≡ walkedOf (configOf (c .before .before .before .before .before .before .before .before .before .before .before .before .before .args .t1)) (c .before .before .before .before .before .before .before .before .before .before .before .before .before .args .mem .now) 0 (next true true (pageOf (c .before .before .before .before .before .before .before .before .before .before .before .before .before .args .a)) true)
+walk c = rw (c .before .before .before .layout .ensures, c .before .before .page-of .ensures) at (c .to-page .ensures)
+
+-- the call, once the frame is found
+came : (c : tie.After-to-page) → deviceCall (c .before .before .before .before .before .before .before .before .before .before .before .before .before .args .t1) (c .before .before .before .before .before .before .before .before .before .before .before .before .before .args .mem .now) (c .before .before .before .before .before .before .before .before .before .before .before .before .before .args .a) (c .before .before .before .before .before .before .before .before .before .before .before .before .before .args .v) ≡ deviceBy (c .before .before .before .before .before .before .before .before .before .before .before .before .before .args .t1) (c .before .before .before .before .before .before .before .before .before .before .before .before .before .args .mem .now) (c .before .before .before .before .before .before .before .before .before .before .before .before .before .args .a) (c .before .before .before .before .before .before .before .before .before .before .before .before .before .args .v) (c .to-page .result)
+unfolding deviceCall
+came c = rw (fit (c .before .before .before .before .before .before), ← c .before .before .before .before .before .device-ok .ensures, c .before .before .before .before .if2 .taken, ← walk c)
 
 fits-requires : tie.Need-fits-requires
 fits-requires c κs = search needs
@@ -21,7 +38,7 @@ page-of-requires : tie.Need-page-of-requires
 page-of-requires c κs = search needs
 
 to-page-requires : tie.Need-to-page-requires
-to-page-requires c κs = (rw (c .before .before .layout .ensures) (fits-sound (c .before .before .before .before .before .before .before .before .before .before .before .before .args .t1) _ (sym (c .before .before .before .before .before .before .fits2 .ensures) ∙ c .before .before .before .before .before .if1 .taken) .0), omega arith)
+to-page-requires c κs = (rw (c .before .before .layout .ensures) (fits-sound (c .before .before .before .before .before .before .before .before .before .before .before .before .args .t1) _ (fit (c .before .before .before .before .before)) .0), omega arith)
 
 enum-known-walked : tie.Need-enum-known-walked
 enum-known-walked c = search needs
@@ -30,7 +47,7 @@ word-of-requires : tie.Need-word-of-requires
 word-of-requires c κs = search needs
 
 put-word-requires : tie.Need-put-word-requires
-put-word-requires c κs = rw (c .before .before .before .before .before .before .before .before .before .layout .ensures) (fits-sound (c .before .before .before .before .before .before .before .before .before .before .before .before .before .before .before .before .before .before .before .args .t1) _ (sym (c .before .before .before .before .before .before .before .before .before .before .before .before .before .fits2 .ensures) ∙ c .before .before .before .before .before .before .before .before .before .before .before .before .if1 .taken) .0, fits-sound (c .before .before .before .before .before .before .before .before .before .before .before .before .before .before .before .before .before .before .before .args .t1) _ (sym (c .before .before .before .before .before .before .before .before .before .before .before .before .before .fits2 .ensures) ∙ c .before .before .before .before .before .before .before .before .before .before .before .before .if1 .taken) .1, small (c .before .before .before .before .before .before .before .before .before .before .before .before .before .before .before .before .before .before .before .args .t1) _ (sym (c .before .before .before .before .before .before .before .before .before .before .before .before .before .fits2 .ensures) ∙ c .before .before .before .before .before .before .before .before .before .before .before .before .if1 .taken) _ (device-arrived (configOf (c .before .before .before .before .before .before .before .before .before .before .before .before .before .before .before .before .before .before .before .args .t1)) (c .before .before .before .before .before .before .before .before .before .before .before .before .before .before .before .before .before .before .before .args .mem .now) (c .before .before .before .before .before .before .before .before .before .before .before .before .before .before .before .before .before .before .before .args .a) _ (sym (rw (c .before .before .before .before .before .before .before .before .before .layout .ensures, c .before .before .before .before .before .before .before .before .page-of .ensures) at (c .before .before .before .before .before .before .to-page .ensures)) ∙ c .before .before .before .before .walked .given .1)), c .word-of .ensures .1)
+put-word-requires c κs = let s = fits-sound (c .before .before .before .before .before .before .before .before .before .before .before .before .before .before .before .before .before .before .before .args .t1) _ (fit (c .before .before .before .before .before .before .before .before .before .before .before .before)) in rw (c .before .before .before .before .before .before .before .before .before .layout .ensures) (s .0, s .1, small (c .before .before .before .before .before .before .before .before .before .before .before .before .before .before .before .before .before .before .before .args .t1) _ (fit (c .before .before .before .before .before .before .before .before .before .before .before .before)) _ (device-arrived (configOf (c .before .before .before .before .before .before .before .before .before .before .before .before .before .before .before .before .before .before .before .args .t1)) (c .before .before .before .before .before .before .before .before .before .before .before .before .before .before .before .before .before .before .before .args .mem .now) (c .before .before .before .before .before .before .before .before .before .before .before .before .before .before .before .before .before .before .before .args .a) _ (sym (walk (c .before .before .before .before .before .before)) ∙ c .before .before .before .before .walked .given .1)), c .word-of .ensures .1)
 
 enum-known-walked-2 : tie.Need-enum-known-walked-2
 enum-known-walked-2 c = search needs
@@ -45,33 +62,30 @@ same-length : tie.Need-same-length
 same-length c = search needs
 
 returns : tie.Need-returns
-unfolding deviceCall withHeld
-returns c = rw (← c .before .before .before .before .before .before .before .before .before .before .before .before .before .before .before .before .before .before .fits2 .ensures, c .before .before .before .before .before .before .before .before .before .before .before .before .before .before .before .before .before .if1 .taken, ← c .before .before .before .before .before .before .before .before .before .before .before .before .before .before .before .before .device-ok .ensures, c .before .before .before .before .before .before .before .before .before .before .before .before .before .before .before .if2 .taken, ← (rw (c .before .before .before .before .before .before .before .before .before .before .before .before .before .before .layout .ensures, c .before .before .before .before .before .before .before .before .before .before .before .before .before .page-of .ensures) at (c .before .before .before .before .before .before .before .before .before .before .before .to-page .ensures)), c .before .before .before .before .before .before .before .before .before .walked .given .1, ← (rw (c .before .before .before .before .before .before .before .before .before .before .before .before .before .before .layout .ensures, c .before .before .before .before .before .word-of .ensures .0) at (c .before .before .before .before .put-word .ensures)), c .if3 .taken, zero-add (c .before .before .before .before .put-word .result .exits))
+unfolding withHeld
+returns c = rw (came (c .before .before .before .before .before .before .before .before .before .before .before), c .before .before .before .before .before .before .before .before .before .walked .given .1, ← (rw (c .before .before .before .before .before .before .before .before .before .before .before .before .before .before .layout .ensures, c .before .before .before .before .before .word-of .ensures .0) at (c .before .before .before .before .put-word .ensures)), c .if3 .taken, zero-add (c .before .before .before .before .put-word .result .exits))
 
 same-length-2 : tie.Need-same-length-2
 same-length-2 c = search needs
 
 returns-2 : tie.Need-returns-2
-unfolding deviceCall
-returns-2 c = rw (← c .before .before .before .before .before .before .before .before .before .before .before .before .before .before .before .before .before .before .fits2 .ensures, c .before .before .before .before .before .before .before .before .before .before .before .before .before .before .before .before .before .if1 .taken, ← c .before .before .before .before .before .before .before .before .before .before .before .before .before .before .before .before .device-ok .ensures, c .before .before .before .before .before .before .before .before .before .before .before .before .before .before .before .if2 .taken, ← (rw (c .before .before .before .before .before .before .before .before .before .before .before .before .before .before .layout .ensures, c .before .before .before .before .before .before .before .before .before .before .before .before .before .page-of .ensures) at (c .before .before .before .before .before .before .before .before .before .before .before .to-page .ensures)), c .before .before .before .before .before .before .before .before .before .walked .given .1, ← (rw (c .before .before .before .before .before .before .before .before .before .before .before .before .before .before .layout .ensures, c .before .before .before .before .before .word-of .ensures .0) at (c .before .before .before .before .put-word .ensures)), c .if3 .left)
+returns-2 c = rw (came (c .before .before .before .before .before .before .before .before .before .before .before), c .before .before .before .before .before .before .before .before .before .walked .given .1, ← (rw (c .before .before .before .before .before .before .before .before .before .before .before .before .before .before .layout .ensures, c .before .before .before .before .before .word-of .ensures .0) at (c .before .before .before .before .put-word .ensures)), c .if3 .left)
 
 same-length-3 : tie.Need-same-length-3
 same-length-3 c = search needs
 
 returns-3 : tie.Need-returns-3
-unfolding deviceCall
-returns-3 c = rw (← c .before .before .before .before .before .before .before .before .before .before .before .fits2 .ensures, c .before .before .before .before .before .before .before .before .before .before .if1 .taken, ← c .before .before .before .before .before .before .before .before .before .device-ok .ensures, c .before .before .before .before .before .before .before .before .if2 .taken, ← (rw (c .before .before .before .before .before .before .before .layout .ensures, c .before .before .before .before .before .before .page-of .ensures) at (c .before .before .before .before .to-page .ensures)), c .exit-of .ensures, c .before .before .walked2 .given .1)
+returns-3 c = rw (came (c .before .before .before .before), c .exit-of .ensures, c .before .before .walked2 .given .1)
 
 same-length-4 : tie.Need-same-length-4
 same-length-4 c = search needs
 
 returns-4 : tie.Need-returns-4
-unfolding deviceCall
-returns-4 c = rw (← c .before .before .before .before .before .before .before .before .before .fits2 .ensures, c .before .before .before .before .before .before .before .before .if1 .taken, ← c .before .before .before .before .before .before .before .device-ok .ensures, c .before .before .before .before .before .before .if2 .taken, ← (rw (c .before .before .before .before .before .layout .ensures, c .before .before .before .before .page-of .ensures) at (c .before .before .to-page .ensures)), c .enum-told .given .1)
+returns-4 c = rw (came (c .before .before), c .enum-told .given .1)
 
 returns-5 : tie.Need-returns-5
 unfolding deviceCall
-returns-5 c = rw (← c .before .before .before .fits2 .ensures, c .before .before .if1 .taken, ← c .before .device-ok .ensures, c .if2 .left)
+returns-5 c = rw (fit (c .before .before), ← c .before .device-ok .ensures, c .if2 .left)
 
 returns-6 : tie.Need-returns-6
 unfolding deviceCall

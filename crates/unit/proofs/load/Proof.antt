@@ -1,12 +1,28 @@
-use mathlib.Core.Path.{refl, sym, subst, _∙_}
+use mathlib.Core.Path.{_≡_, sym, subst, _∙_}
 use mathlib.Core.Bool.{true, false}
-use Rattle.record.specs.Record.{configOf}
+use lib.ListN.{length}
+use Rattle.record.specs.Record.{configOf, fitsOf}
+use Rattle.request.specs.Translate.{outs}
 use Rattle.request.proofs.Fits.{ArrivedIn}
-use Rattle.unit.specs.Calls.{translatedOf, withHeld, loadOf}
+use Rattle.request.proofs.Leaves.{Leaves}
+use Rattle.unit.specs.Calls.{translatedOf, withHeld, loadBy, loadOf}
 use Rattle.unit.proofs.Ranges.{fits-sound, small, top-small, leaves}
 use borrow.Author.Needs.{needs}
 use Rattle.unit.proofs.load.Statement.{statement}
 use Rattle.unit.proofs.load.Tie as tie
+
+-- the record breaks no rule
+fit : (c : tie.Then1) → fitsOf (c .before .before .before .before .before .before .before .args .t1) (length (c .before .before .before .before .before .before .before .args .mem .now)) ≡ true
+fit c = sym (c .before .fits2 .ensures) ∙ c .if1 .taken
+
+-- the call, once the address is translated
+came : (c : tie.After-translated) → loadOf (c .before .before .before .before .before .before .before .before .before .before .before .before .before .before .before .args .t1) (c .before .before .before .before .before .before .before .before .before .before .before .before .before .before .before .args .mem .now) (c .before .before .before .before .before .before .before .before .before .before .before .before .before .before .before .args .a) ≡ loadBy (c .before .before .before .before .before .before .before .before .before .before .before .before .before .before .before .args .t1) (c .before .before .before .before .before .before .before .before .before .before .before .before .before .before .before .args .a) (outs (c .translated .result) (c .translated .last .0)) (c .translated .result .walked)
+unfolding loadOf translatedOf
+came c = rw (fit (c .before .before .before .before .before .before .before .before), ← c .before .before .before .before .before .before .before .address-ok .ensures, c .before .before .before .before .before .before .if2 .taken, ← (rw (c .before .before .before .before .before .layout .ensures) at (c .translated .ensures)))
+
+left : (c : tie.After-translated) → Leaves (configOf (c .before .before .before .before .before .before .before .before .before .before .before .before .before .before .before .args .t1)) (c .before .before .before .before .before .before .before .before .before .before .before .before .before .before .before .args .mem .now) (outs (c .translated .result) (c .translated .last .0))
+unfolding translatedOf
+left c = leaves (c .before .before .before .before .before .before .before .before .before .before .before .before .before .before .before .args .t1) _ (fit (c .before .before .before .before .before .before .before .before)) (c .before .before .before .before .before .before .before .before .before .before .before .before .before .before .before .args .mem .now) false (c .before .before .before .before .before .before .before .before .before .before .before .before .before .before .before .args .a) _ (rw (c .before .before .before .before .before .layout .ensures) at (c .translated .ensures))
 
 fits-requires : tie.Need-fits-requires
 fits-requires c κs = search needs
@@ -18,7 +34,7 @@ layout-requires : tie.Need-layout-requires
 layout-requires c κs = search needs
 
 translated-requires : tie.Need-translated-requires
-translated-requires c κs = (rw (c .before .before .before .before .layout .ensures) (fits-sound (c .before .before .before .before .before .before .before .before .before .before .before .before .before .before .args .t1) _ (sym (c .before .before .before .before .before .before .before .before .fits2 .ensures) ∙ c .before .before .before .before .before .before .before .if1 .taken) .0), top-small (c .before .before .before .before .before .before .before .before .before .before .before .before .before .before .args .t1) _ (sym (c .before .before .before .before .before .before .before .before .fits2 .ensures) ∙ c .before .before .before .before .before .before .before .if1 .taken))
+translated-requires c κs = (rw (c .before .before .before .before .layout .ensures) (fits-sound (c .before .before .before .before .before .before .before .before .before .before .before .before .before .before .args .t1) _ (fit (c .before .before .before .before .before .before .before)) .0), top-small (c .before .before .before .before .before .before .before .before .before .before .before .before .before .before .args .t1) _ (fit (c .before .before .before .before .before .before .before)))
 
 enum-known-walked : tie.Need-enum-known-walked
 enum-known-walked c = search needs
@@ -27,8 +43,7 @@ word-of-requires : tie.Need-word-of-requires
 word-of-requires c κs = search needs
 
 word-in-requires : tie.Need-word-in-requires
-unfolding translatedOf
-word-in-requires c κs = (small (c .before .before .before .before .before .before .before .before .before .before .before .before .before .before .before .before .before .before .before .before .before .before .before .args .t1) _ (sym (c .before .before .before .before .before .before .before .before .before .before .before .before .before .before .before .before .before .fits2 .ensures) ∙ c .before .before .before .before .before .before .before .before .before .before .before .before .before .before .before .before .if1 .taken) _ (subst (ArrivedIn (configOf (c .before .before .before .before .before .before .before .before .before .before .before .before .before .before .before .before .before .before .before .before .before .before .before .args .t1))) (c .before .before .before .walked .given .1) (leaves (c .before .before .before .before .before .before .before .before .before .before .before .before .before .before .before .before .before .before .before .before .before .before .before .args .t1) _ (sym (c .before .before .before .before .before .before .before .before .before .before .before .before .before .before .before .before .before .fits2 .ensures) ∙ c .before .before .before .before .before .before .before .before .before .before .before .before .before .before .before .before .if1 .taken) (c .before .before .before .before .before .before .before .before .before .before .before .before .before .before .before .before .before .before .before .before .before .before .before .args .mem .now) false (c .before .before .before .before .before .before .before .before .before .before .before .before .before .before .before .before .before .before .before .before .before .before .before .args .a) _ (rw (c .before .before .before .before .before .before .before .before .before .before .before .before .before .layout .ensures) at (c .before .before .before .before .before .before .before .before .translated .ensures)) .arrived)), c .word-of .ensures .1)
+word-in-requires c κs = (small (c .before .before .before .before .before .before .before .before .before .before .before .before .before .before .before .before .before .before .before .before .before .before .before .args .t1) _ (fit (c .before .before .before .before .before .before .before .before .before .before .before .before .before .before .before .before)) _ (subst (ArrivedIn (configOf (c .before .before .before .before .before .before .before .before .before .before .before .before .before .before .before .before .before .before .before .before .before .before .before .args .t1))) (c .before .before .before .walked .given .1) (left (c .before .before .before .before .before .before .before .before) .arrived)), c .word-of .ensures .1)
 
 enum-known-walked-2 : tie.Need-enum-known-walked-2
 enum-known-walked-2 c = search needs
@@ -40,26 +55,25 @@ same-length : tie.Need-same-length
 same-length c = search needs
 
 returns : tie.Need-returns
-unfolding loadOf translatedOf withHeld
-returns c = rw (← c .before .before .before .before .before .before .before .before .before .before .before .before .before .before .before .before .before .before .fits2 .ensures, c .before .before .before .before .before .before .before .before .before .before .before .before .before .before .before .before .before .if1 .taken, ← c .before .before .before .before .before .before .before .before .before .before .before .before .before .before .before .before .address-ok .ensures, c .before .before .before .before .before .before .before .before .before .before .before .before .before .before .before .if2 .taken, ← (rw (c .before .before .before .before .before .before .before .before .before .before .before .before .before .before .layout .ensures) at (c .before .before .before .before .before .before .before .before .before .translated .ensures)), c .before .before .before .before .walked .given .1, c .word-in .ensures, c .before .word-of .ensures .0)
+unfolding withHeld
+returns c = rw (came (c .before .before .before .before .before .before .before .before .before), c .before .before .before .before .walked .given .1, c .word-in .ensures, c .before .word-of .ensures .0)
 
 same-length-2 : tie.Need-same-length-2
 same-length-2 c = search needs
 
 returns-2 : tie.Need-returns-2
-unfolding loadOf translatedOf withHeld
-returns-2 c = rw (← c .before .before .before .before .before .before .before .before .before .before .before .before .before .before .before .fits2 .ensures, c .before .before .before .before .before .before .before .before .before .before .before .before .before .before .if1 .taken, ← c .before .before .before .before .before .before .before .before .before .before .before .before .before .address-ok .ensures, c .before .before .before .before .before .before .before .before .before .before .before .before .if2 .taken, ← (rw (c .before .before .before .before .before .before .before .before .before .before .before .layout .ensures) at (c .before .before .before .before .before .before .translated .ensures)), c .before .walked2 .given .1)
+unfolding withHeld
+returns-2 c = rw (came (c .before .before .before .before .before .before), c .before .walked2 .given .1)
 
 same-length-3 : tie.Need-same-length-3
 same-length-3 c = search needs
 
 returns-3 : tie.Need-returns-3
-unfolding loadOf translatedOf
-returns-3 c = rw (← c .before .before .before .before .before .before .before .before .before .before .before .before .before .before .fits2 .ensures, c .before .before .before .before .before .before .before .before .before .before .before .before .before .if1 .taken, ← c .before .before .before .before .before .before .before .before .before .before .before .before .address-ok .ensures, c .before .before .before .before .before .before .before .before .before .before .before .if2 .taken, ← (rw (c .before .before .before .before .before .before .before .before .before .before .layout .ensures) at (c .before .before .before .before .before .translated .ensures)), c .enum-told .given .1)
+returns-3 c = rw (came (c .before .before .before .before .before), c .enum-told .given .1)
 
 returns-4 : tie.Need-returns-4
 unfolding loadOf
-returns-4 c = rw (← c .before .before .before .fits2 .ensures, c .before .before .if1 .taken, ← c .before .address-ok .ensures, c .if2 .left)
+returns-4 c = rw (fit (c .before .before), ← c .before .address-ok .ensures, c .if2 .left)
 
 returns-5 : tie.Need-returns-5
 unfolding loadOf

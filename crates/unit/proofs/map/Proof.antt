@@ -1,4 +1,3 @@
-use borrow.Author.Tests.{eq-eqb, ne-eqb}
 use mathlib.Core.Path.{sym, _∙_}
 use native.Mathlib.Omega.{arith}
 use Rattle.unit.specs.Calls.{mapCall}
@@ -19,26 +18,19 @@ host-walk-requires c κs = rw (c .before .layout .ensures) (fits-sound (c .befor
 map-requires : tie.Need-map-requires
 map-requires c κs = rw (c .before .before .before .layout .ensures) (fits-sound (c .before .before .before .before .before .before .before .args .unit) _ (sym (c .before .before .before .before .before .fits2 .ensures) ∙ c .before .before .before .before .if1 .taken) .0, omega arith)
 
-mapped-requires : tie.Need-mapped-requires
-mapped-requires c κs = fits-sound (c .before .before .before .before .before .before .before .before .before .before .before .before .before .before .args .unit) _ (sym (c .before .before .before .before .before .before .before .before .before .before .before .before .fits2 .ensures) ∙ c .before .before .before .before .before .before .before .before .before .before .before .if1 .taken)
+changed-requires : tie.Need-changed-requires
+changed-requires c κs = fits-sound (c .before .before .before .before .before .before .before .before .before .before .before .args .unit) _ (sym (c .before .before .before .before .before .before .before .before .before .fits2 .ensures) ∙ c .before .before .before .before .before .before .before .before .if1 .taken)
 
 same-length : tie.Need-same-length
 same-length c = search needs
 
 returns : tie.Need-returns
 unfolding mapCall
-returns c = rw (← c .before .before .before .before .before .before .before .before .before .before .before .before .before .before .before .fits2 .ensures, c .before .before .before .before .before .before .before .before .before .before .before .before .before .before .if1 .taken, ← (rw (c .before .before .before .before .before .before .before .before .before .before .before .before .before .layout .ensures) at (c .before .before .before .before .before .before .before .before .before .map .ensures)), eq-eqb _ _ (c .before .before .before .before .if2 .taken), ← (rw (c .before .before .before .before .before .before .before .before .before .before .before .before .before .layout .ensures) at (c .before .before .before .before .before .before .before .before .before .before .before .host-walk .ensures))) (c .before .before .mapped .ensures)
-
-same-length-2 : tie.Need-same-length-2
-same-length-2 c = search needs
+returns c = rw (← c .before .before .before .before .before .before .before .before .before .before .before .before .fits2 .ensures, c .before .before .before .before .before .before .before .before .before .before .before .if1 .taken, ← (rw (c .before .before .before .before .before .before .before .before .before .before .layout .ensures) at (c .before .before .before .before .before .before .before .before .host-walk .ensures)), ← (rw (c .before .before .before .before .before .before .before .before .before .before .layout .ensures) at (c .before .before .before .before .before .before .map .ensures))) (c .before .before .changed .ensures)
 
 returns-2 : tie.Need-returns-2
 unfolding mapCall
-returns-2 c = rw (← c .before .before .before .before .before .before .before .before .before .before .before .fits2 .ensures, c .before .before .before .before .before .before .before .before .before .before .if1 .taken, ← (rw (c .before .before .before .before .before .before .before .before .before .layout .ensures) at (c .before .before .before .before .before .map .ensures)), ne-eqb _ _ (c .if2 .left))
-
-returns-3 : tie.Need-returns-3
-unfolding mapCall
-returns-3 c = rw (← c .before .fits2 .ensures, c .if1 .left)
+returns-2 c = rw (← c .before .fits2 .ensures, c .if1 .left)
 
 pub map-spec : {M : Type 1} → statement M
 map-spec =
@@ -48,9 +40,7 @@ map-spec =
     layout-requires
     host-walk-requires
     map-requires
-    mapped-requires
+    changed-requires
     same-length
     returns
-    same-length-2
-    returns-2
-    returns-3)
+    returns-2)

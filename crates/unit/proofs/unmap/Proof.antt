@@ -1,4 +1,3 @@
-use borrow.Author.Tests.{eq-eqb, ne-eqb}
 use mathlib.Core.Path.{sym, _∙_}
 use native.Mathlib.Omega.{arith}
 use Rattle.unit.specs.Calls.{unmapCall}
@@ -13,29 +12,25 @@ fits-requires c κs = search needs
 layout-requires : tie.Need-layout-requires
 layout-requires c κs = search needs
 
-unmap-requires : tie.Need-unmap-requires
-unmap-requires c κs = rw (c .before .layout .ensures) (fits-sound (c .before .before .before .before .before .args .unit) _ (sym (c .before .before .before .fits2 .ensures) ∙ c .before .before .if1 .taken) .0, omega arith)
+host-walk-requires : tie.Need-host-walk-requires
+host-walk-requires c κs = rw (c .before .layout .ensures) (fits-sound (c .before .before .before .before .before .args .unit) _ (sym (c .before .before .before .fits2 .ensures) ∙ c .before .before .if1 .taken) .0)
 
-remapped-requires : tie.Need-remapped-requires
-remapped-requires c κs = fits-sound (c .before .before .before .before .before .before .before .before .before .before .before .before .args .unit) _ (sym (c .before .before .before .before .before .before .before .before .before .before .fits2 .ensures) ∙ c .before .before .before .before .before .before .before .before .before .if1 .taken)
+unmap-requires : tie.Need-unmap-requires
+unmap-requires c κs = rw (c .before .before .before .layout .ensures) (fits-sound (c .before .before .before .before .before .before .before .args .unit) _ (sym (c .before .before .before .before .before .fits2 .ensures) ∙ c .before .before .before .before .if1 .taken) .0, omega arith)
+
+changed-requires : tie.Need-changed-requires
+changed-requires c κs = fits-sound (c .before .before .before .before .before .before .before .before .before .before .before .args .unit) _ (sym (c .before .before .before .before .before .before .before .before .before .fits2 .ensures) ∙ c .before .before .before .before .before .before .before .before .if1 .taken)
 
 same-length : tie.Need-same-length
 same-length c = search needs
 
 returns : tie.Need-returns
 unfolding unmapCall
-returns c = rw (← c .before .before .before .before .before .before .before .before .before .before .before .before .before .fits2 .ensures, c .before .before .before .before .before .before .before .before .before .before .before .before .if1 .taken, ← (rw (c .before .before .before .before .before .before .before .before .before .before .before .layout .ensures) at (c .before .before .before .before .before .before .before .before .before .unmap .ensures)), eq-eqb _ _ (c .before .before .before .before .if2 .taken)) (c .before .before .remapped .ensures)
-
-same-length-2 : tie.Need-same-length-2
-same-length-2 c = search needs
+returns c = rw (← c .before .before .before .before .before .before .before .before .before .before .before .before .fits2 .ensures, c .before .before .before .before .before .before .before .before .before .before .before .if1 .taken, ← (rw (c .before .before .before .before .before .before .before .before .before .before .layout .ensures) at (c .before .before .before .before .before .before .before .before .host-walk .ensures)), ← (rw (c .before .before .before .before .before .before .before .before .before .before .layout .ensures) at (c .before .before .before .before .before .before .unmap .ensures))) (c .before .before .changed .ensures)
 
 returns-2 : tie.Need-returns-2
 unfolding unmapCall
-returns-2 c = rw (← c .before .before .before .before .before .before .before .before .before .fits2 .ensures, c .before .before .before .before .before .before .before .before .if1 .taken, ← (rw (c .before .before .before .before .before .before .before .layout .ensures) at (c .before .before .before .before .before .unmap .ensures)), ne-eqb _ _ (c .if2 .left))
-
-returns-3 : tie.Need-returns-3
-unfolding unmapCall
-returns-3 c = rw (← c .before .fits2 .ensures, c .if1 .left)
+returns-2 c = rw (← c .before .fits2 .ensures, c .if1 .left)
 
 pub unmap-spec : {M : Type 1} → statement M
 unmap-spec =
@@ -43,10 +38,9 @@ unmap-spec =
     (tie.spec
     fits-requires
     layout-requires
+    host-walk-requires
     unmap-requires
-    remapped-requires
+    changed-requires
     same-length
     returns
-    same-length-2
-    returns-2
-    returns-3)
+    returns-2)

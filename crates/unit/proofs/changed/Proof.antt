@@ -1,6 +1,7 @@
+use borrow.Author.Tests.{eq-eqb, ne-eqb}
 use borrow.Author.Needs.{needs}
-use Rattle.unit.proofs.mapped.Statement.{statement}
-use Rattle.unit.proofs.mapped.Tie as tie
+use Rattle.unit.proofs.changed.Statement.{statement}
+use Rattle.unit.proofs.changed.Tie as tie
 
 enum-known-was : tie.Need-enum-known-was
 enum-known-was c = search needs
@@ -21,16 +22,19 @@ same-length : tie.Need-same-length
 same-length c = search needs
 
 returns : tie.Need-returns
-returns c = rw (c .before .before .before .before .before .was .given .1) (c .before .before .remapped .ensures)
+returns c = rw (eq-eqb _ _ (c .before .before .before .before .before .before .before .if1 .taken), c .before .before .before .before .before .was .given .1) (c .before .before .remapped .ensures)
 
 returns-2 : tie.Need-returns-2
-returns-2 c = rw (c .before .before .was2 .given .1, c .with-host .ensures)
+returns-2 c = rw (eq-eqb _ _ (c .before .before .before .before .if1 .taken), c .before .before .was2 .given .1, c .with-host .ensures)
 
 returns-3 : tie.Need-returns-3
-returns-3 c = rw (c .enum-told .given .1)
+returns-3 c = rw (eq-eqb _ _ (c .before .before .if1 .taken), c .enum-told .given .1)
 
-pub mapped-spec : {M : Type 1} → statement M
-mapped-spec =
+returns-4 : tie.Need-returns-4
+returns-4 c = rw (ne-eqb _ _ (c .if1 .left))
+
+pub changed-spec : {M : Type 1} → statement M
+changed-spec =
     tie.close
     (tie.spec
     enum-known-was
@@ -41,4 +45,5 @@ mapped-spec =
     same-length
     returns
     returns-2
-    returns-3)
+    returns-3
+    returns-4)
