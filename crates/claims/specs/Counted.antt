@@ -1,0 +1,77 @@
+-- The words of the memory that a load or a store counts. Document 01, "Words counted".
+-- Assumes nothing.
+use mathlib.Core.Path.{_≡_}
+use Prim.Native.Nat.{ℕ, _-_}
+use mathlib.Core.Bool.{Bool, cond}
+use mathlib.Core.List.{List, [], _∷_, _++_}
+use lib.Dec.{leb, ltb}
+use Rattle.spec.specs.declared.Fault.{Fault}
+use Rattle.spec.specs.Config.{Config}
+use Rattle.spec.specs.Entry.{wordOf, pageOf, indexes}
+use Rattle.spec.specs.Walk.{Walk, done, fail, host, word}
+use Rattle.spec.specs.Plain.{levels, walk}
+use Rattle.laws.proofs.Lists.{All}
+use Rattle.words.specs.Words.{wordIn}
+use Rattle.area.specs.Pool.{link}
+use Rattle.area.specs.Tree.{topOf}
+use Rattle.tree.proofs.Local.{entriesRead}
+use Rattle.host.specs.declared.HostWalk.{HostWalk}
+use Rattle.host.specs.declared.HostWalk.the-variants as hosts
+use Rattle.host.specs.Walk.{hostWalkOf}
+use Rattle.walk.specs.declared.Walked.{Walked}
+use Rattle.walk.specs.declared.Walked.the-variants as walked
+use Rattle.walk.specs.Memory.{placeOf}
+use Rattle.record.specs.declared.Record.{Record}
+use Rattle.record.specs.Record.{configOf}
+use Rattle.request.specs.Translate.{pathIndexes, foundOf}
+use Rattle.unit.specs.Calls.{depthAt, translatedOf}
+
+-- a word: its host frame and its index
+abbrev pub Word : Type 0
+Word = ℕ × ℕ
+
+-- n has the words of m there
+abbrev pub SameWords : List ℕ → List ℕ → List Word → Type 0
+SameWords m n xs = All (λ x. wordIn n (x .0) (x .1) ≡ wordIn m (x .0) (x .1)) xs
+
+-- the host entries that the host walk of a guest frame reads
+abbrev pub hostWords : Config → List ℕ → ℕ → List Word
+hostWords c m g = entriesRead 0 (c .hosts) m (link 0) (indexes (c .levels) g)
+
+-- the words that a walk over memory reads, those of its host walks too, in the order of the walk
+unfoldable pub walkWords : {A : Type 0} → Config → List ℕ → Walk Fault A → List Word
+walkWords c m (done a) = []
+walkWords c m (fail x) = []
+walkWords c m (host g k) = hostWords c m g ++ walkWords c m (k (placeOf (hostWalkOf c m g)))
+walkWords c m (word t i k) = (t, i) ∷ walkWords c m (k (wordIn m t i))
+
+-- "the shadow entries on its path"; at depth N the path stands in the record
+unfoldable pub pathWords : Record → List ℕ → ℕ → ℕ → List Word
+pathWords r m a d =
+    let c = configOf r in
+    cond (ltb d (c .levels)) (entriesRead (c .hosts) (c .shadows) m (topOf (c .hosts) (r .shadow .fresh)) (pathIndexes c d a)) []
+
+-- "the words of the direct part", from the guest table of level d that the held path leads to
+abbrev pub directWords : Config → List ℕ → Bool → ℕ → ℕ → HostWalk → List Word
+directWords c m st a d (hosts.Found t w) = walkWords c m (levels c st d (t .0) w (indexes d (pageOf a)))
+directWords c m st a d (hosts.Absent n) = []
+directWords c m st a d hosts.Damaged = []
+
+-- "those it counts (the shadow entries on its path, then the words of the direct part)": of a load or a store whose path is
+-- held, or whose depth is N + 1, where the direct part is the whole plain walk
+unfoldable pub countedOf : Record → List ℕ → Bool → ℕ → List Word
+countedOf r m st a =
+    let c = configOf r in
+    let d = depthAt r a in
+    cond (leb d (c .levels))
+    (pathWords r m a d ++ directWords c m st a d (foundOf c m (r .shadow .fresh) (r .top) a d))
+    (walkWords c m (walk c st (r .root) (indexes (c .levels) (pageOf a))))
+
+abbrev pub touchedBy : ℕ → Walked → List Word
+touchedBy a (walked.Arrived t w n) = (t .0, wordOf a) ∷ []
+touchedBy a (walked.Faulted x n) = []
+touchedBy a walked.Damaged = []
+
+-- the word that a load loads or a store stores, if it is granted
+unfoldable pub touchedOf : Record → List ℕ → Bool → ℕ → List Word
+touchedOf r m st a = touchedBy a (translatedOf r m st a .translated .walked)
