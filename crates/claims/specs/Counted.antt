@@ -1,20 +1,29 @@
 -- The words of the memory that a load or a store counts. Document 01, "Words counted".
 -- Assumes nothing.
 use mathlib.Core.Path.{_≡_}
-use Prim.Native.Nat.{ℕ, _-_}
+use mathlib.Core.Logic.{_⊎_}
+use Prim.Native.Nat.{ℕ, _-_, _<_}
 use mathlib.Core.Bool.{Bool, cond}
 use mathlib.Core.List.{List, [], _∷_, _++_}
-use lib.Dec.{leb, ltb}
+use lib.Dec.{T, leb, ltb}
+use lib.ListN.{set}
 use Rattle.spec.specs.declared.Fault.{Fault}
-use Rattle.spec.specs.Config.{Config}
+use Rattle.spec.specs.declared.Answer.{Answer}
+use Rattle.spec.specs.declared.Answer.the-variants as answer
+use Rattle.spec.specs.Config.{Config, guestBase}
 use Rattle.spec.specs.Entry.{wordOf, pageOf, indexes}
 use Rattle.spec.specs.Walk.{Walk, done, fail, host, word}
-use Rattle.spec.specs.Plain.{levels, walk}
+use Rattle.spec.specs.Plain.{levels, walk, upper}
+use Rattle.spec.specs.Machine.{place}
+use Rattle.spec.specs.Book.{Book, depth, find}
+use Rattle.spec.specs.Call.{addressIndexes}
+use Rattle.spec.specs.Count.{serves}
 use Rattle.laws.proofs.Lists.{All}
 use Rattle.words.specs.Words.{wordIn}
 use Rattle.area.specs.Pool.{link}
 use Rattle.area.specs.Tree.{topOf}
 use Rattle.tree.proofs.Local.{entriesRead}
+use Rattle.tree.proofs.Stores.{SameFrame}
 use Rattle.host.specs.declared.HostWalk.{HostWalk}
 use Rattle.host.specs.declared.HostWalk.the-variants as hosts
 use Rattle.host.specs.Walk.{hostWalkOf}
@@ -24,7 +33,8 @@ use Rattle.walk.specs.Memory.{placeOf}
 use Rattle.record.specs.declared.Record.{Record}
 use Rattle.record.specs.Record.{configOf}
 use Rattle.request.specs.Translate.{pathIndexes, foundOf}
-use Rattle.unit.specs.Calls.{depthAt, translatedOf}
+use Rattle.unit.specs.Calls.{Ended, depthAt, translatedOf}
+use Rattle.claims.specs.Run.{guestArea}
 
 -- a word: its host frame and its index
 abbrev pub Word : Type 0
@@ -75,3 +85,35 @@ touchedBy a walked.Damaged = []
 -- the word that a load loads or a store stores, if it is granted
 unfoldable pub touchedOf : Record → List ℕ → Bool → ℕ → List Word
 touchedOf r m st a = touchedBy a (translatedOf r m st a .translated .walked)
+
+-- "whose path is held or whose d is 5", on the book; a store's held path must not forbid the store
+unfoldable pub HeldOrPlain : Config → Book → Bool → ℕ → Type 0
+HeldOrPlain c b st a =
+    let is = addressIndexes c a in
+    let d = depth (b .marks) is in
+    T (serves st d (find (upper c d is) (b .held))) ⊎ (c .levels < d)
+
+-- the references of an answer that has any are x
+abbrev pub References : ℕ → Answer → Type 0
+References x answer.Ok = Unit {0}
+References x (answer.Value v n e) = n ≡ x
+References x (answer.Done n e) = n ≡ x
+References x (answer.Faulted y n e) = n ≡ x
+References x (answer.Refused n) = Unit {0}
+
+-- a call on memory m is granted with k references and touches word i of host frame t: v stands there, and no other word of the
+-- guest area changes
+pub record Touches (r : Record) (m : List ℕ) (k t i v : ℕ) (e : Ended) : Type 0 where
+  pub exits : ℕ
+  pub says : e .reply .answer ≡ answer.Done k exits
+  pub area : guestArea r (e .memory) ≡ set (guestArea r m) (place (configOf r) t i) v
+
+-- a call on memory m is refused with 11, and no word of the guest area changes
+pub record Refuses (r : Record) (m : List ℕ) (e : Ended) : Type 0 where
+  pub says : e .reply .answer ≡ answer.Refused 11
+  pub unit : e .reply .unit ≡ r
+  pub area : guestArea r (e .memory) ≡ guestArea r m
+
+-- no host or shadow word is altered
+abbrev pub SameTables : Config → List ℕ → List ℕ → Type 0
+SameTables c m n = (f : ℕ) → f < guestBase c → SameFrame m n f
