@@ -3,7 +3,7 @@
 use mathlib.Core.Path.{_≡_}
 use mathlib.Core.Logic.{_⊎_}
 use Prim.Native.Nat.{ℕ, _-_, _<_}
-use mathlib.Core.Bool.{Bool, cond}
+use mathlib.Core.Bool.{Bool, true, cond}
 use mathlib.Core.List.{List, [], _∷_, _++_}
 use lib.Dec.{T, leb, ltb}
 use lib.ListN.{set}
@@ -33,7 +33,7 @@ use Rattle.walk.specs.Memory.{placeOf}
 use Rattle.record.specs.declared.Record.{Record}
 use Rattle.record.specs.Record.{configOf}
 use Rattle.request.specs.Translate.{pathIndexes, foundOf}
-use Rattle.unit.specs.Calls.{Ended, depthAt, translatedOf}
+use Rattle.unit.specs.Calls.{Ended, depthAt, translatedOf, storeCall}
 use Rattle.claims.specs.Run.{guestArea}
 
 -- a word: its host frame and its index
@@ -117,3 +117,12 @@ pub record Refuses (r : Record) (m : List ℕ) (e : Ended) : Type 0 where
 -- no host or shadow word is altered
 abbrev pub SameTables : Config → List ℕ → List ℕ → Type 0
 SameTables c m n = (f : ℕ) → f < guestBase c → SameFrame m n f
+
+-- a store that is granted on memory m with k references, and the same store on memory n: "touches, after such a change, the
+-- same word or, only if host or shadow words are among those altered, is refused with 11"
+pub record SameStore (r : Record) (m n : List ℕ) (a v k : ℕ) : Type 0 where
+  pub frame : ℕ
+  pub touched : touchedOf r m true a ≡ (frame, wordOf a) ∷ []
+  pub before : Touches r m k frame (wordOf a) v (storeCall r m a v)
+  pub altered : Touches r n k frame (wordOf a) v (storeCall r n a v) ⊎ Refuses r n (storeCall r n a v)
+  pub only : SameTables (configOf r) m n → Touches r n k frame (wordOf a) v (storeCall r n a v)
