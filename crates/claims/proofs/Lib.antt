@@ -9,3 +9,5 @@ pub mod Remaps
 pub mod Marks
 pub mod Opens
 pub mod Demands
+pub mod WordsRead
+pub mod Counted

@@ -162,7 +162,7 @@ module _ (s : State) (r : Record) (m : List ℕ) (inv : Inv s r m) (st : Bool) (
       (trace w (walk c st (mach .root) (upper c deep is))) ((trace w (walk c st (mach .root) (upper c deep is))) .result)) (unshadowed (s .book) (plain c mach st a))) b
       ∙ ap (λ u. shadowed c mach (s .book) st deep is u (serves st deep (find u (s .book .held))) (trace w (walk c st (mach .root) u)) ((trace w (walk c st (mach .root) u)) .result)) (path-upper c deep a low)
 
-  serves-is : (d : ℕ) (h : Held) → serves st d (some h) ≡ servesOf st d (h .right)
+  pub serves-is : (d : ℕ) (h : Held) → serves st d (some h) ≡ servesOf st d (h .right)
   unfolding servesOf
   serves-is zero h = refl
   serves-is (suc d) h = let z : eqb (suc d) 0 ≡ false = ne-eqb (suc d) 0 (λ e. omega arith) in rw z

@@ -1,0 +1,289 @@
+-- "The count is no mere report": a load or a store through a held path, or at depth N + 1, rests on the words that it counts
+-- and, a load, on the word that it loads; any other word of the memory may be altered. Document 01, "Words counted".
+-- Assumes nothing.
+use mathlib.Core.Path.{_≡_, refl, sym, ap, ap₂, _∙_, subst}
+use mathlib.Core.Logic.{_⊎_, inl, inr}
+use Prim.Native.Nat.{ℕ, _+_, _-_, _*_, _<_, _≤_}
+use native.Mathlib.Omega.{arith}
+use mathlib.Core.Bool.{Bool, true, false, not, _&&_, cond}
+use mathlib.Core.List.{List, [], _∷_}
+use mathlib.Core.Option.{Option, none, some}
+use lib.Dec.{T, leb, leb→le, nleb→lt}
+use lib.ListN.{length, set}
+use Rattle.spec.specs.declared.Answer.{Answer}
+use Rattle.spec.specs.declared.Answer.the-variants as answer
+use Rattle.spec.specs.Config.{Config, guestBase}
+use Rattle.spec.specs.Entry.{wordOf, pageOf}
+use Rattle.spec.specs.Machine.{place}
+use Rattle.spec.specs.Plain.{upper}
+use Rattle.spec.specs.Book.{Held, Book, depth, find, dropWord}
+use Rattle.spec.specs.Call.{Call, addressIndexes}
+use Rattle.spec.specs.Count.{serves}
+use Rattle.spec.specs.Refusal.{addressFits, wordAligned}
+use Rattle.spec.specs.Run.{State, after, opened}
+use Rattle.laws.proofs.Lists.{All, all-any, and-left, is-true, is-false}
+use Rattle.entry.proofs.Entries.{word-fits}
+use Rattle.words.specs.Words.{wordIn, setIn}
+use Rattle.area.specs.Outside.{SameOutside}
+use Rattle.tree.proofs.Paths.{onto}
+use Rattle.tree.proofs.Stores.{Beside}
+use Rattle.tree.proofs.Whole.{Holds, holds-memory}
+use Rattle.host.specs.Walk.{page}
+use Rattle.host.proofs.Laws.{InGuestArea}
+use Rattle.walk.specs.declared.Walked.{Walked}
+use Rattle.walk.specs.declared.Walked.the-variants as walked
+use Rattle.marks.proofs.Book.{depth-book}
+use Rattle.record.specs.declared.Record.{Record}
+use Rattle.record.specs.Record.{configOf, configBy, fitsOf}
+use Rattle.record.specs.Open.{refusalOf, grantedOf}
+use Rattle.request.specs.Translate.{Out, outs, translation, exitBy, servesOf, foundOf}
+use Rattle.request.specs.Store as put
+use Rattle.request.specs.Store.{Stored, storeOf}
+use Rattle.request.proofs.Fits.{ArrivedIn}
+use Rattle.request.proofs.Leaves.{translate-leaves, store-leaves}
+use Rattle.shadow.specs.declared.Cut.the-variants.{Word}
+use Rattle.shadow.specs.Held.{shadowArea}
+use Rattle.shadow.specs.Cut.{watchedOf}
+use Rattle.shadow.specs.Drop.{Outcome, outcome, scanOf}
+use Rattle.drops.proofs.Scan.{Dropped}
+use Rattle.drops.proofs.Held.{leafAt}
+use Rattle.drops.proofs.Drops.{drop-word}
+use Rattle.drops.proofs.Valid.{entryOf}
+use Rattle.unit.specs.Calls.{Ended, ended, refused, judged, withHeld, depthAt, addressOk, translatedOf, loadBy, loadOf, writtenBy, storeBy, storeCall, openCall}
+use Rattle.claims.specs.Run.{guestArea, unitAfter}
+use Rattle.claims.specs.Counted.{SameWords, SameStore, countedOf, touchedBy, touchedOf, HeldOrPlain, References, Touches, Refuses, SameTables}
+use Rattle.claims.proofs.Invariant.{longer, frames, Inv}
+use Rattle.claims.proofs.Moves.{shadow-drop}
+use Rattle.claims.proofs.Puts.{area-store}
+use Rattle.claims.proofs.Paths.{path-upper}
+use Rattle.claims.proofs.Found as found
+use Rattle.claims.proofs.Translates.{serves-is}
+use Rattle.claims.proofs.WordsRead as read
+use Rattle.claims.proofs.WordsRead.{Reaches, held, plain, Alike, alike, Reads}
+
+written-counts : (r : Record) (top n e : ℕ) (x : Stored) (k : ℕ) → n ≡ k → References k (writtenBy r top n e x .reply .answer)
+written-counts r top n e x k q = go (x .put .ok)
+  where
+    go : (b : Bool) → References k (cond b (ended (withHeld r (x .put .pool) top) (answer.Done n (e + x .put .exits)) (x .memory)) (refused r 11 (x .memory)) .reply .answer)
+    go true = q
+    go false = tt
+
+-- what is the same outside the shadow tables' area, frame by frame
+outside-beside : (c : Config) {m n : List ℕ} → SameOutside (c .hosts) (c .shadows) m n → Beside (shadowArea c) m n
+outside-beside c e = record {
+  len = e .long;
+  else = λ g o k l. e .same (g * 512 + k) (elim o [ inl z ↦ inl (omega arith) | inr z ↦ inr (omega arith) ]);
+}
+
+module _ (s : State) (r : Record) (m : List ℕ) (inv : Inv s r m) (a : ℕ) where
+  abbrev c : Config
+  c = configOf r
+
+  abbrev deep : ℕ
+  deep = found.deep s r m inv a
+
+  abbrev path : List ℕ
+  path = found.path s r m inv a
+
+  -- the book's held path is one that the unit finds
+  reaches : (st : Bool) → addressOk r a ≡ true → HeldOrPlain c (s .book) st a → Reaches r st a m
+  unfolding HeldOrPlain
+  reaches st ok h = go (leb deep (c .levels)) refl h
+    where
+      at : depthAt r a ≡ deep
+      at = depth-book c (r .marks) (s .book) (omega arith) (inv .word) (inv .marks) a (is-true (addressFits c a) (and-left (addressFits c a) (wordAligned a) (subst T (sym ok) tt)))
+
+      by : deep ≤ c .levels → (o : Option Held) → find path (s .book .held) ≡ o → T (serves st deep o) → Reaches r st a m
+      by low none e k = absurd k
+      by low (some h) e k =
+          held (page (frames r m (onto [] path))) (h .right) (subst (λ x. x ≤ c .levels) (sym at) low)
+          (ap (foundOf c m (r .shadow .fresh) (r .top) a) at ∙ found.found-some s r m inv a low h e)
+          (ap (λ x. servesOf st x (h .right)) at ∙ sym (serves-is s r m inv st a deep h) ∙ is-true (serves st deep (some h)) k)
+
+      go : (b : Bool) → leb deep (c .levels) ≡ b → T (serves st deep (find (upper c deep (addressIndexes c a)) (s .book .held))) ⊎ (c .levels < deep) → Reaches r st a m
+      go true q (inl k) =
+          let low = leb→le deep (c .levels) (subst T (sym q) tt) in
+          by low (find path (s .book .held)) refl (subst (λ p. T (serves st deep (find p (s .book .held)))) (path-upper c deep a low) k)
+      go true q (inr k) = let low = leb→le deep (c .levels) (subst T (sym q) tt) in absurd (omega (arith, low, k))
+      go false q k = plain (subst (λ x. c .levels < x) (sym at) (nleb→lt deep (c .levels) (subst (λ b. T (not b)) (sym q) tt)))
+
+  -- ---- load
+
+  same-unit : withHeld r (r .shadow) (r .top) ≡ r
+  unfolding withHeld
+  same-unit = refl
+
+  -- what a load says through such a translation
+  load-says : (n : List ℕ) (x : Walked) → SameWords m n (touchedBy a x) → loadBy r a (read.left r false a x n) x ≡ ended r (loadBy r a (read.left r false a x m) x .reply .answer) n
+  load-says n (walked.Arrived t w k) h = ap₂ (λ u v. ended u (answer.Value v k 0) n) same-unit (h .0)
+  load-says n (walked.Faulted y k) h = ap (λ u. ended u (answer.Faulted y k (exitBy (walked.Faulted y k))) n) same-unit
+  load-says n walked.Damaged h = refl
+
+  -- a memory of the same length is not refused with 3
+  load-fits : (n : List ℕ) → length n ≡ length m
+      → loadOf r n a ≡ cond (addressOk r a) (loadBy r a (translatedOf r n false a) (translatedOf r n false a .translated .walked)) (refused r 4 n)
+  unfolding loadOf
+  load-fits n e = ap (λ b. cond b (cond (addressOk r a) (loadBy r a (translatedOf r n false a) (translatedOf r n false a .translated .walked)) (refused r 4 n)) (refused r 3 n)) (ap (fitsOf r) e ∙ inv .fits)
+
+  -- "its value or fault, its references and its exits stay the same", whatever memory n of that length holds elsewhere; and the
+  -- record and the memory stay as they are
+  pub words-counted-load : HeldOrPlain c (s .book) false a → (n : List ℕ) → length n ≡ length m → SameWords m n (countedOf r m false a) → SameWords m n (touchedOf r m false a)
+      → loadOf r n a ≡ ended r (loadOf r m a .reply .answer) n
+  unfolding touchedOf
+  words-counted-load h n e counted touched =
+      load-fits n e ∙ go (addressOk r a) refl ∙ sym (ap (λ (x : Ended). ended r (x .reply .answer) n) (load-fits m refl))
+    where
+      said : List ℕ → Ended
+      said k = loadBy r a (translatedOf r k false a) (translatedOf r k false a .translated .walked)
+
+      go : (b : Bool) → addressOk r a ≡ b → cond b (said n) (refused r 4 n) ≡ ended r (cond b (said m) (refused r 4 m) .reply .answer) n
+      go false q = refl
+      go true q =
+          let l = alike r false a m n (reaches false q h) counted in
+          ap (λ (o : Out). loadBy r a o (o .translated .walked)) (l .altered)
+          ∙ load-says n (l .walked) (subst (λ (o : Out). SameWords m n (touchedBy a (o .translated .walked))) (l .before) touched)
+          ∙ sym (ap (λ (o : Out). ended r (loadBy r a o (o .translated .walked) .reply .answer) n) (l .before))
+
+  -- ---- the words counted are as many as the references
+
+  counts : (st : Bool) → HeldOrPlain c (s .book) st a → (by : Out → Walked → Ended)
+      → ((x : Walked) → Reads (length (countedOf r m st a)) x → References (length (countedOf r m st a)) (by (read.left r st a x m) x .reply .answer))
+      → References (length (countedOf r m st a)) (cond (addressOk r a) (by (translatedOf r m st a) (translatedOf r m st a .translated .walked)) (refused r 4 m) .reply .answer)
+  counts st h by said = go (addressOk r a) refl
+    where
+      go : (b : Bool) → addressOk r a ≡ b
+          → References (length (countedOf r m st a)) (cond b (by (translatedOf r m st a) (translatedOf r m st a .translated .walked)) (refused r 4 m) .reply .answer)
+      go false q = tt
+      go true q =
+          let l = alike r st a m m (reaches st q h) (all-any _ (countedOf r m st a) (λ x. refl)) in
+          subst (λ (o : Out). References (length (countedOf r m st a)) (by o (o .translated .walked) .reply .answer)) (sym (l .before)) (said (l .walked) (l .count))
+
+  pub load-counted : HeldOrPlain c (s .book) false a → References (length (countedOf r m false a)) (loadOf r m a .reply .answer)
+  load-counted h =
+      subst (λ (x : Ended). References (length (countedOf r m false a)) (x .reply .answer)) (sym (load-fits m refl)) (counts false h (loadBy r a) said)
+    where
+      said : (x : Walked) → Reads (length (countedOf r m false a)) x → References (length (countedOf r m false a)) (loadBy r a (read.left r false a x m) x .reply .answer)
+      said (walked.Arrived t w k) q = q
+      said (walked.Faulted y k) q = q
+      said walked.Damaged q = tt
+
+  -- ---- store
+  module _ (v : ℕ) where
+    store-fits : (n : List ℕ) → length n ≡ length m
+        → storeCall r n a v ≡ cond (addressOk r a) (storeBy r a v (translatedOf r n true a) (translatedOf r n true a .translated .walked)) (refused r 4 n)
+    unfolding storeCall
+    store-fits n e = ap (λ b. cond b (cond (addressOk r a) (storeBy r a v (translatedOf r n true a) (translatedOf r n true a .translated .walked)) (refused r 4 n)) (refused r 3 n)) (ap (fitsOf r) e ∙ inv .fits)
+
+    pub store-counted : HeldOrPlain c (s .book) true a → References (length (countedOf r m true a)) (storeCall r m a v .reply .answer)
+    store-counted h =
+        subst (λ (x : Ended). References (length (countedOf r m true a)) (x .reply .answer)) (sym (store-fits m refl)) (counts true h (storeBy r a v) said)
+      where
+        said : (x : Walked) → Reads (length (countedOf r m true a)) x → References (length (countedOf r m true a)) (storeBy r a v (read.left r true a x m) x .reply .answer)
+        said (walked.Arrived t w k) q = written-counts r (r .top) k 0 (storeOf c m (r .shadow) (t .0) (wordOf a) v) (length (countedOf r m true a)) q
+        said (walked.Faulted y k) q = q
+        said walked.Damaged q = tt
+
+    -- what a store to word i of the guest frame t leaves on a memory
+    module _ (t : ℕ) (there : InGuestArea c t) (k : ℕ) where
+      abbrev putOn : List ℕ → Stored
+      putOn n = storeOf c n (r .shadow) t (wordOf a) v
+
+      abbrev leftOn : List ℕ → Ended
+      leftOn n = writtenBy r (r .top) k 0 (putOn n)
+
+      put-area : (n : List ℕ) (b : Bool) → putOn n .put .ok ≡ b → guestArea r (leftOn n .memory) ≡ guestArea r (cond b (setIn n t (wordOf a) v) n)
+      put-area n b q =
+          ap (λ x. guestArea r (cond x (ended (withHeld r (putOn n .put .pool) (r .top)) (answer.Done k (0 + putOn n .put .exits)) (putOn n .memory)) (refused r 11 (putOn n .memory)) .memory)) q
+          ∙ either b ∙ ap (λ x. guestArea r (cond x (setIn n t (wordOf a) v) n)) q
+        where
+          same : guestArea r (putOn n .memory) ≡ guestArea r (cond (putOn n .put .ok) (setIn n t (wordOf a) v) n)
+          same = shadow-drop c (outside-beside c (store-leaves c n (r .shadow) t (wordOf a) v (found.rules s r m inv .shadow .0) .same))
+
+          either : (x : Bool) → guestArea r (cond x (ended (withHeld r (putOn n .put .pool) (r .top)) (answer.Done k (0 + putOn n .put .exits)) (putOn n .memory)) (refused r 11 (putOn n .memory)) .memory)
+              ≡ guestArea r (cond (putOn n .put .ok) (setIn n t (wordOf a) v) n)
+          either true = same
+          either false = same
+
+      touches : (n : List ℕ) → putOn n .put .ok ≡ true → Touches r n k t (wordOf a) v (leftOn n)
+      touches n q = record {
+        exits = 0 + putOn n .put .exits;
+        says = ap (λ b. cond b (ended (withHeld r (putOn n .put .pool) (r .top)) (answer.Done k (0 + putOn n .put .exits)) (putOn n .memory)) (refused r 11 (putOn n .memory)) .reply .answer) q;
+        area = put-area n true q ∙ area-store c n t (wordOf a) v (there .0);
+      }
+
+      refuses : (n : List ℕ) → putOn n .put .ok ≡ false → Refuses r n (leftOn n)
+      refuses n q = record {
+        says = ap (λ b. cond b (ended (withHeld r (putOn n .put .pool) (r .top)) (answer.Done k (0 + putOn n .put .exits)) (putOn n .memory)) (refused r 11 (putOn n .memory)) .reply .answer) q;
+        unit = ap (λ b. cond b (ended (withHeld r (putOn n .put .pool) (r .top)) (answer.Done k (0 + putOn n .put .exits)) (putOn n .memory)) (refused r 11 (putOn n .memory)) .reply .unit) q;
+        area = put-area n false q;
+      }
+
+      either : (n : List ℕ) → Touches r n k t (wordOf a) v (leftOn n) ⊎ Refuses r n (leftOn n)
+      either n = go (putOn n .put .ok) refl
+        where
+          go : (b : Bool) → putOn n .put .ok ≡ b → Touches r n k t (wordOf a) v (leftOn n) ⊎ Refuses r n (leftOn n)
+          go true q = inl (touches n q)
+          go false q = inr (refuses n q)
+
+      -- no shadow word is altered: the tables hold what they held, and no damage is met
+      whole-tables : (n : List ℕ) → length n ≡ length m → SameTables c m n → putOn n .put .ok ≡ true
+      unfolding storeOf
+      whole-tables n e same = go (watchedOf c n (r .shadow .fresh) t)
+        where
+          tables : Holds (shadowArea c) false (r .shadow) n (leafAt (entryOf c (frames r m)) (longer (s .book .held))) (frames r m)
+          tables = holds-memory (inv .shadow) n e (λ f lo hi. same f hi)
+
+          scanned : Dropped c n (leafAt (entryOf c (frames r m)) (dropWord t (wordOf a) (longer (s .book .held)))) (frames r m) (scanOf c (Word (page t) (wordOf a)) (r .shadow) n)
+          scanned = drop-word tables (found.held-entries s r m inv) t (wordOf a) (word-fits a)
+
+          go : (b : Bool) → cond b (put.writtenBy (r .shadow) t (wordOf a) v (scanOf c (Word (page t) (wordOf a)) (r .shadow) n)) (put.stored (r .shadow) 0 true (setIn n t (wordOf a) v)) .put .ok ≡ true
+          go true = ap (λ (o : Outcome). put.writtenBy (r .shadow) t (wordOf a) v o .put .ok) (scanned .done)
+          go false = refl
+
+    -- the frame that a granted translation arrives at lies in the guest area
+    arrives : ArrivedIn c (translatedOf r m true a .translated .walked)
+    unfolding translatedOf
+    arrives = translate-leaves c (omega (arith, found.rules s r m inv .sizes .shadows)) m true (r .shadow) (found.rules s r m inv .shadow .0) (r .top) (found.rules s r m inv .top) (r .root) a (depthAt r a) .arrived
+
+    pub words-counted-store : HeldOrPlain c (s .book) true a → (k e : ℕ) → storeCall r m a v .reply .answer ≡ answer.Done k e
+        → (n : List ℕ) → length n ≡ length m → SameWords m n (countedOf r m true a) → SameStore r m n a v k
+    unfolding touchedOf
+    words-counted-store h k e done n long counted = go (addressOk r a) refl
+      where
+        said : List ℕ → Ended
+        said x = storeBy r a v (translatedOf r x true a) (translatedOf r x true a .translated .walked)
+
+        by : (x : Walked) → translatedOf r m true a ≡ read.left r true a x m → translatedOf r n true a ≡ read.left r true a x n → ArrivedIn c x
+            → storeCall r m a v ≡ storeBy r a v (read.left r true a x m) x → storeCall r n a v ≡ storeBy r a v (read.left r true a x n) x → SameStore r m n a v k
+        by (walked.Faulted y j) p q i f g =
+            let z : answer.Faulted y j (exitBy (walked.Faulted y j)) ≡ answer.Done k e = sym (ap (λ (x : Ended). x .reply .answer) f) ∙ done in
+            let x : _≡_ {A = ℕ} 0 1 = cc in absurd (omega arith)
+        by walked.Damaged p q i f g =
+            let z : answer.Refused 11 ≡ answer.Done k e = sym (ap (λ (x : Ended). x .reply .answer) f) ∙ done in
+            let x : _≡_ {A = ℕ} 0 1 = cc in absurd (omega arith)
+        by (walked.Arrived t w j) p q i f g = same (putOn (t .0) i j m .put .ok) refl
+          where
+            same : (b : Bool) → putOn (t .0) i j m .put .ok ≡ b → SameStore r m n a v k
+            same false o =
+                let z : answer.Refused 11 ≡ answer.Done k e = sym (refuses (t .0) i j m o .says) ∙ sym (ap (λ (x : Ended). x .reply .answer) f) ∙ done in
+                let x : _≡_ {A = ℕ} 0 1 = cc in absurd (omega arith)
+            same true o =
+                let z : answer.Done j (touches (t .0) i j m o .exits) ≡ answer.Done k e = sym (touches (t .0) i j m o .says) ∙ sym (ap (λ (x : Ended). x .reply .answer) f) ∙ done in
+                let x : j ≡ k = cc in
+                subst (SameStore r m n a v) x (record {
+                  frame = t .0;
+                  touched = ap (λ (y : Out). touchedBy a (y .translated .walked)) p;
+                  before = subst (Touches r m j (t .0) (wordOf a) v) (sym f) (touches (t .0) i j m o);
+                  altered = subst (λ y. Touches r n j (t .0) (wordOf a) v y ⊎ Refuses r n y) (sym g) (either (t .0) i j n);
+                  only = λ tables. subst (Touches r n j (t .0) (wordOf a) v) (sym g) (touches (t .0) i j n (whole-tables (t .0) i j n long tables));
+                })
+
+        go : (b : Bool) → addressOk r a ≡ b → SameStore r m n a v k
+        go false q =
+            let z : answer.Refused 4 ≡ answer.Done k e = sym (ap (λ (x : Ended). x .reply .answer) (store-fits m refl ∙ ap (λ b. cond b (said m) (refused r 4 m)) q)) ∙ done in
+            let x : _≡_ {A = ℕ} 0 1 = cc in absurd (omega arith)
+        go true q =
+            let l = alike r true a m n (reaches true q h) counted in
+            by (l .walked) (l .before) (l .altered) (subst (λ (o : Out). ArrivedIn c (o .translated .walked)) (l .before) arrives)
+            (store-fits m refl ∙ ap (λ b. cond b (said m) (refused r 4 m)) q ∙ ap (λ (o : Out). storeBy r a v o (o .translated .walked)) (l .before))
+            (store-fits n long ∙ ap (λ b. cond b (said n) (refused r 4 n)) q ∙ ap (λ (o : Out). storeBy r a v o (o .translated .walked)) (l .altered))

@@ -1,0 +1,128 @@
+-- The words of the memory that a load or a store counts. Document 01, "Words counted".
+-- Assumes nothing.
+use mathlib.Core.Path.{_≡_}
+use mathlib.Core.Logic.{_⊎_}
+use Prim.Native.Nat.{ℕ, _-_, _<_}
+use mathlib.Core.Bool.{Bool, true, cond}
+use mathlib.Core.List.{List, [], _∷_, _++_}
+use lib.Dec.{T, leb, ltb}
+use lib.ListN.{set}
+use Rattle.spec.specs.declared.Fault.{Fault}
+use Rattle.spec.specs.declared.Answer.{Answer}
+use Rattle.spec.specs.declared.Answer.the-variants as answer
+use Rattle.spec.specs.Config.{Config, guestBase}
+use Rattle.spec.specs.Entry.{wordOf, pageOf, indexes}
+use Rattle.spec.specs.Walk.{Walk, done, fail, host, word}
+use Rattle.spec.specs.Plain.{levels, walk, upper}
+use Rattle.spec.specs.Machine.{place}
+use Rattle.spec.specs.Book.{Book, depth, find}
+use Rattle.spec.specs.Call.{addressIndexes}
+use Rattle.spec.specs.Count.{serves}
+use Rattle.laws.proofs.Lists.{All}
+use Rattle.words.specs.Words.{wordIn}
+use Rattle.area.specs.Pool.{link}
+use Rattle.area.specs.Tree.{topOf}
+use Rattle.tree.proofs.Local.{entriesRead}
+use Rattle.tree.proofs.Stores.{SameFrame}
+use Rattle.host.specs.declared.HostWalk.{HostWalk}
+use Rattle.host.specs.declared.HostWalk.the-variants as hosts
+use Rattle.host.specs.Walk.{hostWalkOf}
+use Rattle.walk.specs.declared.Walked.{Walked}
+use Rattle.walk.specs.declared.Walked.the-variants as walked
+use Rattle.walk.specs.Memory.{placeOf}
+use Rattle.record.specs.declared.Record.{Record}
+use Rattle.record.specs.Record.{configOf}
+use Rattle.request.specs.Translate.{pathIndexes, foundOf}
+use Rattle.unit.specs.Calls.{Ended, depthAt, translatedOf, storeCall}
+use Rattle.claims.specs.Run.{guestArea}
+
+-- a word: its host frame and its index
+abbrev pub Word : Type 0
+Word = ℕ × ℕ
+
+-- n has the words of m there
+abbrev pub SameWords : List ℕ → List ℕ → List Word → Type 0
+SameWords m n xs = All (λ x. wordIn n (x .0) (x .1) ≡ wordIn m (x .0) (x .1)) xs
+
+-- the host entries that the host walk of a guest frame reads
+abbrev pub hostWords : Config → List ℕ → ℕ → List Word
+hostWords c m g = entriesRead 0 (c .hosts) m (link 0) (indexes (c .levels) g)
+
+-- the words that a walk over memory reads, those of its host walks too, in the order of the walk
+unfoldable pub walkWords : {A : Type 0} → Config → List ℕ → Walk Fault A → List Word
+walkWords c m (done a) = []
+walkWords c m (fail x) = []
+walkWords c m (host g k) = hostWords c m g ++ walkWords c m (k (placeOf (hostWalkOf c m g)))
+walkWords c m (word t i k) = (t, i) ∷ walkWords c m (k (wordIn m t i))
+
+-- "the shadow entries on its path"; at depth N the path stands in the record
+unfoldable pub pathWords : Record → List ℕ → ℕ → ℕ → List Word
+pathWords r m a d =
+    let c = configOf r in
+    cond (ltb d (c .levels)) (entriesRead (c .hosts) (c .shadows) m (topOf (c .hosts) (r .shadow .fresh)) (pathIndexes c d a)) []
+
+-- "the words of the direct part", from the guest table of level d that the held path leads to
+abbrev pub directWords : Config → List ℕ → Bool → ℕ → ℕ → HostWalk → List Word
+directWords c m st a d (hosts.Found t w) = walkWords c m (levels c st d (t .0) w (indexes d (pageOf a)))
+directWords c m st a d (hosts.Absent n) = []
+directWords c m st a d hosts.Damaged = []
+
+-- "those it counts (the shadow entries on its path, then the words of the direct part)": of a load or a store whose path is
+-- held, or whose depth is N + 1, where the direct part is the whole plain walk
+unfoldable pub countedOf : Record → List ℕ → Bool → ℕ → List Word
+countedOf r m st a =
+    let c = configOf r in
+    let d = depthAt r a in
+    cond (leb d (c .levels))
+    (pathWords r m a d ++ directWords c m st a d (foundOf c m (r .shadow .fresh) (r .top) a d))
+    (walkWords c m (walk c st (r .root) (indexes (c .levels) (pageOf a))))
+
+abbrev pub touchedBy : ℕ → Walked → List Word
+touchedBy a (walked.Arrived t w n) = (t .0, wordOf a) ∷ []
+touchedBy a (walked.Faulted x n) = []
+touchedBy a walked.Damaged = []
+
+-- the word that a load loads or a store stores, if it is granted
+unfoldable pub touchedOf : Record → List ℕ → Bool → ℕ → List Word
+touchedOf r m st a = touchedBy a (translatedOf r m st a .translated .walked)
+
+-- "whose path is held or whose d is 5", on the book; a store's held path must not forbid the store
+unfoldable pub HeldOrPlain : Config → Book → Bool → ℕ → Type 0
+HeldOrPlain c b st a =
+    let is = addressIndexes c a in
+    let d = depth (b .marks) is in
+    T (serves st d (find (upper c d is) (b .held))) ⊎ (c .levels < d)
+
+-- the references of an answer that has any are x
+abbrev pub References : ℕ → Answer → Type 0
+References x answer.Ok = Unit {0}
+References x (answer.Value v n e) = n ≡ x
+References x (answer.Done n e) = n ≡ x
+References x (answer.Faulted y n e) = n ≡ x
+References x (answer.Refused n) = Unit {0}
+
+-- a call on memory m is granted with k references and touches word i of host frame t: v stands there, and no other word of the
+-- guest area changes
+pub record Touches (r : Record) (m : List ℕ) (k t i v : ℕ) (e : Ended) : Type 0 where
+  pub exits : ℕ
+  pub says : e .reply .answer ≡ answer.Done k exits
+  pub area : guestArea r (e .memory) ≡ set (guestArea r m) (place (configOf r) t i) v
+
+-- a call on memory m is refused with 11, and no word of the guest area changes
+pub record Refuses (r : Record) (m : List ℕ) (e : Ended) : Type 0 where
+  pub says : e .reply .answer ≡ answer.Refused 11
+  pub unit : e .reply .unit ≡ r
+  pub area : guestArea r (e .memory) ≡ guestArea r m
+
+-- no host or shadow word is altered
+abbrev pub SameTables : Config → List ℕ → List ℕ → Type 0
+SameTables c m n = (f : ℕ) → f < guestBase c → SameFrame m n f
+
+-- a store that is granted on memory m with k references, and the same store on memory n: "touches, after such a change, the
+-- same word or, only if host or shadow words are among those altered, is refused with 11"
+pub record SameStore (r : Record) (m n : List ℕ) (a v k : ℕ) : Type 0 where
+  pub frame : ℕ
+  pub touched : touchedOf r m true a ≡ (frame, wordOf a) ∷ []
+  pub before : Touches r m k frame (wordOf a) v (storeCall r m a v)
+  pub altered : Touches r n k frame (wordOf a) v (storeCall r n a v) ⊎ Refuses r n (storeCall r n a v)
+  pub only : SameTables (configOf r) m n → Touches r n k frame (wordOf a) v (storeCall r n a v)
