@@ -9,3 +9,4 @@ pub mod Remaps
 pub mod Marks
 pub mod Opens
 pub mod Demands
+pub mod Safety
