@@ -10,3 +10,5 @@ pub mod Marks
 pub mod Opens
 pub mod Demands
 pub mod Safety
+pub mod Plain
+pub mod Numbers

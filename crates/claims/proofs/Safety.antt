@@ -9,7 +9,7 @@ use native.Mathlib.Decide.{ℕ-discrete}
 use borrow.Author.Tests.{eqb-false}
 use mathlib.Core.Bool.{Bool, true, false, cond}
 use mathlib.Core.List.{List, [], _∷_}
-use mathlib.Core.Option.{some}
+use mathlib.Core.Option.{Option, none, some}
 use lib.Dec.{eqb}
 use lib.ListN.{length, drop, set, getD, length-drop, length-set}
 use lib.Seq.{getD-drop, ext-getD}
@@ -36,6 +36,7 @@ use Rattle.area.specs.Remove.{unhangOf, shutOf, releaseOf, lastOf, lastIndex, c
 use Rattle.area.specs.Outside.{SameOutside}
 use Rattle.area.proofs.Outside.{indexes-narrow, out-refl, out-trans, insert-out, remove-out}
 use Rattle.tree.specs.Host.{hostEntry}
+use Rattle.tree.proofs.Change.{some-inj, not-some}
 use Rattle.host.specs.declared.HostWalk.{HostWalk}
 use Rattle.host.specs.declared.HostWalk.the-variants as host
 use Rattle.host.specs.Walk.{hostWalkOf}
@@ -300,15 +301,21 @@ module _ (c : Config) (p : Pool) (m : List ℕ) where
       go false = stay-kept 8 (omega arith, omega arith)
 
 -- ---- the calls
--- the number of a test that failed is one of the tests'
-failed-in : (P : ℕ → Type 0) (xs : List (Bool × ℕ)) → All (λ x. P (x .1)) xs → number (firstFailed xs) ≢ 0 → P (number (firstFailed xs))
-failed-in P [] a n = absurd (n refl)
-failed-in P (x ∷ xs) a n = go (x .0) n (failed-in P xs (a .1))
+-- the number of the first test that failed has what the numbers of all tests have
+pub failed-in : (P : ℕ → Type 0) (xs : List (Bool × ℕ)) → All (λ x. P (x .1)) xs → (n : ℕ) → firstFailed xs ≡ some n → P n
+failed-in P [] a n e = absurd (not-some refl e)
+failed-in P (x ∷ xs) a n e = go (x .0) e (failed-in P xs (a .1) n)
   where
-    go : (b : Bool) → number (cond b (firstFailed xs) (some (x .1))) ≢ 0 → (number (firstFailed xs) ≢ 0 → P (number (firstFailed xs)))
-        → P (number (cond b (firstFailed xs) (some (x .1))))
+    go : (b : Bool) → cond b (firstFailed xs) (some (x .1)) ≡ some n → (firstFailed xs ≡ some n → P n) → P n
     go true k ih = ih k
-    go false k ih = a .0
+    go false k ih = subst P (some-inj k) (a .0)
+
+number-in : (P : ℕ → Type 0) (xs : List (Bool × ℕ)) → All (λ x. P (x .1)) xs → number (firstFailed xs) ≢ 0 → P (number (firstFailed xs))
+number-in P xs a = go (firstFailed xs) refl
+  where
+    go : (o : Option ℕ) → firstFailed xs ≡ o → number o ≢ 0 → P (number o)
+    go none q n = absurd (n refl)
+    go (some k) q n = failed-in P xs a k q
 
 module _ (r : Record) (m : List ℕ) where
   -- held paths are dropped, after the host tables may have changed
@@ -458,13 +465,13 @@ module _ (r : Record) (m : List ℕ) where
   unfolding setMarkCall setRefusal
   set-kept a n =
       let l : (Numbered 4 × (Numbered 5 × (Numbered 6 × (Numbered 7 × Unit {0})))) = ((omega arith, omega arith), ((omega arith, omega arith), ((omega arith, omega arith), ((omega arith, omega arith), tt)))) in
-      marked-kept (number (setRefusal levels (keysOf r) a n)) a n (withKey (r .marks) (keyOf n (pageOf a))) (failed-in Numbered (setTests levels (keysOf r) a n) l)
+      marked-kept (number (setRefusal levels (keysOf r) a n)) a n (withKey (r .marks) (keyOf n (pageOf a))) (number-in Numbered (setTests levels (keysOf r) a n) l)
 
   clear-kept : (a n : ℕ) → Kept r m (clearMarkCall r m a n)
   unfolding clearMarkCall clearRefusal
   clear-kept a n =
       let l : (Numbered 4 × (Numbered 5 × (Numbered 6 × Unit {0}))) = ((omega arith, omega arith), ((omega arith, omega arith), ((omega arith, omega arith), tt))) in
-      marked-kept (number (clearRefusal levels (keysOf r) a n)) a n (withoutKey (r .marks) (keyOf n (pageOf a))) (failed-in Numbered (clearTests levels (keysOf r) a n) l)
+      marked-kept (number (clearRefusal levels (keysOf r) a n)) a n (withoutKey (r .marks) (keyOf n (pageOf a))) (number-in Numbered (clearTests levels (keysOf r) a n) l)
 
 -- ---- Demand 1. "Any request, with numbers, record and memory sound or spoiled, ends inside the memory lent with an answer, a named
 -- fault or a numbered refusal. A fault changes no guest word. A refusal changes nothing, but for the tables of a memory found
@@ -490,7 +497,7 @@ OpenKeeps m h s e (answer.Refused n) = ((n ≡ 1) ⊎ (n ≡ 2)) × (e .reply .u
 
 open-numbers : (words h s : ℕ) → refusalOf words h s ≢ 0 → (refusalOf words h s ≡ 1) ⊎ (refusalOf words h s ≡ 2)
 unfolding refusalOf openRefusal
-open-numbers words h s = failed-in (λ n. (n ≡ 1) ⊎ (n ≡ 2)) ((wordsFit words, 1) ∷ (areasFit (configBy words h s), 2) ∷ []) (inl refl, (inr refl, tt))
+open-numbers words h s = number-in (λ n. (n ≡ 1) ⊎ (n ≡ 2)) ((wordsFit words, 1) ∷ (areasFit (configBy words h s), 2) ∷ []) (inl refl, (inr refl, tt))
 
 pub demand-1-open : (m : List ℕ) (h s : ℕ) → OpenKeeps m h s (openCall m h s) (openCall m h s .reply .answer)
 demand-1-open m h s = go (ℕ-discrete (refusalOf (length m) h s) 0)
