@@ -32,15 +32,14 @@ use Rattle.walk.proofs.Stands.{plainWalked, same-word, root-walked}
 use Rattle.marks.proofs.Book.{depth-book}
 use Rattle.record.specs.declared.Record.{Record}
 use Rattle.record.specs.Record.{levels, configOf, configBy}
-use Rattle.record.specs.Open.{refusalOf, grantedOf}
-use Rattle.unit.specs.Calls.{Ended, ended, refused, addressOk, depthAt, loadOf, storeCall, openCall}
-use Rattle.claims.specs.Run.{callOf, guestArea, unitAfter}
+use Rattle.record.specs.Open.{refusalOf}
+use Rattle.unit.specs.Calls.{Ended, refused, addressOk, depthAt, loadOf, storeCall}
+use Rattle.claims.specs.Run.{callOf, guestArea, runOf}
 use Rattle.claims.proofs.Invariant.{Inv}
 use Rattle.claims.proofs.Paths.{indexes-all}
 use Rattle.claims.proofs.Found.{memory-stands, root-small}
 use Rattle.claims.proofs.Requests.{page-in, fits-of, load-step, store-step}
-use Rattle.claims.proofs.Opens.{opened-inv, granted-call}
-use Rattle.claims.proofs.Demands.{follows, after-follow, opened-config}
+use Rattle.claims.proofs.Demands.{follows, run-inv}
 
 -- ---- a load, or a store of a value
 abbrev pub isStore : Option ℕ → Bool
@@ -65,7 +64,8 @@ touched (some v) area k = set area k v
 abbrev pub plainWalk : Record → List ℕ → Bool → ℕ → Walked
 plainWalk r m st a = walkedOf (configOf r) m 0 (walk (configOf r) st (r .root) (indexes (configOf r .levels) (pageOf a)))
 
--- e is what a request leaves that is granted at its word of host frame t. It reads N + N·d words of at most N + 1 marks' depth
+-- e is what a request leaves that is granted at its word of host frame t. "A granted request reads (4 − d) + 5d words": N + N·d with
+-- the depth d of its address, and at most 24 with four levels
 pub record Granted (r : Record) (m : List ℕ) (a : ℕ) (v : Option ℕ) (e : Ended) (t : ℕ) : Type 0 where
   pub exits : ℕ
   pub says : line (e .reply .answer) ≡ grantedLine v (words.wordIn m t (wordOf a)) (levels + levels * depthAt r a) exits
@@ -197,10 +197,6 @@ module _ (s : State) (r : Record) (m : List ℕ) (inv : Inv s r m) where
 -- ---- Demand 2. "While only the unit's own calls touched record and memory since an opening, a load or store that is not refused is
 -- granted exactly when the plain two-level walk grants it, and touches the same word; otherwise its fault is that walk's"
 
--- the record and the memory after an opening and a list of calls
-abbrev pub runOf : List ℕ → ℕ → ℕ → List Call → Ended
-runOf m h s xs = let e = openCall m h s in unitAfter xs (e .reply .unit) (e .memory) e
-
 pub demand-2 : (m : List ℕ) (h s : ℕ) (xs : List Call) → refusalOf (length m) h s ≡ 0 → (a : ℕ) (v : Option ℕ)
     → let u = runOf m h s xs in
     let r = u .reply .unit in
@@ -208,11 +204,5 @@ pub demand-2 : (m : List ℕ) (h s : ℕ) (xs : List Call) → refusalOf (length
     let e = callOf (requestAt a v) r n in
     Unrefused (e .reply .answer) → AsWalked r n a v e (plainWalk r n (isStore v) a)
 demand-2 m h s xs g a v =
-    let c = configBy (length m) h s in
-    let k = grantedOf m h s in
-    let o = ended (k .unit) answer.Ok (k .memory) in
     let u = runOf m h s xs in
-    let i : Inv (after c xs (opened c m)) (u .reply .unit) (u .memory) =
-    subst (λ (e : Ended). let d = unitAfter xs (e .reply .unit) (e .memory) e in Inv (after c xs (opened c m)) (d .reply .unit) (d .memory)) (sym (granted-call m h s g))
-    (after-follow c xs (opened c m) (k .unit) (k .memory) o (opened-config m h s) (opened-inv m h s g) refl refl .1) in
-    as-walked (after c xs (opened c m)) (u .reply .unit) (u .memory) i a v
+    as-walked (after (configBy (length m) h s) xs (opened (configBy (length m) h s) m)) (u .reply .unit) (u .memory) (run-inv m h s xs g) a v
