@@ -1,28 +1,18 @@
--- Demand 3: every run of the unit is the run of the machine without shadow and its book. Demand 2 follows.
+-- Demand 3: every run of the unit is the run of the machine without shadow and its book.
 -- Assumes nothing.
 use mathlib.Core.Path.{_≡_, refl, sym, ap, ap₂, _∙_, subst}
-use mathlib.Core.Logic.{_≢_}
-use Prim.Native.Nat.{ℕ, _+_, _*_}
-use native.Mathlib.Omega.{arith}
-use mathlib.Core.Bool.{Bool, true, false, cond}
+use Prim.Native.Nat.{ℕ}
 use mathlib.Core.List.{List, [], _∷_}
-use mathlib.Core.Option.{Option, none, some}
-use lib.Dec.{eqb}
-use lib.ListN.{length, drop}
-use Rattle.spec.specs.Answer as say
-use Rattle.spec.specs.Answer.{Line, line}
-use Rattle.spec.specs.Config.{Config, guestBase}
-use Rattle.spec.specs.Machine.{Machine}
-use Rattle.spec.specs.Book.{Book}
+use lib.ListN.{length}
+use Rattle.spec.specs.declared.Answer.the-variants as answer
+use Rattle.spec.specs.Config.{Config}
 use Rattle.spec.specs.Call.{Call, root, map, unmap, setMark, clearMark, load, store, device}
-use Rattle.spec.specs.Refusal.{firstFailed, tests, refusal}
-use Rattle.spec.specs.Run.{State, step, run, after, answered, opened}
-use Rattle.laws.proofs.Lists.{All}
+use Rattle.spec.specs.Run.{State, step, run, after, opened}
 use Rattle.record.specs.declared.Record.{Record}
 use Rattle.record.specs.Record.{configOf, configBy}
 use Rattle.record.specs.Open.{refusalOf, firstOf, grantedOf}
-use Rattle.unit.specs.Calls.{Ended, openCall}
-use Rattle.claims.specs.Run.{callOf, guestArea, unitRun, unitAfter, machineRun}
+use Rattle.unit.specs.Calls.{Ended, ended, openCall}
+use Rattle.claims.specs.Run.{callOf, unitRun, unitAfter, runOf, machineRun}
 use Rattle.claims.proofs.Invariant.{Inv, Follows}
 use Rattle.claims.proofs.Opens.{opened-inv, granted-call}
 use Rattle.claims.proofs.Remaps.{root-follows, map-follows, unmap-follows}
@@ -79,3 +69,15 @@ demand-3 m h s xs g =
     let k = grantedOf m h s in
     ap (λ (e : Ended). unitRun xs (e .reply .unit) (e .memory)) (granted-call m h s g)
     ∙ runs-follow c xs (opened c m) (k .unit) (k .memory) (opened-config m h s) (opened-inv m h s g)
+
+-- after every run the record and the memory stand for the machine and its book
+pub run-inv : (m : List ℕ) (h s : ℕ) (xs : List Call) → refusalOf (length m) h s ≡ 0
+    → let e = runOf m h s xs in
+    let c = configBy (length m) h s in
+    Inv (after c xs (opened c m)) (e .reply .unit) (e .memory)
+run-inv m h s xs g =
+    let c = configBy (length m) h s in
+    let k = grantedOf m h s in
+    let o = ended (k .unit) answer.Ok (k .memory) in
+    subst (λ (e : Ended). let d = unitAfter xs (e .reply .unit) (e .memory) e in Inv (after c xs (opened c m)) (d .reply .unit) (d .memory)) (sym (granted-call m h s g))
+    (after-follow c xs (opened c m) (k .unit) (k .memory) o (opened-config m h s) (opened-inv m h s g) refl refl .1)

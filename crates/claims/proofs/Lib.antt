@@ -11,3 +11,6 @@ pub mod Opens
 pub mod Demands
 pub mod WordsRead
 pub mod Counted
+pub mod Safety
+pub mod Plain
+pub mod Numbers

@@ -74,13 +74,13 @@ module _ (s : State) (r : Record) (m : List ℕ) (inv : Inv s r m) where
   tested x false y e f = follows-by x s s r r (answer.Refused 4) (say.no 4) m (ap (answered c x s) e) refl refl inv
 
   -- the page of a granted walk is in the guest area
-  page-in : (st : Bool) (a : ℕ) (p : Place) → (plain c mach st a) .result ≡ granted p → InGuestArea c (p .0)
+  pub page-in : (st : Bool) (a : ℕ) (p : Place) → (plain c mach st a) .result ≡ granted p → InGuestArea c (p .0)
   unfolding plain
   page-in st a p e =
       shadow-asked c mach st (addressIndexes c a) (found.memory-stands s r m inv .inside) (found.root-small s r m inv) (indexes-all (c .levels) (pageOf a)) .grants p e
 
   -- the address of a request that passed its test fits
-  fits-of : (a : ℕ) → addressOk r a ≡ true → addressFits c a ≡ true
+  pub fits-of : (a : ℕ) → addressOk r a ≡ true → addressFits c a ≡ true
   fits-of a ok = is-true (addressFits c a) (and-left (addressFits c a) (wordAligned a) (subst T (sym ok) tt))
 
   -- what memory a translation leaves stands for the machine still
@@ -93,7 +93,7 @@ module _ (s : State) (r : Record) (m : List ℕ) (inv : Inv s r m) where
     abbrev costs : Bool → Counted
     costs st = request c mach (s .book) st a (depth (s .book .marks) (addressIndexes c a))
 
-    load-step : addressOk r a ≡ true
+    pub load-step : addressOk r a ≡ true
         → let o = access c mach (wordOf a) none ((plain c mach false a) .result) in
         step c (load a) s ≡ (lineOf (o .0) ((costs false) .references) ((costs false) .exits), record { machine = o .1; book = (costs false) .book })
     unfolding step refusal tests machineStep bookStep
@@ -132,7 +132,7 @@ module _ (s : State) (r : Record) (m : List ℕ) (inv : Inv s r m) where
     -- ---- store
     module _ (v : ℕ) where
       -- the book and the machine after a granted store
-      store-step : addressOk r a ≡ true
+      pub store-step : addressOk r a ≡ true
           → let o = access c mach (wordOf a) (some v) ((plain c mach true a) .result) in
           let k = storing (wordOf a) ((plain c mach true a) .result) (costs true) in
           step c (store a v) s ≡ (lineOf (o .0) (k .references) (k .exits), record { machine = o .1; book = k .book })

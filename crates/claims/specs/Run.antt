@@ -9,7 +9,7 @@ use Rattle.spec.specs.Call.{Call, root, map, unmap, setMark, clearMark, load, s
 use Rattle.spec.specs.Run.{State}
 use Rattle.record.specs.declared.Record.{Record}
 use Rattle.record.specs.Record.{configOf}
-use Rattle.unit.specs.Calls.{Ended, loadOf, storeCall, deviceCall, rootCall, mapCall, unmapCall, setMarkCall, clearMarkCall}
+use Rattle.unit.specs.Calls.{Ended, openCall, loadOf, storeCall, deviceCall, rootCall, mapCall, unmapCall, setMarkCall, clearMarkCall}
 
 unfoldable pub callOf : Call → Record → List ℕ → Ended
 callOf (root g) r m = rootCall r m g
@@ -36,6 +36,10 @@ unitRun (x ∷ xs) r m =
 unfoldable pub unitAfter : List Call → Record → List ℕ → Ended → Ended
 unitAfter [] r m e = e
 unitAfter (x ∷ xs) r m e = unitAfter xs (callOf x r m .reply .unit) (callOf x r m .memory) (callOf x r m)
+
+-- after an opening and a list of calls
+abbrev pub runOf : List ℕ → ℕ → ℕ → List Call → Ended
+runOf m h s xs = let e : Ended = openCall m h s in unitAfter xs (e .reply .unit) (e .memory) e
 
 -- the specification's run as it is compared: each line with the machine's guest area after it
 abbrev pub machineRun : List (Line × State) → List (Line × List ℕ)

@@ -1,0 +1,79 @@
+-- "No run that demand 3 covers meets 3 or 11": no call of a run is refused with either.
+-- Assumes nothing.
+use mathlib.Core.Path.{_≡_, refl, sym, subst}
+use mathlib.Core.Logic.{_≢_}
+use Prim.Native.Nat.{ℕ}
+use mathlib.Core.Bool.{not, _&&_}
+use mathlib.Core.List.{List, [], _∷_}
+use mathlib.Core.Option.{Option, none, some}
+use lib.Dec.{T, eqb}
+use lib.ListN.{length}
+use Rattle.spec.specs.Answer as say
+use Rattle.spec.specs.Answer.{Line}
+use Rattle.spec.specs.Config.{Config}
+use Rattle.spec.specs.Machine.{Machine}
+use Rattle.spec.specs.Book.{Book}
+use Rattle.spec.specs.Call.{Call, root, map, unmap, setMark, clearMark, load, store, device, Outcome, ok, done, value, fault, machineStep}
+use Rattle.spec.specs.Count.{bookStep}
+use Rattle.spec.specs.Refusal.{tests, refusal}
+use Rattle.spec.specs.Run.{State, lineOf, answered, step, run, opened}
+use Rattle.laws.proofs.Lists.{All, and-left, and-right, not-eqb}
+use Rattle.record.specs.Record.{configBy}
+use Rattle.record.specs.Open.{refusalOf}
+use Rattle.unit.specs.Calls.{openCall}
+use Rattle.claims.specs.Run.{unitRun, machineRun}
+use Rattle.claims.proofs.Demands.{demand-3}
+use Rattle.claims.proofs.Safety.{failed-in}
+
+abbrev pub Neither : ℕ → Type 0
+Neither n = (n ≢ 3) × (n ≢ 11)
+
+-- not refused with 3 or 11
+abbrev pub Covered : Line → Type 0
+Covered say.ok = Unit {0}
+Covered (say.value v r e) = Unit {0}
+Covered (say.done r e) = Unit {0}
+Covered (say.fault x l g r e) = Unit {0}
+Covered (say.no n) = Neither n
+
+-- the numbers of the specification's tests
+other : (n : ℕ) → T (not (eqb n 3) && not (eqb n 11)) → Neither n
+other n h = (not-eqb n 3 (and-left (not (eqb n 3)) (not (eqb n 11)) h), not-eqb n 11 (and-right (not (eqb n 3)) (not (eqb n 11)) h))
+
+tests-other : (c : Config) (x : Call) (m : Machine) (b : Book) → All (λ y. Neither (y .1)) (tests c x m b)
+unfolding tests
+tests-other c (root g) m b = (other 8 tt, tt)
+tests-other c (map g f w) m b = (other 8 tt, (other 9 tt, (other 10 tt, tt)))
+tests-other c (unmap g) m b = (other 8 tt, (other 12 tt, tt))
+tests-other c (setMark a n) m b = (other 4 tt, (other 5 tt, (other 6 tt, (other 7 tt, tt))))
+tests-other c (clearMark a n) m b = (other 4 tt, (other 5 tt, (other 6 tt, tt)))
+tests-other c (load a) m b = (other 4 tt, tt)
+tests-other c (store a v) m b = (other 4 tt, tt)
+tests-other c (device a v) m b = (other 4 tt, tt)
+
+-- ---- a step, and a run, of the specification
+step-covered : (c : Config) (x : Call) (s : State) → Covered ((step c x s) .0)
+unfolding step refusal
+step-covered c x s = go (refusal c x (s .machine) (s .book)) refl
+  where
+    said : (o : Outcome) (r e : ℕ) → Covered (lineOf o r e)
+    said ok r e = tt
+    said done r e = tt
+    said (value v) r e = tt
+    said (fault y) r e = tt
+
+    go : (o : Option ℕ) → refusal c x (s .machine) (s .book) ≡ o → Covered ((answered c x s o) .0)
+    go none q = let k = bookStep c x (s .machine) (s .book) in said ((machineStep c x (s .machine)) .0) (k .references) (k .exits)
+    go (some n) q = failed-in Neither (tests c x (s .machine) (s .book)) (tests-other c x (s .machine) (s .book)) n q
+
+run-covered : (c : Config) (xs : List Call) (s : State) → All (λ o. Covered (o .0)) (machineRun (run c xs s))
+unfolding run
+run-covered c [] s = tt
+run-covered c (x ∷ xs) s = (step-covered c x s, run-covered c xs ((step c x s) .1))
+
+-- and so of the unit
+pub never-3-nor-11 : (m : List ℕ) (h s : ℕ) (xs : List Call) → refusalOf (length m) h s ≡ 0
+    → let e = openCall m h s in All (λ o. Covered (o .0)) (unitRun xs (e .reply .unit) (e .memory))
+never-3-nor-11 m h s xs g =
+    let c = configBy (length m) h s in
+    subst (All (λ o. Covered (o .0))) (sym (demand-3 m h s xs g)) (run-covered c xs (opened c m))

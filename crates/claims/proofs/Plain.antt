@@ -1,0 +1,208 @@
+-- Demand 2: after any run, a load or a store that is not refused comes to what the plain two-level walk over that very memory
+-- comes to: the same word, or the same fault.
+-- Assumes nothing.
+use mathlib.Core.Path.{_≡_, refl, sym, ap, ap₂, _∙_, subst}
+use Prim.Native.Nat.{ℕ, suc, _+_, _*_, _≤_}
+use native.Mathlib.Omega.{arith}
+use mathlib.Core.Bool.{Bool, true, false}
+use mathlib.Core.List.{List}
+use mathlib.Core.Option.{Option, none, some}
+use lib.ListN.{length, drop, set}
+use Rattle.spec.specs.declared.Fault.{Fault}
+use Rattle.spec.specs.declared.Answer.{Answer}
+use Rattle.spec.specs.declared.Answer.the-variants as answer
+use Rattle.spec.specs.Answer as say
+use Rattle.spec.specs.Answer.{Line, line, faultLine}
+use Rattle.spec.specs.Config.{Config, guestBase}
+use Rattle.spec.specs.Entry.{wordOf, pageOf, indexes}
+use Rattle.spec.specs.Walk.{Result, granted, failed}
+use Rattle.spec.specs.Plain.{Place, walk}
+use Rattle.spec.specs.Machine.{Machine, place, wordIn}
+use Rattle.spec.specs.Book.{depth}
+use Rattle.spec.specs.Call.{Call, load, store, addressIndexes, plain, access}
+use Rattle.spec.specs.Count.{Counted, request, storing}
+use Rattle.spec.specs.Run.{State, lineOf, step, after, opened}
+use Rattle.laws.proofs.Counts.{request-count}
+use Rattle.laws.proofs.Depth.{depth-bound}
+use Rattle.words.specs.Words as words
+use Rattle.walk.specs.declared.Walked.{Walked}
+use Rattle.walk.specs.declared.Walked.the-variants as walked
+use Rattle.walk.specs.Memory.{walkedOf}
+use Rattle.walk.proofs.Stands.{plainWalked, same-word, root-walked}
+use Rattle.marks.proofs.Book.{depth-book}
+use Rattle.record.specs.declared.Record.{Record}
+use Rattle.record.specs.Record.{levels, configOf, configBy}
+use Rattle.record.specs.Open.{refusalOf}
+use Rattle.unit.specs.Calls.{Ended, refused, addressOk, depthAt, loadOf, storeCall}
+use Rattle.claims.specs.Run.{callOf, guestArea, runOf}
+use Rattle.claims.proofs.Invariant.{Inv}
+use Rattle.claims.proofs.Paths.{indexes-all}
+use Rattle.claims.proofs.Found.{memory-stands, root-small}
+use Rattle.claims.proofs.Requests.{page-in, fits-of, load-step, store-step}
+use Rattle.claims.proofs.Demands.{follows, run-inv}
+
+-- ---- a load, or a store of a value
+abbrev pub isStore : Option ℕ → Bool
+isStore none = false
+isStore (some v) = true
+
+abbrev pub requestAt : ℕ → Option ℕ → Call
+requestAt a none = load a
+requestAt a (some v) = store a v
+
+-- what it says with n references and x exits where it is granted at the word w
+abbrev pub grantedLine : Option ℕ → ℕ → ℕ → ℕ → Line
+grantedLine none w n x = say.value w n x
+grantedLine (some v) w n x = say.done n x
+
+-- what it makes of the guest area, at a place of it
+abbrev pub touched : Option ℕ → List ℕ → ℕ → List ℕ
+touched none area k = area
+touched (some v) area k = set area k v
+
+-- the plain two-level walk of a over the guest's and the host's tables as they stand in the memory
+abbrev pub plainWalk : Record → List ℕ → Bool → ℕ → Walked
+plainWalk r m st a = walkedOf (configOf r) m 0 (walk (configOf r) st (r .root) (indexes (configOf r .levels) (pageOf a)))
+
+-- e is what a request leaves that is granted at its word of host frame t. "A granted request reads (4 − d) + 5d words": N + N·d with
+-- the depth d of its address, and at most 24 with four levels
+pub record Granted (r : Record) (m : List ℕ) (a : ℕ) (v : Option ℕ) (e : Ended) (t : ℕ) : Type 0 where
+  pub exits : ℕ
+  pub says : line (e .reply .answer) ≡ grantedLine v (words.wordIn m t (wordOf a)) (levels + levels * depthAt r a) exits
+  pub most : levels + levels * depthAt r a ≤ levels + levels * suc levels
+  pub area : guestArea r (e .memory) ≡ touched v (guestArea r m) (place (configOf r) t (wordOf a))
+
+-- and one that meets the fault y
+pub record Faulted (r : Record) (m : List ℕ) (e : Ended) (y : Fault) : Type 0 where
+  pub references : ℕ
+  pub exits : ℕ
+  pub says : line (e .reply .answer) ≡ faultLine y references exits
+  pub area : guestArea r (e .memory) ≡ guestArea r m
+
+-- by what the plain walk came to
+abbrev pub AsWalked : Record → List ℕ → ℕ → Option ℕ → Ended → Walked → Type 0
+AsWalked r m a v e (walked.Arrived t w n) = Granted r m a v e (t .0)
+AsWalked r m a v e (walked.Faulted y n) = Faulted r m e y
+AsWalked r m a v e walked.Damaged = ⊥
+
+abbrev pub Unrefused : Answer → Type 0
+Unrefused answer.Ok = Unit {0}
+Unrefused (answer.Value v n x) = Unit {0}
+Unrefused (answer.Done n x) = Unit {0}
+Unrefused (answer.Faulted y n x) = Unit {0}
+Unrefused (answer.Refused n) = ⊥
+
+module _ (s : State) (r : Record) (m : List ℕ) (inv : Inv s r m) where
+  abbrev c : Config
+  c = configOf r
+
+  abbrev mach : Machine
+  mach = s .machine
+
+  -- over memory it is the machine's walk
+  plain-is : (st : Bool) (a : ℕ) → plainWalk r m st a ≡ plainWalked ((plain c mach st a) .result) ((plain c mach st a) .count)
+  unfolding plain
+  plain-is st a =
+      ap (λ x. walkedOf c m 0 (walk c st x (addressIndexes c a))) (inv .root)
+      ∙ root-walked c mach m (memory-stands s r m inv) st (mach .root) (addressIndexes c a) (root-small s r m inv) (indexes-all (c .levels) (pageOf a))
+
+  module _ (a : ℕ) (ok : addressOk r a ≡ true) where
+    deep : depthAt r a ≡ depth (s .book .marks) (addressIndexes c a)
+    deep = depth-book c (r .marks) (s .book) (omega arith) (inv .word) (inv .marks) a (fits-of s r m inv a ok)
+
+    -- the book's count before a word is stored
+    abbrev cost : Bool → Counted
+    cost st = request c mach (s .book) st a (depth (s .book .marks) (addressIndexes c a))
+
+    reads : (st : Bool) (p : Place) → (plain c mach st a) .result ≡ granted p → (cost st) .references ≡ levels + levels * depthAt r a
+    reads st p e =
+        request-count c mach (s .book) st a (depth (s .book .marks) (addressIndexes c a)) p (depth-bound (c .levels) (s .book .marks) (addressIndexes c a) (inv .book .marks)) e
+        ∙ ap (λ d. levels + levels * d) (sym deep)
+
+    few : levels + levels * depthAt r a ≤ levels + levels * suc levels
+    few = let l = depth-bound (c .levels) (s .book .marks) (addressIndexes c a) (inv .book .marks) in omega (arith, deep, l)
+
+    -- the specification's step, by the walk's result
+    abbrev stepBy : Option ℕ → Result Fault Place → Line × List ℕ
+    stepBy none x = let o = access c mach (wordOf a) none x in (lineOf (o .0) ((cost false) .references) ((cost false) .exits), o .1 .area)
+    stepBy (some v) x =
+        let o = access c mach (wordOf a) (some v) x in
+        let k = storing (wordOf a) x (cost true) in
+        (lineOf (o .0) (k .references) (k .exits), o .1 .area)
+
+    step-is : (v : Option ℕ) → let o = step c (requestAt a v) s in (o .0, o .1 .machine .area) ≡ stepBy v ((plain c mach (isStore v) a) .result)
+    step-is none = ap (λ o. (o .0, o .1 .machine .area)) (load-step s r m inv a ok)
+    step-is (some v) = ap (λ o. (o .0, o .1 .machine .area)) (store-step s r m inv a v ok)
+
+    -- and what the unit does
+    does : (v : Option ℕ) (x : Result Fault Place) → (plain c mach (isStore v) a) .result ≡ x
+        → let e = callOf (requestAt a v) r m in (line (e .reply .answer), guestArea r (e .memory)) ≡ stepBy v x
+    does v x q =
+        let f = follows (requestAt a v) s r m inv in
+        let e = callOf (requestAt a v) r m in
+        ap₂ (λ l g. (l, g)) (f .says) (ap (λ k. drop (512 * guestBase k) (e .memory)) (sym (f .config)) ∙ f .next .area)
+        ∙ step-is v ∙ ap (stepBy v) q
+
+    granted-by : (v : Option ℕ) (p : Place) → (plain c mach (isStore v) a) .result ≡ granted p → Granted r m a v (callOf (requestAt a v) r m) (p .0)
+    unfolding access storing
+    granted-by none p q =
+        let d = does none (granted p) q in
+        let w = same-word c mach m (memory-stands s r m inv) (p .0) (wordOf a) (page-in s r m inv false a p q) in
+        record {
+          exits = (cost false) .exits;
+          says = ap (λ o. o .0) d ∙ ap₂ (λ x n. say.value x n ((cost false) .exits)) (sym w) (reads false p q);
+          most = few;
+          area = ap (λ o. o .1) d ∙ sym (inv .area);
+        }
+    granted-by (some v) p q =
+        let d = does (some v) (granted p) q in
+        let x = (storing (wordOf a) (granted p) (cost true)) .exits in
+        record {
+          exits = x;
+          says = ap (λ o. o .0) d ∙ ap (λ n. say.done n x) (reads true p q);
+          most = few;
+          area = ap (λ o. o .1) d ∙ ap (λ xs. set xs (place c (p .0) (wordOf a)) v) (sym (inv .area));
+        }
+
+    faulted-by : (v : Option ℕ) (y : Fault) → (plain c mach (isStore v) a) .result ≡ failed y → Faulted r m (callOf (requestAt a v) r m) y
+    unfolding access storing
+    faulted-by none y q =
+        let d = does none (failed y) q in
+        record { references = (cost false) .references; exits = (cost false) .exits; says = ap (λ o. o .0) d; area = ap (λ o. o .1) d ∙ sym (inv .area) }
+    faulted-by (some v) y q =
+        let d = does (some v) (failed y) q in
+        record { references = (cost true) .references; exits = (cost true) .exits; says = ap (λ o. o .0) d; area = ap (λ o. o .1) d ∙ sym (inv .area) }
+
+    fits-walked : (v : Option ℕ) → AsWalked r m a v (callOf (requestAt a v) r m) (plainWalk r m (isStore v) a)
+    fits-walked v = subst (AsWalked r m a v (callOf (requestAt a v) r m)) (sym (plain-is (isStore v) a)) (go ((plain c mach (isStore v) a) .result) refl)
+      where
+        go : (x : Result Fault Place) → (plain c mach (isStore v) a) .result ≡ x
+            → AsWalked r m a v (callOf (requestAt a v) r m) (plainWalked x ((plain c mach (isStore v) a) .count))
+        go (granted p) q = granted-by v p q
+        go (failed y) q = faulted-by v y q
+
+  -- an address that does not fit is refused
+  unfit-refused : (a : ℕ) (v : Option ℕ) → addressOk r a ≡ false → callOf (requestAt a v) r m ≡ refused r 4 m
+  unfolding callOf loadOf storeCall
+  unfit-refused a none q = rw (inv .fits, q)
+  unfit-refused a (some v) q = rw (inv .fits, q)
+
+  pub as-walked : (a : ℕ) (v : Option ℕ) → Unrefused (callOf (requestAt a v) r m .reply .answer) → AsWalked r m a v (callOf (requestAt a v) r m) (plainWalk r m (isStore v) a)
+  as-walked a v u = go (addressOk r a) refl
+    where
+      go : (b : Bool) → addressOk r a ≡ b → AsWalked r m a v (callOf (requestAt a v) r m) (plainWalk r m (isStore v) a)
+      go true q = fits-walked a q v
+      go false q = absurd (subst (λ (e : Ended). Unrefused (e .reply .answer)) (unfit-refused a v q) u)
+
+-- ---- Demand 2. "While only the unit's own calls touched record and memory since an opening, a load or store that is not refused is
+-- granted exactly when the plain two-level walk grants it, and touches the same word; otherwise its fault is that walk's"
+
+pub demand-2 : (m : List ℕ) (h s : ℕ) (xs : List Call) → refusalOf (length m) h s ≡ 0 → (a : ℕ) (v : Option ℕ)
+    → let u = runOf m h s xs in
+    let r = u .reply .unit in
+    let n = u .memory in
+    let e = callOf (requestAt a v) r n in
+    Unrefused (e .reply .answer) → AsWalked r n a v e (plainWalk r n (isStore v) a)
+demand-2 m h s xs g a v =
+    let u = runOf m h s xs in
+    as-walked (after (configBy (length m) h s) xs (opened (configBy (length m) h s) m)) (u .reply .unit) (u .memory) (run-inv m h s xs g) a v

@@ -1,0 +1,548 @@
+-- Demand 1: whatever the record, the memory and the numbers, a fault changes no guest word and a refusal changes nothing, but for
+-- the tables of a memory found damaged. That each call ends, and inside the memory lent, is that the calls are proved functions.
+-- Assumes nothing.
+use mathlib.Core.Path.{_≡_, refl, sym, ap, _∙_, subst}
+use mathlib.Core.Logic.{_≢_, _⊎_, inl, inr}
+use Prim.Native.Nat.{ℕ, zero, suc, _+_, _-_, _*_, _/_, _^_, _<_, _≤_}
+use native.Mathlib.Omega.{arith}
+use native.Mathlib.Decide.{ℕ-discrete}
+use borrow.Author.Tests.{eqb-false}
+use mathlib.Core.Bool.{Bool, true, false, cond}
+use mathlib.Core.List.{List, [], _∷_}
+use mathlib.Core.Option.{Option, none, some}
+use lib.Dec.{eqb}
+use lib.ListN.{length, drop, set, getD, length-drop, length-set}
+use lib.Seq.{getD-drop, ext-getD}
+use Rattle.spec.specs.declared.Fault.{Fault}
+use Rattle.spec.specs.declared.Answer.{Answer}
+use Rattle.spec.specs.declared.Answer.the-variants as answer
+use Rattle.spec.specs.Config.{Config, guestBase}
+use Rattle.spec.specs.Entry.{present, pageOf, wordOf, indexes}
+use Rattle.spec.specs.Plain.{next}
+use Rattle.spec.specs.Machine.{place}
+use Rattle.spec.specs.Call.{Call, root, map, unmap, setMark, clearMark, load, store, device}
+use Rattle.spec.specs.Refusal.{firstFailed, frameFits, inGuestArea, wordsFit, areasFit, openRefusal}
+use Rattle.laws.proofs.Lists.{All}
+use Rattle.entry.proofs.Entries.{word-fits}
+use Rattle.area.specs.declared.Area.{Area}
+use Rattle.area.specs.declared.Pool.{Pool}
+use Rattle.area.specs.declared.Way.{Way}
+use Rattle.area.specs.declared.Way.the-variants.{To, Not, Bad}
+use Rattle.words.specs.Words.{at, setIn}
+use Rattle.area.specs.Header.{entryIn, putOf, bareOf}
+use Rattle.area.specs.Pool.{onWay, End, end, noneOf}
+use Rattle.area.specs.Tree.{roomOf, topOf, enterOf, descendOf, downOf, placeOf, insertOf}
+use Rattle.area.specs.Remove.{unhangOf, shutOf, releaseOf, lastOf, lastIndex, clearOf, removeOf}
+use Rattle.area.specs.Outside.{SameOutside}
+use Rattle.area.proofs.Outside.{indexes-narrow, out-refl, out-trans, insert-out, remove-out}
+use Rattle.tree.specs.Host.{hostEntry}
+use Rattle.tree.proofs.Change.{some-inj, not-some}
+use Rattle.host.specs.declared.HostWalk.{HostWalk}
+use Rattle.host.specs.declared.HostWalk.the-variants as host
+use Rattle.host.specs.Walk.{hostWalkOf}
+use Rattle.host.specs.Map.{hostArea, Changed, changes, changed, changeBy, changedBy, mapOf, unmapOf}
+use Rattle.host.proofs.Laws.{InGuestArea}
+use Rattle.walk.specs.declared.Walked.{Walked}
+use Rattle.walk.specs.declared.Walked.the-variants as walked
+use Rattle.walk.specs.Memory.{walkedOf}
+use Rattle.marks.specs.declared.Marks.{Marks}
+use Rattle.marks.specs.Key.{keyOf}
+use Rattle.marks.specs.Table.{number, withKey, withoutKey, setTests, setRefusal, clearTests, clearRefusal}
+use Rattle.record.specs.declared.Record.{Record}
+use Rattle.record.specs.Record.{levels, configOf, configBy, fitsOf, withMarks, zeros}
+use Rattle.record.specs.Open.{refusalOf}
+use Rattle.record.proofs.Rules.{Fits, fits-layout}
+use Rattle.record.proofs.Opening.{granted-long, granted-guest}
+use Rattle.shadow.specs.declared.Cut.the-variants.{Names}
+use Rattle.shadow.specs.Drop.{Outcome, scanOf, dropPrefixOf}
+use Rattle.shadow.proofs.Outside.{scan-out, prefix-out}
+use Rattle.request.specs.Translate.{Out}
+use Rattle.request.specs.Store.{Stored, storeOf}
+use Rattle.request.proofs.Fits.{ArrivedIn}
+use Rattle.request.proofs.Leaves.{store-leaves}
+use Rattle.request.proofs.Device.{device-in}
+use Rattle.unit.specs.Calls.{Ended, ended, refused, judged, withHeld, withHost, addressOk, deviceOk, translatedOf, loadBy, loadOf, writtenBy, storeBy, storeCall, deviceBy, deviceCall, rootCall, droppedBy, unmappedOf, mappedBy, mapCall, unmapCall, topAfter, markedOf, keysOf, setMarkCall, clearMarkCall, openCall}
+use Rattle.unit.proofs.Ranges.{leaves}
+use Rattle.claims.specs.Run.{callOf, guestArea}
+use Rattle.claims.proofs.Puts.{area-store}
+use Rattle.claims.proofs.Opens.{granted-call, refused-call}
+
+-- ---- what a call may change, by its answer
+
+-- no guest word: n is as long as m and has its guest area, so that only host and shadow frames differ
+pub record GuestKept (r : Record) (m n : List ℕ) : Type 0 where
+  pub long : length n ≡ length m
+  pub area : guestArea r n ≡ guestArea r m
+
+-- one guest word
+pub record OneWord (r : Record) (m n : List ℕ) : Type 0 where
+  pub long : length n ≡ length m
+  pub place : ℕ
+  pub word : ℕ
+  pub inside : place < length (guestArea r m)
+  pub area : guestArea r n ≡ set (guestArea r m) place word
+
+-- the numbers of the refusals of later calls
+abbrev pub Numbered : ℕ → Type 0
+Numbered n = (3 ≤ n) × (n ≤ 12)
+
+-- "A refusal changes nothing, but for the tables of a memory found damaged": that is 11
+pub record RefusalKept (r : Record) (m : List ℕ) (e : Ended) (n : ℕ) : Type 0 where
+  pub numbered : Numbered n
+  pub unit : e .reply .unit ≡ r
+  pub guest : GuestKept r m (e .memory)
+  pub whole : n ≢ 11 → e .memory ≡ m
+
+-- "A fault changes no guest word"; nor does a load or a call that yields no number. A store changes one
+abbrev pub Keeps : Record → List ℕ → Ended → Answer → Type 0
+Keeps r m e answer.Ok = GuestKept r m (e .memory)
+Keeps r m e (answer.Value v n x) = GuestKept r m (e .memory)
+Keeps r m e (answer.Done n x) = OneWord r m (e .memory)
+Keeps r m e (answer.Faulted y n x) = GuestKept r m (e .memory)
+Keeps r m e (answer.Refused n) = RefusalKept r m e n
+
+abbrev Kept : Record → List ℕ → Ended → Type 0
+Kept r m e = Keeps r m e (e .reply .answer)
+
+-- ---- host and shadow frames
+abbrev Tables : Record → List ℕ → List ℕ → Type 0
+Tables r m n = SameOutside 0 (guestBase (configOf r)) m n
+
+-- a part of them
+wider : (b s e : ℕ) (m n : List ℕ) → b + s ≤ e → SameOutside b s m n → SameOutside 0 e m n
+wider b s e m n l x = record { long = x .long; same = word }
+  where
+    word : (j : ℕ) → (j < 0 * 512) ⊎ ((0 + e) * 512 ≤ j) → getD n j 0 ≡ getD m j 0
+    word j (inl k) = absurd (omega arith)
+    word j (inr k) = x .same j (inr (omega arith))
+
+guest-kept : (r : Record) (m n : List ℕ) → Tables r m n → GuestKept r m n
+guest-kept r m n x = record {
+  long = x .long;
+  area =
+      let k = 512 * guestBase (configOf r) in
+      ext-getD 0 (drop k n) (drop k m) (length-drop k n ∙ ap (λ z. z - k) (x .long) ∙ sym (length-drop k m))
+      (λ i h. getD-drop k n i 0 ∙ x .same (k + i) (inr (omega arith)) ∙ sym (getD-drop k m i 0));
+}
+
+module _ (r : Record) (m : List ℕ) where
+  none-changed : Tables r m m
+  none-changed = out-refl 0 (guestBase (configOf r)) m
+
+  host-tables : (n : List ℕ) → SameOutside 0 (r .hosts) m n → Tables r m n
+  host-tables n x = wider 0 (r .hosts) (guestBase (configOf r)) m n (omega arith) x
+
+  shadow-tables : (n : List ℕ) → SameOutside (r .hosts) (r .shadows) m n → Tables r m n
+  shadow-tables n x = wider (r .hosts) (r .shadows) (guestBase (configOf r)) m n (omega arith) x
+
+  -- ---- refusals
+  damage-kept : (n : List ℕ) → Tables r m n → Kept r m (refused r 11 n)
+  damage-kept n x = record { numbered = (omega arith, omega arith); unit = refl; guest = guest-kept r m n x; whole = λ e. absurd (e refl) }
+
+  refusal-kept : (n : ℕ) → Numbered n → Kept r m (refused r n m)
+  refusal-kept n l = record { numbered = l; unit = refl; guest = guest-kept r m m none-changed; whole = λ e. refl }
+
+  -- the test with 3, and one with its own number
+  judged-kept : (e : Ended) → (fitsOf r (length m) ≡ true → Kept r m e) → Kept r m (judged r m e)
+  judged-kept e f = go (fitsOf r (length m)) refl
+    where
+      go : (b : Bool) → fitsOf r (length m) ≡ b → Kept r m (cond b e (refused r 3 m))
+      go true q = f q
+      go false q = refusal-kept 3 (omega arith, omega arith)
+
+  tested-kept : (b : Bool) (e : Ended) (n : ℕ) → Numbered n → Kept r m e → Kept r m (cond b e (refused r n m))
+  tested-kept true e n l k = k
+  tested-kept false e n l k = refusal-kept n l
+
+-- ---- an insert or a remove that answers Not has changed nothing
+abbrev Sure : Way → Type 0
+Sure (To f) = Unit {0}
+Sure Not = ⊥
+Sure Bad = Unit {0}
+
+abbrev NotLeaves : List ℕ → List ℕ → Way → Type 0
+NotLeaves m n (To f) = Unit {0}
+NotLeaves m n Not = n ≡ m
+NotLeaves m n Bad = Unit {0}
+
+abbrev Refuses : List ℕ → End → Type 0
+Refuses m t = NotLeaves m (t .memory) (t .went .way)
+
+sure-leaves : (m n : List ℕ) (w : Way) → Sure w → NotLeaves m n w
+sure-leaves m n (To f) s = tt
+sure-leaves m n Not s = absurd s
+sure-leaves m n Bad s = tt
+
+module _ (a : Area) where
+  -- once a frame is handed out, no room is damage
+  down-sure : (is guests : List ℕ) (p : Pool) (m : List ℕ) (d f i e : ℕ) → Sure (downOf a guests p m d f i is e .went .way)
+  unfolding downOf
+  down-sure [] guests p m d f i e = tt
+  down-sure (j ∷ is) guests p m d f i e = go (t .went .way) (λ h. down-sure is guests (t .went .pool) (t .memory) (d + 1) h j e)
+    where
+      t : End
+      t = descendOf a p m (getD guests (d + 1) 0) (a .levels - (d + 1)) f i
+
+      go : (w : Way) → ((h : ℕ) → Sure (downOf a guests (t .went .pool) (t .memory) (d + 1) h j is e .went .way))
+          → Sure (onWay w (end (t .went .pool) Bad (t .memory)) (end (t .went .pool) Bad (t .memory)) (λ h. downOf a guests (t .went .pool) (t .memory) (d + 1) h j is e) .went .way)
+      go (To h) k = k h
+      go Not k = tt
+      go Bad k = tt
+
+  place-sure : (guests : List ℕ) (p : Pool) (m : List ℕ) (i : ℕ) (is : List ℕ) (e : ℕ) → Sure (placeOf a guests p m i is e .went .way)
+  unfolding placeOf
+  place-sure guests p m i is e = go (t .went .way)
+    where
+      t : End
+      t = enterOf a p m (getD guests 0 0)
+
+      go : (w : Way)
+          → Sure (onWay w (end (t .went .pool) Bad (t .memory)) (end (t .went .pool) Bad (t .memory)) (λ f. downOf a guests (t .went .pool) (t .memory) 0 f i is e) .went .way)
+      go (To f) = down-sure is guests (t .went .pool) (t .memory) 0 f i e
+      go Not = tt
+      go Bad = tt
+
+  insert-refuses : (guests : List ℕ) (p : Pool) (m is : List ℕ) (e : ℕ) → Refuses m (insertOf a guests p m is e)
+  unfolding insertOf
+  insert-refuses guests p m [] e = refl
+  insert-refuses guests p m (i ∷ is) e = go (roomOf a p m (i ∷ is))
+    where
+      go : (w : Way) → Refuses m (onWay w (end p Not m) (end p Bad m) (λ n. placeOf a guests p m i is e))
+      go (To n) = let t = placeOf a guests p m i is e in sure-leaves m (t .memory) (t .went .way) (place-sure guests p m i is e)
+      go Not = refl
+      go Bad = tt
+
+  shut-sure : (stays : Bool) (p : Pool) (m : List ℕ) → Sure (shutOf a stays p m .went .way)
+  unfolding shutOf
+  shut-sure true p m = tt
+  shut-sure false p m = go (bareOf m (a .base) 512)
+    where
+      go : (b : Bool) → Sure (cond b (end noneOf (To (a .base)) (setIn m (a .base) 1 0)) (end p (To (a .base)) m) .went .way)
+      go true = tt
+      go false = tt
+
+  release-sure : (k : ℕ) (stays : Bool) (p : Pool) (m : List ℕ) (f : ℕ) → Sure (releaseOf a stays p m k f .went .way)
+  unfolding releaseOf
+  release-sure zero stays p m f = shut-sure stays p m
+  release-sure (suc k) stays p m f = go (t .went .way) (λ h. release-sure k stays (t .went .pool) (t .memory) h)
+    where
+      t : End
+      t = unhangOf a p m f
+
+      go : (w : Way) → ((h : ℕ) → Sure (releaseOf a stays (t .went .pool) (t .memory) k h .went .way))
+          → Sure (onWay w (end (t .went .pool) (To f) (t .memory)) (end (t .went .pool) Bad (t .memory)) (λ h. releaseOf a stays (t .went .pool) (t .memory) k h) .went .way)
+      go (To h) g = g h
+      go Not g = tt
+      go Bad g = tt
+
+  clear-refuses : (stays : Bool) (p : Pool) (m : List ℕ) (k f i : ℕ) → Refuses m (clearOf a stays p m k f i)
+  unfolding clearOf
+  clear-refuses stays p m k f i = go (present (entryIn m f i))
+    where
+      go : (b : Bool) → Refuses m (cond b (releaseOf a stays p (putOf m f i 0) k f) (end p Not m))
+      go true =
+          let t = releaseOf a stays p (putOf m f i 0) k f in
+          sure-leaves m (t .memory) (t .went .way) (release-sure k stays p (putOf m f i 0) f)
+      go false = refl
+
+  remove-refuses : (stays : Bool) (p : Pool) (m is : List ℕ) → Refuses m (removeOf a stays p m is)
+  unfolding removeOf
+  remove-refuses stays p m [] = refl
+  remove-refuses stays p m (i ∷ is) = go (lastOf (a .base) (a .size) m (topOf (a .base) (p .fresh)) i is)
+    where
+      go : (w : Way) → Refuses m (onWay w (end p Not m) (end p Bad m) (λ f. clearOf a stays p m (length is) f (lastIndex i is)))
+      go (To f) = clear-refuses stays p m (length is) f (lastIndex i is)
+      go Not = refl
+      go Bad = tt
+
+-- ---- a change of the mapping
+record ChangeKept (c : Config) (m : List ℕ) (t : Changed) : Type 0 where
+  same : SameOutside 0 (c .hosts) m (t .memory)
+  numbered : t .change .refusal ≢ 0 → Numbered (t .change .refusal)
+  whole : t .change .refusal ≢ 0 → t .change .refusal ≢ 11 → t .memory ≡ m
+
+module _ (c : Config) (p : Pool) (m : List ℕ) where
+  stay-kept : (n : ℕ) → Numbered n → ChangeKept c m (changed p n m)
+  stay-kept n l = record { same = out-refl 0 (c .hosts) m; numbered = λ z. l; whole = λ z e. refl }
+
+  change-kept : (n : ℕ) (t : End) → Numbered n → SameOutside 0 (c .hosts) m (t .memory) → Refuses m t → ChangeKept c m (changedBy p n t)
+  change-kept n t l x f = go (t .went .way) f
+    where
+      go : (w : Way) → NotLeaves m (t .memory) w → ChangeKept c m (changes (changeBy p (t .went .pool) n w) (t .memory))
+      go (To g) k = record { same = x; numbered = λ z. absurd (z refl); whole = λ z e. absurd (z refl) }
+      go Not k = record { same = x; numbered = λ z. l; whole = λ z e. k }
+      go Bad k = record { same = x; numbered = λ z. (omega arith, omega arith); whole = λ z e. absurd (e refl) }
+
+  map-kept : 0 < c .hosts → (g f : ℕ) (w : Bool) → ChangeKept c m (mapOf c p m g f w)
+  unfolding mapOf
+  map-kept room g f w = go (frameFits c g) (inGuestArea c f)
+    where
+      t : End
+      t = insertOf (hostArea c) [] p m (indexes (c .levels) g) (hostEntry f w)
+
+      go : (a b : Bool) → ChangeKept c m (cond a (cond b (changedBy p 10 t) (changed p 9 m)) (changed p 8 m))
+      go true true =
+          change-kept 10 t (omega arith, omega arith) (insert-out (hostArea c) room [] p m (indexes (c .levels) g) (hostEntry f w) (indexes-narrow (c .levels) g))
+          (insert-refuses (hostArea c) [] p m (indexes (c .levels) g) (hostEntry f w))
+      go true false = stay-kept 9 (omega arith, omega arith)
+      go false b = stay-kept 8 (omega arith, omega arith)
+
+  unmap-kept : 0 < c .hosts → (g : ℕ) → ChangeKept c m (unmapOf c p m g)
+  unfolding unmapOf
+  unmap-kept room g = go (frameFits c g)
+    where
+      t : End
+      t = removeOf (hostArea c) true p m (indexes (c .levels) g)
+
+      go : (a : Bool) → ChangeKept c m (cond a (changedBy p 12 t) (changed p 8 m))
+      go true =
+          change-kept 12 t (omega arith, omega arith) (remove-out (hostArea c) room true p m (indexes (c .levels) g) (indexes-narrow (c .levels) g))
+          (remove-refuses (hostArea c) true p m (indexes (c .levels) g))
+      go false = stay-kept 8 (omega arith, omega arith)
+
+-- ---- the calls
+-- the number of the first test that failed has what the numbers of all tests have
+pub failed-in : (P : ℕ → Type 0) (xs : List (Bool × ℕ)) → All (λ x. P (x .1)) xs → (n : ℕ) → firstFailed xs ≡ some n → P n
+failed-in P [] a n e = absurd (not-some refl e)
+failed-in P (x ∷ xs) a n e = go (x .0) e (failed-in P xs (a .1) n)
+  where
+    go : (b : Bool) → cond b (firstFailed xs) (some (x .1)) ≡ some n → (firstFailed xs ≡ some n → P n) → P n
+    go true k ih = ih k
+    go false k ih = subst P (some-inj k) (a .0)
+
+number-in : (P : ℕ → Type 0) (xs : List (Bool × ℕ)) → All (λ x. P (x .1)) xs → number (firstFailed xs) ≢ 0 → P (number (firstFailed xs))
+number-in P xs a = go (firstFailed xs) refl
+  where
+    go : (o : Option ℕ) → firstFailed xs ≡ o → number o ≢ 0 → P (number o)
+    go none q n = absurd (n refl)
+    go (some k) q n = failed-in P xs a k q
+
+module _ (r : Record) (m : List ℕ) where
+  -- held paths are dropped, after the host tables may have changed
+  dropped-kept : (q : Record) (top : ℕ) (n : List ℕ) (o : Outcome) → Tables r m n → SameOutside (r .hosts) (r .shadows) n (o .memory) → Kept r m (droppedBy r q top o)
+  dropped-kept q top n o x y = go (o .left .ok)
+    where
+      all : Tables r m (o .memory)
+      all = out-trans 0 (guestBase (configOf r)) m n (o .memory) (shadow-tables r n (o .memory) y) x
+
+      go : (b : Bool) → Kept r m (cond b (ended (withHeld q (o .left .pool) top) answer.Ok (o .memory)) (refused r 11 (o .memory)))
+      go true = guest-kept r m (o .memory) all
+      go false = damage-kept r m (o .memory) all
+
+  -- ---- load, store, device store
+  loaded-kept : (a : ℕ) (o : Out) → Tables r m (o .memory) → (w : Walked) → Kept r m (loadBy r a o w)
+  loaded-kept a o x (walked.Arrived t w n) = guest-kept r m (o .memory) x
+  loaded-kept a o x (walked.Faulted y n) = guest-kept r m (o .memory) x
+  loaded-kept a o x walked.Damaged = damage-kept r m (o .memory) x
+
+  load-kept : (a : ℕ) → Kept r m (loadOf r m a)
+  unfolding loadOf
+  load-kept a =
+      let o = translatedOf r m false a in
+      judged-kept r m _ (λ f. tested-kept r m (addressOk r a) _ 4 (omega arith, omega arith)
+      (loaded-kept a o (shadow-tables r m (o .memory) (leaves r (length m) f m false a o refl .same)) (o .translated .walked)))
+
+  -- a store that came to word i of host frame t; n is the memory after its translation
+  written-kept : Fits r (length m) → (top k x : ℕ) (n : List ℕ) (p : Pool) (t i v : ℕ) → Tables r m n → p .fresh ≤ r .shadows → InGuestArea (configOf r) t → i < 512
+      → Kept r m (writtenBy r top k x (storeOf (configOf r) n p t i v))
+  written-kept f top k x n p t i v y h g l = go (s .put .ok) (store-leaves (configOf r) n p t i v h .same)
+    where
+      c : Config
+      c = configOf r
+
+      s : Stored
+      s = storeOf c n p t i v
+
+      inside : place c t i < length (guestArea r m)
+      inside =
+          let e = length-drop (512 * guestBase c) m in
+          omega (arith, e, g .0, g .1, f .long, f .sizes .whole)
+
+      go : (b : Bool) → SameOutside (r .hosts) (r .shadows) (cond b (setIn n t i v) n) (s .memory)
+          → Kept r m (cond b (ended (withHeld r (s .put .pool) top) (answer.Done k (x + s .put .exits)) (s .memory)) (refused r 11 (s .memory)))
+      go true z = record {
+        long = z .long ∙ length-set n (at t i) v ∙ y .long;
+        place = place c t i;
+        word = v;
+        inside = inside;
+        area = guest-kept r (setIn n t i v) (s .memory) (shadow-tables r (setIn n t i v) (s .memory) z) .area ∙ area-store c n t i v (g .0)
+            ∙ ap (λ xs. set xs (place c t i) v) (guest-kept r m n y .area);
+      }
+      go false z = damage-kept r m (s .memory) (out-trans 0 (guestBase c) m n (s .memory) (shadow-tables r n (s .memory) z) y)
+
+  stored-kept : Fits r (length m) → (a v : ℕ) (o : Out) → Tables r m (o .memory) → o .translated .pool .fresh ≤ r .shadows → (w : Walked) → ArrivedIn (configOf r) w → Kept r m (storeBy r a v o w)
+  stored-kept f a v o x h (walked.Arrived t w n) g =
+      written-kept f (o .translated .top) n (o .translated .exits) (o .memory) (o .translated .pool) (t .0) (wordOf a) v x h g (word-fits a)
+  stored-kept f a v o x h (walked.Faulted y n) g = guest-kept r m (o .memory) x
+  stored-kept f a v o x h walked.Damaged g = damage-kept r m (o .memory) x
+
+  store-kept : (a v : ℕ) → Kept r m (storeCall r m a v)
+  unfolding storeCall
+  store-kept a v =
+      let o = translatedOf r m true a in
+      judged-kept r m _ (λ f. tested-kept r m (addressOk r a) _ 4 (omega arith, omega arith)
+      (let l = leaves r (length m) f m true a o refl in
+      stored-kept (fits-layout r (length m) f) a v o (shadow-tables r m (o .memory) (l .same)) (l .fresh) (o .translated .walked) (l .arrived)))
+
+  device-kept : (a v : ℕ) → Kept r m (deviceCall r m a v)
+  unfolding deviceCall
+  device-kept a v =
+      judged-kept r m _ (λ f. tested-kept r m (deviceOk r a) _ 4 (omega arith, omega arith)
+      (go (fits-layout r (length m) f) (walkedOf (configOf r) m 0 (next true true (pageOf a) true)) (device-in (configOf r) m (pageOf a))))
+    where
+      go : Fits r (length m) → (w : Walked) → ArrivedIn (configOf r) w → Kept r m (deviceBy r m a v w)
+      go f (walked.Arrived t w n) g =
+          written-kept f (r .top) n 0 m (r .shadow) (t .0) (wordOf a) v (none-changed r m) (f .shadow .0) g (word-fits a)
+      go f (walked.Faulted y n) g = guest-kept r m m (none-changed r m)
+      go f walked.Damaged g = damage-kept r m m (none-changed r m)
+
+  -- ---- root, map, unmap
+  root-kept : (g : ℕ) → Kept r m (rootCall r m g)
+  unfolding rootCall
+  root-kept g =
+      judged-kept r m _ (λ f. tested-kept r m (frameFits (configOf r) g) _ 8 (omega arith, omega arith) (guest-kept r m m (none-changed r m)))
+
+  unmapped-kept : (q : Record) (n : List ℕ) (g : ℕ) → r .shadow .fresh ≤ r .shadows → Tables r m n → Kept r m (unmappedOf r q n g)
+  unfolding unmappedOf
+  unmapped-kept q n g h x = go (eqb g (r .root))
+    where
+      o : Outcome
+      o = scanOf (configOf r) (Names (record { 0 = g })) (r .shadow) n
+
+      go : (b : Bool) → Kept r m (cond b (ended (withHeld q noneOf 0) answer.Ok n) (droppedBy r q (r .top) o))
+      go true = guest-kept r m n x
+      go false = dropped-kept q (r .top) n o x (scan-out (configOf r) (Names (record { 0 = g })) (r .shadow) n h)
+
+  mapped-kept : (p : Pool) (n : List ℕ) (g : ℕ) → r .shadow .fresh ≤ r .shadows → Tables r m n → (w : HostWalk) → Kept r m (mappedBy r p n g w)
+  mapped-kept p n g h x (host.Found f w) = unmapped-kept (withHost r p) n g h x
+  mapped-kept p n g h x (host.Absent k) = guest-kept r m n x
+  mapped-kept p n g h x host.Damaged = damage-kept r m n x
+
+  -- the mapping changed, or the refusal of the change
+  changed-kept : (t : Changed) (e : Ended) → ChangeKept (configOf r) m t → (Tables r m (t .memory) → Kept r m e) → Kept r m (cond (eqb (t .change .refusal) 0) e (refused r (t .change .refusal) (t .memory)))
+  changed-kept t e k f = go (eqb (t .change .refusal) 0) refl
+    where
+      all : Tables r m (t .memory)
+      all = host-tables r m (t .memory) (k .same)
+
+      go : (b : Bool) → eqb (t .change .refusal) 0 ≡ b → Kept r m (cond b e (refused r (t .change .refusal) (t .memory)))
+      go true q = f all
+      go false q =
+          let z = eqb-false (t .change .refusal) 0 q in
+          record { numbered = k .numbered z; unit = refl; guest = guest-kept r m (t .memory) all; whole = k .whole z }
+
+  map-call-kept : (g f : ℕ) (w : Bool) → Kept r m (mapCall r m g f w)
+  unfolding mapCall
+  map-call-kept g f w =
+      let t = mapOf (configOf r) (r .host) m g f w in
+      judged-kept r m _ (λ e. let z = fits-layout r (length m) e in
+      changed-kept t _ (map-kept (configOf r) (r .host) m (omega (arith, z .sizes .hosts)) g f w)
+      (λ x. mapped-kept (t .change .pool) (t .memory) g (z .shadow .0) x (hostWalkOf (configOf r) m g)))
+
+  unmap-call-kept : (g : ℕ) → Kept r m (unmapCall r m g)
+  unfolding unmapCall
+  unmap-call-kept g =
+      let t = unmapOf (configOf r) (r .host) m g in
+      judged-kept r m _ (λ e. let z = fits-layout r (length m) e in
+      changed-kept t _ (unmap-kept (configOf r) (r .host) m (omega (arith, z .sizes .hosts)) g)
+      (λ x. unmapped-kept (withHost r (t .change .pool)) (t .memory) g (z .shadow .0) x))
+
+  -- ---- marks
+  marked-kept : (x a n : ℕ) (t : Marks) → (x ≢ 0 → Numbered x) → Kept r m (judged r m (cond (eqb x 0) (markedOf r m a n t) (refused r x m)))
+  unfolding markedOf
+  marked-kept x a n t l = judged-kept r m _ (λ f. go (fits-layout r (length m) f .shadow .0) (eqb x 0) refl)
+    where
+      is : List ℕ
+      is = indexes (levels - n) (pageOf a / 2 ^ (9 * n))
+
+      go : r .shadow .fresh ≤ r .shadows → (b : Bool) → eqb x 0 ≡ b
+          → Kept r m (cond b (droppedBy r (withMarks r t) (topAfter n (r .top)) (dropPrefixOf (configOf r) (r .shadow) m is)) (refused r x m))
+      go h true q =
+          dropped-kept (withMarks r t) (topAfter n (r .top)) m (dropPrefixOf (configOf r) (r .shadow) m is) (none-changed r m) (prefix-out (configOf r) (r .shadow) m is h)
+      go h false q = refusal-kept r m x (l (eqb-false x 0 q))
+
+  set-kept : (a n : ℕ) → Kept r m (setMarkCall r m a n)
+  unfolding setMarkCall setRefusal
+  set-kept a n =
+      let l : (Numbered 4 × (Numbered 5 × (Numbered 6 × (Numbered 7 × Unit {0})))) = ((omega arith, omega arith), ((omega arith, omega arith), ((omega arith, omega arith), ((omega arith, omega arith), tt)))) in
+      marked-kept (number (setRefusal levels (keysOf r) a n)) a n (withKey (r .marks) (keyOf n (pageOf a))) (number-in Numbered (setTests levels (keysOf r) a n) l)
+
+  clear-kept : (a n : ℕ) → Kept r m (clearMarkCall r m a n)
+  unfolding clearMarkCall clearRefusal
+  clear-kept a n =
+      let l : (Numbered 4 × (Numbered 5 × (Numbered 6 × Unit {0}))) = ((omega arith, omega arith), ((omega arith, omega arith), ((omega arith, omega arith), tt))) in
+      marked-kept (number (clearRefusal levels (keysOf r) a n)) a n (withoutKey (r .marks) (keyOf n (pageOf a))) (number-in Numbered (clearTests levels (keysOf r) a n) l)
+
+-- ---- Demand 1. "Any request, with numbers, record and memory sound or spoiled, ends inside the memory lent with an answer, a named
+-- fault or a numbered refusal. A fault changes no guest word. A refusal changes nothing, but for the tables of a memory found
+-- damaged"
+pub demand-1 : (x : Call) (r : Record) (m : List ℕ) → Keeps r m (callOf x r m) (callOf x r m .reply .answer)
+unfolding callOf
+demand-1 (root g) r m = root-kept r m g
+demand-1 (map g f w) r m = map-call-kept r m g f w
+demand-1 (unmap g) r m = unmap-call-kept r m g
+demand-1 (setMark a n) r m = set-kept r m a n
+demand-1 (clearMark a n) r m = clear-kept r m a n
+demand-1 (load a) r m = load-kept r m a
+demand-1 (store a v) r m = store-kept r m a v
+demand-1 (device a v) r m = device-kept r m a v
+
+-- an opening: granted, it keeps the guest words; refused, it returns a record of zeros and leaves the memory
+abbrev pub OpenKeeps : List ℕ → ℕ → ℕ → Ended → Answer → Type 0
+OpenKeeps m h s e answer.Ok = (length (e .memory) ≡ length m) × (drop (512 * (h + s)) (e .memory) ≡ drop (512 * (h + s)) m)
+OpenKeeps m h s e (answer.Value v n x) = ⊥
+OpenKeeps m h s e (answer.Done n x) = ⊥
+OpenKeeps m h s e (answer.Faulted y n x) = ⊥
+OpenKeeps m h s e (answer.Refused n) = ((n ≡ 1) ⊎ (n ≡ 2)) × (e .reply .unit ≡ zeros) × (e .memory ≡ m)
+
+open-numbers : (words h s : ℕ) → refusalOf words h s ≢ 0 → (refusalOf words h s ≡ 1) ⊎ (refusalOf words h s ≡ 2)
+unfolding refusalOf openRefusal
+open-numbers words h s = number-in (λ n. (n ≡ 1) ⊎ (n ≡ 2)) ((wordsFit words, 1) ∷ (areasFit (configBy words h s), 2) ∷ []) (inl refl, (inr refl, tt))
+
+pub demand-1-open : (m : List ℕ) (h s : ℕ) → OpenKeeps m h s (openCall m h s) (openCall m h s .reply .answer)
+demand-1-open m h s = go (ℕ-discrete (refusalOf (length m) h s) 0)
+  where
+    go : Dec (refusalOf (length m) h s ≡ 0) → OpenKeeps m h s (openCall m h s) (openCall m h s .reply .answer)
+    go (yes e) = rw (granted-call m h s e) (granted-long m h s e, granted-guest m h s e)
+    go (no n) = rw (refused-call m h s n) (open-numbers (length m) h s n, refl, refl)
+
+-- ---- its parts
+
+-- the memory that a call leaves is as long as the one lent
+pub same-length : (x : Call) (r : Record) (m : List ℕ) → length (callOf x r m .memory) ≡ length m
+same-length x r m = go (callOf x r m .reply .answer) (demand-1 x r m)
+  where
+    go : (a : Answer) → Keeps r m (callOf x r m) a → length (callOf x r m .memory) ≡ length m
+    go answer.Ok k = k .long
+    go (answer.Value v n y) k = k .long
+    go (answer.Done n y) k = k .long
+    go (answer.Faulted z n y) k = k .long
+    go (answer.Refused n) k = k .guest .long
+
+pub same-length-open : (m : List ℕ) (h s : ℕ) → length (openCall m h s .memory) ≡ length m
+same-length-open m h s = go (openCall m h s .reply .answer) (demand-1-open m h s)
+  where
+    go : (a : Answer) → OpenKeeps m h s (openCall m h s) a → length (openCall m h s .memory) ≡ length m
+    go answer.Ok k = k .0
+    go (answer.Value v n y) k = absurd k
+    go (answer.Done n y) k = absurd k
+    go (answer.Faulted z n y) k = absurd k
+    go (answer.Refused n) k = ap length (k .2)
+
+module _ (x : Call) (r : Record) (m : List ℕ) where
+  -- "A fault changes no guest word"
+  pub fault-keeps : (y : Fault) (n k : ℕ) → callOf x r m .reply .answer ≡ answer.Faulted y n k → guestArea r (callOf x r m .memory) ≡ guestArea r m
+  fault-keeps y n k e = subst (Keeps r m (callOf x r m)) e (demand-1 x r m) .area
+
+  -- "A refusal changes nothing"
+  pub refusal-keeps : (n : ℕ) → callOf x r m .reply .answer ≡ answer.Refused n → n ≢ 11 → callOf x r m ≡ refused r n m
+  refusal-keeps n e z =
+      let k : RefusalKept r m (callOf x r m) n = subst (Keeps r m (callOf x r m)) e (demand-1 x r m) in
+      let u = callOf x r m in
+      ap (λ q. ended q (u .reply .answer) (u .memory)) (k .unit) ∙ ap (λ q. ended r q (u .memory)) e ∙ ap (refused r n) (k .whole z)
+
+  -- "but for the tables of a memory found damaged"
+  pub damage-keeps : callOf x r m .reply .answer ≡ answer.Refused 11 → (callOf x r m .reply .unit ≡ r) × GuestKept r m (callOf x r m .memory)
+  damage-keeps e =
+      let k : RefusalKept r m (callOf x r m) 11 = subst (Keeps r m (callOf x r m)) e (demand-1 x r m) in
+      (k .unit, k .guest)
