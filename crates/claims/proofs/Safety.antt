@@ -49,7 +49,7 @@ use Rattle.marks.specs.declared.Marks.{Marks}
 use Rattle.marks.specs.Key.{keyOf}
 use Rattle.marks.specs.Table.{number, withKey, withoutKey, setTests, setRefusal, clearTests, clearRefusal}
 use Rattle.record.specs.declared.Record.{Record}
-use Rattle.record.specs.Record.{levels, configOf, configBy, fitsOf, withMarks, zeros}
+use Rattle.record.specs.Record.{levels, configOf, configBy, fitsOf, withRoot, withMarks, zeros}
 use Rattle.record.specs.Open.{refusalOf}
 use Rattle.record.proofs.Rules.{Fits, fits-layout}
 use Rattle.record.proofs.Opening.{granted-long, granted-guest}
@@ -69,18 +69,21 @@ use Rattle.claims.proofs.Opens.{granted-call, refused-call}
 
 -- ---- what a call may change, by its answer
 
--- no guest word: n is as long as m and has its guest area, so that only host and shadow frames differ
-pub record GuestKept (r : Record) (m n : List ℕ) : Type 0 where
-  pub long : length n ≡ length m
-  pub area : guestArea r n ≡ guestArea r m
+-- no guest word: the memory is as long as m and has its guest area, so that only host and shadow frames differ; the record
+-- places the areas as before
+pub record GuestKept (r : Record) (m : List ℕ) (e : Ended) : Type 0 where
+  pub layout : configOf (e .reply .unit) ≡ configOf r
+  pub long : length (e .memory) ≡ length m
+  pub area : guestArea r (e .memory) ≡ guestArea r m
 
 -- one guest word
-pub record OneWord (r : Record) (m n : List ℕ) : Type 0 where
-  pub long : length n ≡ length m
+pub record OneWord (r : Record) (m : List ℕ) (e : Ended) : Type 0 where
+  pub layout : configOf (e .reply .unit) ≡ configOf r
+  pub long : length (e .memory) ≡ length m
   pub place : ℕ
   pub word : ℕ
   pub inside : place < length (guestArea r m)
-  pub area : guestArea r n ≡ set (guestArea r m) place word
+  pub area : guestArea r (e .memory) ≡ set (guestArea r m) place word
 
 -- the numbers of the refusals of later calls
 abbrev pub Numbered : ℕ → Type 0
@@ -90,15 +93,15 @@ Numbered n = (3 ≤ n) × (n ≤ 12)
 pub record RefusalKept (r : Record) (m : List ℕ) (e : Ended) (n : ℕ) : Type 0 where
   pub numbered : Numbered n
   pub unit : e .reply .unit ≡ r
-  pub guest : GuestKept r m (e .memory)
+  pub guest : GuestKept r m e
   pub whole : n ≢ 11 → e .memory ≡ m
 
 -- "A fault changes no guest word"; nor does a load or a call that yields no number. A store changes one
 abbrev pub Keeps : Record → List ℕ → Ended → Answer → Type 0
-Keeps r m e answer.Ok = GuestKept r m (e .memory)
-Keeps r m e (answer.Value v n x) = GuestKept r m (e .memory)
-Keeps r m e (answer.Done n x) = OneWord r m (e .memory)
-Keeps r m e (answer.Faulted y n x) = GuestKept r m (e .memory)
+Keeps r m e answer.Ok = GuestKept r m e
+Keeps r m e (answer.Value v n x) = GuestKept r m e
+Keeps r m e (answer.Done n x) = OneWord r m e
+Keeps r m e (answer.Faulted y n x) = GuestKept r m e
 Keeps r m e (answer.Refused n) = RefusalKept r m e n
 
 abbrev Kept : Record → List ℕ → Ended → Type 0
@@ -116,14 +119,31 @@ wider b s e m n l x = record { long = x .long; same = word }
     word j (inl k) = absurd (omega arith)
     word j (inr k) = x .same j (inr (omega arith))
 
-guest-kept : (r : Record) (m n : List ℕ) → Tables r m n → GuestKept r m n
-guest-kept r m n x = record {
-  long = x .long;
-  area =
-      let k = 512 * guestBase (configOf r) in
-      ext-getD 0 (drop k n) (drop k m) (length-drop k n ∙ ap (λ z. z - k) (x .long) ∙ sym (length-drop k m))
-      (λ i h. getD-drop k n i 0 ∙ x .same (k + i) (inr (omega arith)) ∙ sym (getD-drop k m i 0));
-}
+same-area : (r : Record) (m n : List ℕ) → Tables r m n → guestArea r n ≡ guestArea r m
+same-area r m n x =
+    let k = 512 * guestBase (configOf r) in
+    ext-getD 0 (drop k n) (drop k m) (length-drop k n ∙ ap (λ z. z - k) (x .long) ∙ sym (length-drop k m))
+    (λ i h. getD-drop k n i 0 ∙ x .same (k + i) (inr (omega arith)) ∙ sym (getD-drop k m i 0))
+
+guest-kept : {r q : Record} {m n : List ℕ} {a : Answer} → configOf q ≡ configOf r → Tables r m n → GuestKept r m (ended q a n)
+guest-kept {r} {m = m} {n = n} e x = record { layout = e; long = x .long; area = same-area r m n x }
+
+-- ---- the records that calls return
+held-layout : (r : Record) (p : Pool) (top : ℕ) → configOf (withHeld r p top) ≡ configOf r
+unfolding withHeld
+held-layout r p top = refl
+
+host-layout : (r : Record) (p : Pool) → configOf (withHost r p) ≡ configOf r
+unfolding withHost
+host-layout r p = refl
+
+root-layout : (r : Record) (g : ℕ) → configOf (withRoot r g) ≡ configOf r
+unfolding withRoot
+root-layout r g = refl
+
+marks-layout : (r : Record) (t : Marks) → configOf (withMarks r t) ≡ configOf r
+unfolding withMarks
+marks-layout r t = refl
 
 module _ (r : Record) (m : List ℕ) where
   none-changed : Tables r m m
@@ -137,10 +157,10 @@ module _ (r : Record) (m : List ℕ) where
 
   -- ---- refusals
   damage-kept : (n : List ℕ) → Tables r m n → Kept r m (refused r 11 n)
-  damage-kept n x = record { numbered = (omega arith, omega arith); unit = refl; guest = guest-kept r m n x; whole = λ e. absurd (e refl) }
+  damage-kept n x = record { numbered = (omega arith, omega arith); unit = refl; guest = guest-kept refl x; whole = λ e. absurd (e refl) }
 
   refusal-kept : (n : ℕ) → Numbered n → Kept r m (refused r n m)
-  refusal-kept n l = record { numbered = l; unit = refl; guest = guest-kept r m m none-changed; whole = λ e. refl }
+  refusal-kept n l = record { numbered = l; unit = refl; guest = guest-kept refl none-changed; whole = λ e. refl }
 
   -- the test with 3, and one with its own number
   judged-kept : (e : Ended) → (fitsOf r (length m) ≡ true → Kept r m e) → Kept r m (judged r m e)
@@ -319,20 +339,20 @@ number-in P xs a = go (firstFailed xs) refl
 
 module _ (r : Record) (m : List ℕ) where
   -- held paths are dropped, after the host tables may have changed
-  dropped-kept : (q : Record) (top : ℕ) (n : List ℕ) (o : Outcome) → Tables r m n → SameOutside (r .hosts) (r .shadows) n (o .memory) → Kept r m (droppedBy r q top o)
-  dropped-kept q top n o x y = go (o .left .ok)
+  dropped-kept : (q : Record) (top : ℕ) (n : List ℕ) (o : Outcome) → configOf q ≡ configOf r → Tables r m n → SameOutside (r .hosts) (r .shadows) n (o .memory) → Kept r m (droppedBy r q top o)
+  dropped-kept q top n o k x y = go (o .left .ok)
     where
       all : Tables r m (o .memory)
       all = out-trans 0 (guestBase (configOf r)) m n (o .memory) (shadow-tables r n (o .memory) y) x
 
       go : (b : Bool) → Kept r m (cond b (ended (withHeld q (o .left .pool) top) answer.Ok (o .memory)) (refused r 11 (o .memory)))
-      go true = guest-kept r m (o .memory) all
+      go true = guest-kept (held-layout q (o .left .pool) top ∙ k) all
       go false = damage-kept r m (o .memory) all
 
   -- ---- load, store, device store
   loaded-kept : (a : ℕ) (o : Out) → Tables r m (o .memory) → (w : Walked) → Kept r m (loadBy r a o w)
-  loaded-kept a o x (walked.Arrived t w n) = guest-kept r m (o .memory) x
-  loaded-kept a o x (walked.Faulted y n) = guest-kept r m (o .memory) x
+  loaded-kept a o x (walked.Arrived t w n) = guest-kept (held-layout r (o .translated .pool) (o .translated .top)) x
+  loaded-kept a o x (walked.Faulted y n) = guest-kept (held-layout r (o .translated .pool) (o .translated .top)) x
   loaded-kept a o x walked.Damaged = damage-kept r m (o .memory) x
 
   load-kept : (a : ℕ) → Kept r m (loadOf r m a)
@@ -361,19 +381,20 @@ module _ (r : Record) (m : List ℕ) where
       go : (b : Bool) → SameOutside (r .hosts) (r .shadows) (cond b (setIn n t i v) n) (s .memory)
           → Kept r m (cond b (ended (withHeld r (s .put .pool) top) (answer.Done k (x + s .put .exits)) (s .memory)) (refused r 11 (s .memory)))
       go true z = record {
+        layout = held-layout r (s .put .pool) top;
         long = z .long ∙ length-set n (at t i) v ∙ y .long;
         place = place c t i;
         word = v;
         inside = inside;
-        area = guest-kept r (setIn n t i v) (s .memory) (shadow-tables r (setIn n t i v) (s .memory) z) .area ∙ area-store c n t i v (g .0)
-            ∙ ap (λ xs. set xs (place c t i) v) (guest-kept r m n y .area);
+        area = same-area r (setIn n t i v) (s .memory) (shadow-tables r (setIn n t i v) (s .memory) z) ∙ area-store c n t i v (g .0)
+            ∙ ap (λ xs. set xs (place c t i) v) (same-area r m n y);
       }
       go false z = damage-kept r m (s .memory) (out-trans 0 (guestBase c) m n (s .memory) (shadow-tables r n (s .memory) z) y)
 
   stored-kept : Fits r (length m) → (a v : ℕ) (o : Out) → Tables r m (o .memory) → o .translated .pool .fresh ≤ r .shadows → (w : Walked) → ArrivedIn (configOf r) w → Kept r m (storeBy r a v o w)
   stored-kept f a v o x h (walked.Arrived t w n) g =
       written-kept f (o .translated .top) n (o .translated .exits) (o .memory) (o .translated .pool) (t .0) (wordOf a) v x h g (word-fits a)
-  stored-kept f a v o x h (walked.Faulted y n) g = guest-kept r m (o .memory) x
+  stored-kept f a v o x h (walked.Faulted y n) g = guest-kept (held-layout r (o .translated .pool) (o .translated .top)) x
   stored-kept f a v o x h walked.Damaged g = damage-kept r m (o .memory) x
 
   store-kept : (a v : ℕ) → Kept r m (storeCall r m a v)
@@ -393,29 +414,29 @@ module _ (r : Record) (m : List ℕ) where
       go : Fits r (length m) → (w : Walked) → ArrivedIn (configOf r) w → Kept r m (deviceBy r m a v w)
       go f (walked.Arrived t w n) g =
           written-kept f (r .top) n 0 m (r .shadow) (t .0) (wordOf a) v (none-changed r m) (f .shadow .0) g (word-fits a)
-      go f (walked.Faulted y n) g = guest-kept r m m (none-changed r m)
+      go f (walked.Faulted y n) g = guest-kept refl (none-changed r m)
       go f walked.Damaged g = damage-kept r m m (none-changed r m)
 
   -- ---- root, map, unmap
   root-kept : (g : ℕ) → Kept r m (rootCall r m g)
   unfolding rootCall
   root-kept g =
-      judged-kept r m _ (λ f. tested-kept r m (frameFits (configOf r) g) _ 8 (omega arith, omega arith) (guest-kept r m m (none-changed r m)))
+      judged-kept r m _ (λ f. tested-kept r m (frameFits (configOf r) g) _ 8 (omega arith, omega arith) (guest-kept (root-layout (withHeld r noneOf 0) g ∙ held-layout r noneOf 0) (none-changed r m)))
 
-  unmapped-kept : (q : Record) (n : List ℕ) (g : ℕ) → r .shadow .fresh ≤ r .shadows → Tables r m n → Kept r m (unmappedOf r q n g)
+  unmapped-kept : (q : Record) (n : List ℕ) (g : ℕ) → configOf q ≡ configOf r → r .shadow .fresh ≤ r .shadows → Tables r m n → Kept r m (unmappedOf r q n g)
   unfolding unmappedOf
-  unmapped-kept q n g h x = go (eqb g (r .root))
+  unmapped-kept q n g k h x = go (eqb g (r .root))
     where
       o : Outcome
       o = scanOf (configOf r) (Names (record { 0 = g })) (r .shadow) n
 
       go : (b : Bool) → Kept r m (cond b (ended (withHeld q noneOf 0) answer.Ok n) (droppedBy r q (r .top) o))
-      go true = guest-kept r m n x
-      go false = dropped-kept q (r .top) n o x (scan-out (configOf r) (Names (record { 0 = g })) (r .shadow) n h)
+      go true = guest-kept (held-layout q noneOf 0 ∙ k) x
+      go false = dropped-kept q (r .top) n o k x (scan-out (configOf r) (Names (record { 0 = g })) (r .shadow) n h)
 
   mapped-kept : (p : Pool) (n : List ℕ) (g : ℕ) → r .shadow .fresh ≤ r .shadows → Tables r m n → (w : HostWalk) → Kept r m (mappedBy r p n g w)
-  mapped-kept p n g h x (host.Found f w) = unmapped-kept (withHost r p) n g h x
-  mapped-kept p n g h x (host.Absent k) = guest-kept r m n x
+  mapped-kept p n g h x (host.Found f w) = unmapped-kept (withHost r p) n g (host-layout r p) h x
+  mapped-kept p n g h x (host.Absent k) = guest-kept (host-layout r p) x
   mapped-kept p n g h x host.Damaged = damage-kept r m n x
 
   -- the mapping changed, or the refusal of the change
@@ -429,7 +450,7 @@ module _ (r : Record) (m : List ℕ) where
       go true q = f all
       go false q =
           let z = eqb-false (t .change .refusal) 0 q in
-          record { numbered = k .numbered z; unit = refl; guest = guest-kept r m (t .memory) all; whole = k .whole z }
+          record { numbered = k .numbered z; unit = refl; guest = guest-kept refl all; whole = k .whole z }
 
   map-call-kept : (g f : ℕ) (w : Bool) → Kept r m (mapCall r m g f w)
   unfolding mapCall
@@ -445,7 +466,7 @@ module _ (r : Record) (m : List ℕ) where
       let t = unmapOf (configOf r) (r .host) m g in
       judged-kept r m _ (λ e. let z = fits-layout r (length m) e in
       changed-kept t _ (unmap-kept (configOf r) (r .host) m (omega (arith, z .sizes .hosts)) g)
-      (λ x. unmapped-kept (withHost r (t .change .pool)) (t .memory) g (z .shadow .0) x))
+      (λ x. unmapped-kept (withHost r (t .change .pool)) (t .memory) g (host-layout r (t .change .pool)) (z .shadow .0) x))
 
   -- ---- marks
   marked-kept : (x a n : ℕ) (t : Marks) → (x ≢ 0 → Numbered x) → Kept r m (judged r m (cond (eqb x 0) (markedOf r m a n t) (refused r x m)))
@@ -458,7 +479,7 @@ module _ (r : Record) (m : List ℕ) where
       go : r .shadow .fresh ≤ r .shadows → (b : Bool) → eqb x 0 ≡ b
           → Kept r m (cond b (droppedBy r (withMarks r t) (topAfter n (r .top)) (dropPrefixOf (configOf r) (r .shadow) m is)) (refused r x m))
       go h true q =
-          dropped-kept (withMarks r t) (topAfter n (r .top)) m (dropPrefixOf (configOf r) (r .shadow) m is) (none-changed r m) (prefix-out (configOf r) (r .shadow) m is h)
+          dropped-kept (withMarks r t) (topAfter n (r .top)) m (dropPrefixOf (configOf r) (r .shadow) m is) (marks-layout r t) (none-changed r m) (prefix-out (configOf r) (r .shadow) m is h)
       go h false q = refusal-kept r m x (l (eqb-false x 0 q))
 
   set-kept : (a n : ℕ) → Kept r m (setMarkCall r m a n)
@@ -542,7 +563,7 @@ module _ (x : Call) (r : Record) (m : List ℕ) where
       ap (λ q. ended q (u .reply .answer) (u .memory)) (k .unit) ∙ ap (λ q. ended r q (u .memory)) e ∙ ap (refused r n) (k .whole z)
 
   -- "but for the tables of a memory found damaged"
-  pub damage-keeps : callOf x r m .reply .answer ≡ answer.Refused 11 → (callOf x r m .reply .unit ≡ r) × GuestKept r m (callOf x r m .memory)
+  pub damage-keeps : callOf x r m .reply .answer ≡ answer.Refused 11 → (callOf x r m .reply .unit ≡ r) × GuestKept r m (callOf x r m)
   damage-keeps e =
       let k : RefusalKept r m (callOf x r m) 11 = subst (Keeps r m (callOf x r m)) e (demand-1 x r m) in
       (k .unit, k .guest)
