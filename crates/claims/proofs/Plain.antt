@@ -36,7 +36,7 @@ use Rattle.record.specs.Open.{refusalOf}
 use Rattle.unit.specs.Calls.{Ended, refused, addressOk, depthAt, loadOf, storeCall}
 use Rattle.claims.specs.Run.{callOf, guestArea, runOf}
 use Rattle.claims.proofs.Invariant.{Inv}
-use Rattle.claims.proofs.Paths.{indexes-all}
+use Rattle.laws.proofs.Indexes.{indexes-all}
 use Rattle.claims.proofs.Found.{memory-stands, root-small}
 use Rattle.claims.proofs.Requests.{page-in, fits-of, load-step, store-step}
 use Rattle.claims.proofs.Demands.{follows, run-inv}

@@ -315,12 +315,24 @@ module _ (s : State) (r : Record) (m : List ℕ) (h : Inv s r m) (g : ℕ) where
             rw (t .done, walked (a .0))
             (follows-ok (map g f w) s r _ e refl (mapped-left (t .pool) (t .memory) (t .stands) (t .beside) e))
 
+  unmapped-all : (p : Pool) (n : List ℕ) → Maps (configOf r) (without g (s .machine .mappings)) p n → Beside (hostArea (configOf r)) m n
+      → refusal (configOf r) (unmap g) (s .machine) (s .book) ≡ none → (o : Option Place) → lookup g (s .machine .mappings) ≡ o
+      → Left (after (configOf r) (unmap g) s) r (mappedBy r p n g (answerBy (hostCost (configOf r) (s .machine .mappings) g) o))
+  unfolding machineStep bookStep withHost
+  unmapped-all p n hosts beside e none q = record {
+    config = refl;
+    says = refl;
+    next = none-left s r m h g (without g (s .machine .mappings)) (λ y k. lookup-without g y (s .machine .mappings) k) p n hosts beside (after-fits (configOf r) (unmap g) s e (h .book)) q;
+  }
+  unmapped-all p n hosts beside e (some x) q =
+      unmapped-left s r m h g (without g (s .machine .mappings)) (λ y k. lookup-without g y (s .machine .mappings) k) p n hosts beside (after-fits (configOf r) (unmap g) s e (h .book))
+
   pub unmap-follows : Follows (unmap g) s r (unmapCall r m g)
   unfolding unmapCall refusal tests machineStep bookStep
   unmap-follows = rw (h .fits) (go (refusal (configOf r) (unmap g) (s .machine) (s .book)) refl)
     where
       over : Changed → Ended
-      over t = cond (eqb (t .change .refusal) 0) (unmappedOf r (withHost r (t .change .pool)) (t .memory) g) (refused r (t .change .refusal) (t .memory))
+      over t = cond (eqb (t .change .refusal) 0) (mappedBy r (t .change .pool) (t .memory) g (hostWalkOf (configOf r) m g)) (refused r (t .change .refusal) (t .memory))
 
       go : (o : Option ℕ) → refusal (configOf r) (unmap g) (s .machine) (s .book) ≡ o → Follows (unmap g) s r (over (unmapOf (configOf r) (r .host) m g))
       go (some n) e =
@@ -330,6 +342,6 @@ module _ (s : State) (r : Record) (m : List ℕ) (h : Inv s r m) (g : ℕ) where
           let t : Step (configOf r) (without g (s .machine .mappings)) (r .host) m 0 (unmapOf (configOf r) (r .host) m g) =
           subst (λ o. Step (configOf r) (mappingBy o (unmaps g) (s .machine .mappings)) (r .host) m (numberBy o) (unmapOf (configOf r) (r .host) m g)) e
           (unmap-is (configOf r) (s .machine .mappings) (r .host) m (h .maps) g) in
-          rw (t .done)
-          (follows-ok (unmap g) s r _ e refl (unmapped-left s r m h g (without g (s .machine .mappings)) (λ y k. lookup-without g y (s .machine .mappings) k)
-          (t .pool) (t .memory) (t .stands) (t .beside) (after-fits (configOf r) (unmap g) s e (h .book))))
+          let a = all-passed (tests (configOf r) (unmap g) (s .machine) (s .book)) e in
+          rw (t .done, walked (a .0))
+          (follows-ok (unmap g) s r _ e refl (unmapped-all (t .pool) (t .memory) (t .stands) (t .beside) e (lookup g (s .machine .mappings)) refl))

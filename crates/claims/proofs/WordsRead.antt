@@ -20,7 +20,7 @@ use Rattle.spec.specs.Walk.{Walk, done, fail, host, word, _>>=_, _>>_, World, T
 use Rattle.spec.specs.Plain.{Place, must, mapped, hosted, entry, next, levels, walk}
 use Rattle.spec.specs.Refusal.{inGuestArea}
 use Rattle.laws.proofs.Lists.{All, all-map, is-true, is-false}
-use Rattle.laws.proofs.Counts.{indexes-length}
+use Rattle.laws.proofs.Indexes.{indexes-length}
 use Rattle.words.specs.Words.{wordIn}
 use Rattle.area.specs.declared.Way.{Way}
 use Rattle.area.specs.declared.Way.the-variants.{To, Not, Bad}
