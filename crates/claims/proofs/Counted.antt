@@ -3,7 +3,7 @@
 -- Assumes nothing.
 use mathlib.Core.Path.{_≡_, refl, sym, ap, ap₂, _∙_, subst}
 use mathlib.Core.Logic.{_⊎_, inl, inr}
-use Prim.Native.Nat.{ℕ, _+_, _-_, _*_, _<_, _≤_}
+use Prim.Native.Nat.{ℕ, zero, suc, _+_, _-_, _*_, _<_, _≤_}
 use native.Mathlib.Omega.{arith}
 use mathlib.Core.Bool.{Bool, true, false, not, _&&_, cond}
 use mathlib.Core.List.{List, [], _∷_}
@@ -58,6 +58,7 @@ use Rattle.claims.proofs.Puts.{area-store}
 use Rattle.claims.proofs.Paths.{path-upper}
 use Rattle.claims.proofs.Found as found
 use Rattle.claims.proofs.Translates.{serves-is}
+use Rattle.claims.proofs.Demands.{after-run}
 use Rattle.claims.proofs.WordsRead as read
 use Rattle.claims.proofs.WordsRead.{Reaches, held, plain, Alike, alike, Reads}
 
@@ -287,3 +288,54 @@ module _ (s : State) (r : Record) (m : List ℕ) (inv : Inv s r m) (a : ℕ) whe
             by (l .walked) (l .before) (l .altered) (subst (λ (o : Out). ArrivedIn c (o .translated .walked)) (l .before) arrives)
             (store-fits m refl ∙ ap (λ b. cond b (said m) (refused r 4 m)) q ∙ ap (λ (o : Out). storeBy r a v o (o .translated .walked)) (l .before))
             (store-fits n long ∙ ap (λ b. cond b (said n) (refused r 4 n)) q ∙ ap (λ (o : Out). storeBy r a v o (o .translated .walked)) (l .altered))
+
+-- a load through any held path
+pub held-load : (c : Config) (b : Book) (a : ℕ) (h : Held) → find (upper c (depth (b .marks) (addressIndexes c a)) (addressIndexes c a)) (b .held) ≡ some h → HeldOrPlain c b false a
+unfolding HeldOrPlain
+held-load c b a h e = inl (subst (λ o. T (serves false (depth (b .marks) (addressIndexes c a)) o)) (sym e) (go (depth (b .marks) (addressIndexes c a))))
+  where
+    go : (d : ℕ) → T (serves false d (some h))
+    go zero = tt
+    go (suc d) = tt
+
+-- ---- "After any run that demand 3 covers": a granted opening, on any memory, and any list of calls
+module _ (m : List ℕ) (h s : ℕ) (xs : List Call) (granted : refusalOf (length m) h s ≡ 0) where
+  -- the book of that run
+  abbrev pub book : Book
+  book = after (configBy (length m) h s) xs (opened (configBy (length m) h s) m) .book
+
+  -- the unit's record and memory after it
+  abbrev pub ran : Ended
+  ran = unitAfter xs (openCall m h s .reply .unit) (openCall m h s .memory) (openCall m h s)
+
+  abbrev pub unit : Record
+  unit = ran .reply .unit
+
+  abbrev pub memory : List ℕ
+  memory = ran .memory
+
+  abbrev stands : Inv (after (configBy (length m) h s) xs (opened (configBy (length m) h s) m)) unit memory
+  stands = after-run m h s xs granted .1
+
+  here : (st : Bool) (a : ℕ) → HeldOrPlain (configBy (length m) h s) book st a → HeldOrPlain (configOf unit) book st a
+  here st a k = subst (λ c. HeldOrPlain c book st a) (sym (after-run m h s xs granted .0)) k
+
+  -- "take a load whose path is held or whose d is 5, and alter at will any words of the memory but those it counts .. and the
+  -- word it loads: its value or fault, its references and its exits stay the same"
+  pub run-counted-load : (a : ℕ) → HeldOrPlain (configBy (length m) h s) book false a
+      → (n : List ℕ) → length n ≡ length memory → SameWords memory n (countedOf unit memory false a) → SameWords memory n (touchedOf unit memory false a)
+      → loadOf unit n a ≡ ended unit (loadOf unit memory a .reply .answer) n
+  run-counted-load a k = words-counted-load (after (configBy (length m) h s) xs (opened (configBy (length m) h s) m)) unit memory stands a (here false a k)
+
+  -- "A store that is granted through a held path or at d = 5 touches, after such a change, the same word or, only if host or
+  -- shadow words are among those altered, is refused with 11"
+  pub run-counted-store : (a v k e : ℕ) → HeldOrPlain (configBy (length m) h s) book true a → storeCall unit memory a v .reply .answer ≡ answer.Done k e
+      → (n : List ℕ) → length n ≡ length memory → SameWords memory n (countedOf unit memory true a) → SameStore unit memory n a v k
+  run-counted-store a v k e q = words-counted-store (after (configBy (length m) h s) xs (opened (configBy (length m) h s) m)) unit memory stands a v (here true a q) k e
+
+  -- those words are as many as the references of the answer
+  pub run-counted-words : (a : ℕ) → (HeldOrPlain (configBy (length m) h s) book false a → References (length (countedOf unit memory false a)) (loadOf unit memory a .reply .answer))
+      × ((v : ℕ) → HeldOrPlain (configBy (length m) h s) book true a → References (length (countedOf unit memory true a)) (storeCall unit memory a v .reply .answer))
+  run-counted-words a =
+      let st = after (configBy (length m) h s) xs (opened (configBy (length m) h s) m) in
+      (λ k. load-counted st unit memory stands a (here false a k), λ v k. store-counted st unit memory stands a v (here true a k))

@@ -68,6 +68,19 @@ opened-config : (m : List ℕ) (h s : ℕ) → configOf (grantedOf m h s .unit) 
 unfolding grantedOf firstOf
 opened-config m h s = refl
 
+-- after a granted opening, on any memory, and a list of calls, the record and the memory stand for machine and book
+pub after-run : (m : List ℕ) (h s : ℕ) (xs : List Call) → refusalOf (length m) h s ≡ 0
+    → let o = openCall m h s in
+    let c = configBy (length m) h s in
+    let e = unitAfter xs (o .reply .unit) (o .memory) o in
+    (configOf (e .reply .unit) ≡ c) × Inv (after c xs (opened c m)) (e .reply .unit) (e .memory)
+after-run m h s xs g =
+    let o = openCall m h s in
+    let c = configBy (length m) h s in
+    let q = granted-call m h s g in
+    after-follow c xs (opened c m) (o .reply .unit) (o .memory) o (ap (λ (e : Ended). configOf (e .reply .unit)) q ∙ opened-config m h s)
+    (subst (λ (e : Ended). Inv (opened c m) (e .reply .unit) (e .memory)) (sym q) (opened-inv m h s g)) refl refl
+
 -- Demand 3. "For every granted opening, on any memory, and every list of calls after it: each value, fault, refusal, count and
 -- the guest words equal those of document 01's machine without shadow and its book"
 pub demand-3 : (m : List ℕ) (h s : ℕ) (xs : List Call) → refusalOf (length m) h s ≡ 0
