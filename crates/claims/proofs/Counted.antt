@@ -3,27 +3,25 @@
 -- Assumes nothing.
 use mathlib.Core.Path.{_≡_, refl, sym, ap, ap₂, _∙_, subst}
 use mathlib.Core.Logic.{_⊎_, inl, inr}
-use Prim.Native.Nat.{ℕ, _+_, _-_, _*_, _<_, _≤_}
+use Prim.Native.Nat.{ℕ, zero, suc, _+_, _*_, _<_, _≤_}
 use native.Mathlib.Omega.{arith}
-use mathlib.Core.Bool.{Bool, true, false, not, _&&_, cond}
-use mathlib.Core.List.{List, [], _∷_}
+use mathlib.Core.Bool.{Bool, true, false, not, cond}
+use mathlib.Core.List.{List, []}
 use mathlib.Core.Option.{Option, none, some}
 use lib.Dec.{T, leb, leb→le, nleb→lt}
-use lib.ListN.{length, set}
-use Rattle.spec.specs.declared.Answer.{Answer}
+use lib.ListN.{length}
 use Rattle.spec.specs.declared.Answer.the-variants as answer
-use Rattle.spec.specs.Config.{Config, guestBase}
-use Rattle.spec.specs.Entry.{wordOf, pageOf}
-use Rattle.spec.specs.Machine.{place}
+use Rattle.spec.specs.Config.{Config}
+use Rattle.spec.specs.Entry.{wordOf}
 use Rattle.spec.specs.Plain.{upper}
-use Rattle.spec.specs.Book.{Held, Book, depth, find, dropWord}
+use Rattle.spec.specs.Book.{Held, Book, depth, find, dropWord, watched}
 use Rattle.spec.specs.Call.{Call, addressIndexes}
-use Rattle.spec.specs.Count.{serves}
+use Rattle.spec.specs.Count.{serves, one}
 use Rattle.spec.specs.Refusal.{addressFits, wordAligned}
 use Rattle.spec.specs.Run.{State, after, opened}
-use Rattle.laws.proofs.Lists.{All, all-any, and-left, is-true, is-false}
+use Rattle.laws.proofs.Lists.{all-any, and-left, is-true}
 use Rattle.entry.proofs.Entries.{word-fits}
-use Rattle.words.specs.Words.{wordIn, setIn}
+use Rattle.words.specs.Words.{setIn}
 use Rattle.area.specs.Outside.{SameOutside}
 use Rattle.tree.proofs.Paths.{onto}
 use Rattle.tree.proofs.Stores.{Beside}
@@ -35,21 +33,22 @@ use Rattle.walk.specs.declared.Walked.the-variants as walked
 use Rattle.marks.proofs.Book.{depth-book}
 use Rattle.record.specs.declared.Record.{Record}
 use Rattle.record.specs.Record.{configOf, configBy, fitsOf}
-use Rattle.record.specs.Open.{refusalOf, grantedOf}
-use Rattle.request.specs.Translate.{Out, outs, translation, exitBy, servesOf, foundOf}
+use Rattle.record.specs.Open.{refusalOf}
+use Rattle.shadow.specs.declared.Cut.the-variants.{Word}
+use Rattle.shadow.specs.Held.{shadowArea}
+use Rattle.shadow.specs.Cut.{watchedOf}
+use Rattle.shadow.specs.Drop.{Outcome, scanOf}
+use Rattle.drops.proofs.Scan.{Dropped}
+use Rattle.drops.proofs.Held.{leafAt}
+use Rattle.drops.proofs.Watch.{watched-is}
+use Rattle.drops.proofs.Drops.{drop-word}
+use Rattle.drops.proofs.Valid.{entryOf}
+use Rattle.request.specs.Translate.{Out, translation, exitBy, servesOf, foundOf}
 use Rattle.request.specs.Store as put
 use Rattle.request.specs.Store.{Stored, storeOf}
 use Rattle.request.proofs.Fits.{ArrivedIn}
 use Rattle.request.proofs.Leaves.{translate-leaves, store-leaves}
-use Rattle.shadow.specs.declared.Cut.the-variants.{Word}
-use Rattle.shadow.specs.Held.{shadowArea}
-use Rattle.shadow.specs.Cut.{watchedOf}
-use Rattle.shadow.specs.Drop.{Outcome, outcome, scanOf}
-use Rattle.drops.proofs.Scan.{Dropped}
-use Rattle.drops.proofs.Held.{leafAt}
-use Rattle.drops.proofs.Drops.{drop-word}
-use Rattle.drops.proofs.Valid.{entryOf}
-use Rattle.unit.specs.Calls.{Ended, ended, refused, judged, withHeld, depthAt, addressOk, translatedOf, loadBy, loadOf, writtenBy, storeBy, storeCall, openCall}
+use Rattle.unit.specs.Calls.{Ended, ended, refused, withHeld, depthAt, addressOk, translatedOf, loadBy, loadOf, writtenBy, storeBy, storeCall, openCall}
 use Rattle.claims.specs.Run.{guestArea, unitAfter}
 use Rattle.claims.specs.Counted.{SameWords, SameStore, countedOf, touchedBy, touchedOf, HeldOrPlain, References, Touches, Refuses, SameTables}
 use Rattle.claims.proofs.Invariant.{longer, frames, Inv}
@@ -58,8 +57,9 @@ use Rattle.claims.proofs.Puts.{area-store}
 use Rattle.claims.proofs.Paths.{path-upper}
 use Rattle.claims.proofs.Found as found
 use Rattle.claims.proofs.Translates.{serves-is}
+use Rattle.claims.proofs.Demands.{after-run}
 use Rattle.claims.proofs.WordsRead as read
-use Rattle.claims.proofs.WordsRead.{Reaches, held, plain, Alike, alike, Reads}
+use Rattle.claims.proofs.WordsRead.{Reaches, held, plain, alike, Reads}
 
 written-counts : (r : Record) (top n e : ℕ) (x : Stored) (k : ℕ) → n ≡ k → References k (writtenBy r top n e x .reply .answer)
 written-counts r top n e x k q = go (x .put .ok)
@@ -204,9 +204,8 @@ module _ (s : State) (r : Record) (m : List ℕ) (inv : Inv s r m) (a : ℕ) whe
           either true = same
           either false = same
 
-      touches : (n : List ℕ) → putOn n .put .ok ≡ true → Touches r n k t (wordOf a) v (leftOn n)
+      touches : (n : List ℕ) → putOn n .put .ok ≡ true → Touches r n k (0 + putOn n .put .exits) t (wordOf a) v (leftOn n)
       touches n q = record {
-        exits = 0 + putOn n .put .exits;
         says = ap (λ b. cond b (ended (withHeld r (putOn n .put .pool) (r .top)) (answer.Done k (0 + putOn n .put .exits)) (putOn n .memory)) (refused r 11 (putOn n .memory)) .reply .answer) q;
         area = put-area n true q ∙ area-store c n t (wordOf a) v (there .0);
       }
@@ -218,17 +217,17 @@ module _ (s : State) (r : Record) (m : List ℕ) (inv : Inv s r m) (a : ℕ) whe
         area = put-area n false q;
       }
 
-      either : (n : List ℕ) → Touches r n k t (wordOf a) v (leftOn n) ⊎ Refuses r n (leftOn n)
+      either : (n : List ℕ) → ((y : ℕ) × Touches r n k y t (wordOf a) v (leftOn n)) ⊎ Refuses r n (leftOn n)
       either n = go (putOn n .put .ok) refl
         where
-          go : (b : Bool) → putOn n .put .ok ≡ b → Touches r n k t (wordOf a) v (leftOn n) ⊎ Refuses r n (leftOn n)
-          go true q = inl (touches n q)
+          go : (b : Bool) → putOn n .put .ok ≡ b → ((y : ℕ) × Touches r n k y t (wordOf a) v (leftOn n)) ⊎ Refuses r n (leftOn n)
+          go true q = inl (0 + putOn n .put .exits, touches n q)
           go false q = inr (refuses n q)
 
       -- no shadow word is altered: the tables hold what they held, and no damage is met
-      whole-tables : (n : List ℕ) → length n ≡ length m → SameTables c m n → putOn n .put .ok ≡ true
+      whole-tables : (n : List ℕ) → length n ≡ length m → SameTables c m n → (putOn n .put .ok ≡ true) × (putOn n .put .exits ≡ one (watched t (longer (s .book .held))))
       unfolding storeOf
-      whole-tables n e same = go (watchedOf c n (r .shadow .fresh) t)
+      whole-tables n e same = subst (λ b. (putOn n .put .ok ≡ true) × (putOn n .put .exits ≡ one b)) (watched-is tables (found.held-entries s r m inv) t) (go (watchedOf c n (r .shadow .fresh) t))
         where
           tables : Holds (shadowArea c) false (r .shadow) n (leafAt (entryOf c (frames r m)) (longer (s .book .held))) (frames r m)
           tables = holds-memory (inv .shadow) n e (λ f lo hi. same f hi)
@@ -236,9 +235,17 @@ module _ (s : State) (r : Record) (m : List ℕ) (inv : Inv s r m) (a : ℕ) whe
           scanned : Dropped c n (leafAt (entryOf c (frames r m)) (dropWord t (wordOf a) (longer (s .book .held)))) (frames r m) (scanOf c (Word (page t) (wordOf a)) (r .shadow) n)
           scanned = drop-word tables (found.held-entries s r m inv) t (wordOf a) (word-fits a)
 
-          go : (b : Bool) → cond b (put.writtenBy (r .shadow) t (wordOf a) v (scanOf c (Word (page t) (wordOf a)) (r .shadow) n)) (put.stored (r .shadow) 0 true (setIn n t (wordOf a) v)) .put .ok ≡ true
-          go true = ap (λ (o : Outcome). put.writtenBy (r .shadow) t (wordOf a) v o .put .ok) (scanned .done)
-          go false = refl
+          go : (b : Bool)
+              → let x = cond b (put.writtenBy (r .shadow) t (wordOf a) v (scanOf c (Word (page t) (wordOf a)) (r .shadow) n)) (put.stored (r .shadow) 0 true (setIn n t (wordOf a) v)) in
+              (x .put .ok ≡ true) × (x .put .exits ≡ one b)
+          go true = subst (λ (o : Outcome). (put.writtenBy (r .shadow) t (wordOf a) v o .put .ok ≡ true) × (put.writtenBy (r .shadow) t (wordOf a) v o .put .exits ≡ 1)) (sym (scanned .done)) (refl, refl)
+          go false = (refl, refl)
+
+      same-touches : (n : List ℕ) → length n ≡ length m → SameTables c m n → Touches r n k (0 + putOn m .put .exits) t (wordOf a) v (leftOn n)
+      same-touches n e same =
+          let there = whole-tables n e same in
+          let here = whole-tables m refl (λ f l i q. refl) in
+          subst (λ x. Touches r n k (0 + x) t (wordOf a) v (leftOn n)) (there .1 ∙ sym (here .1)) (touches n (there .0))
 
     -- the frame that a granted translation arrives at lies in the guest area
     arrives : ArrivedIn c (translatedOf r m true a .translated .walked)
@@ -246,7 +253,7 @@ module _ (s : State) (r : Record) (m : List ℕ) (inv : Inv s r m) (a : ℕ) whe
     arrives = translate-leaves c (omega (arith, found.rules s r m inv .sizes .shadows)) m true (r .shadow) (found.rules s r m inv .shadow .0) (r .top) (found.rules s r m inv .top) (r .root) a (depthAt r a) .arrived
 
     pub words-counted-store : HeldOrPlain c (s .book) true a → (k e : ℕ) → storeCall r m a v .reply .answer ≡ answer.Done k e
-        → (n : List ℕ) → length n ≡ length m → SameWords m n (countedOf r m true a) → SameStore r m n a v k
+        → (n : List ℕ) → length n ≡ length m → SameWords m n (countedOf r m true a) → SameStore r m n a v k e
     unfolding touchedOf
     words-counted-store h k e done n long counted = go (addressOk r a) refl
       where
@@ -254,7 +261,7 @@ module _ (s : State) (r : Record) (m : List ℕ) (inv : Inv s r m) (a : ℕ) whe
         said x = storeBy r a v (translatedOf r x true a) (translatedOf r x true a .translated .walked)
 
         by : (x : Walked) → translatedOf r m true a ≡ read.left r true a x m → translatedOf r n true a ≡ read.left r true a x n → ArrivedIn c x
-            → storeCall r m a v ≡ storeBy r a v (read.left r true a x m) x → storeCall r n a v ≡ storeBy r a v (read.left r true a x n) x → SameStore r m n a v k
+            → storeCall r m a v ≡ storeBy r a v (read.left r true a x m) x → storeCall r n a v ≡ storeBy r a v (read.left r true a x n) x → SameStore r m n a v k e
         by (walked.Faulted y j) p q i f g =
             let z : answer.Faulted y j (exitBy (walked.Faulted y j)) ≡ answer.Done k e = sym (ap (λ (x : Ended). x .reply .answer) f) ∙ done in
             let x : _≡_ {A = ℕ} 0 1 = cc in absurd (omega arith)
@@ -263,22 +270,23 @@ module _ (s : State) (r : Record) (m : List ℕ) (inv : Inv s r m) (a : ℕ) whe
             let x : _≡_ {A = ℕ} 0 1 = cc in absurd (omega arith)
         by (walked.Arrived t w j) p q i f g = same (putOn (t .0) i j m .put .ok) refl
           where
-            same : (b : Bool) → putOn (t .0) i j m .put .ok ≡ b → SameStore r m n a v k
+            same : (b : Bool) → putOn (t .0) i j m .put .ok ≡ b → SameStore r m n a v k e
             same false o =
                 let z : answer.Refused 11 ≡ answer.Done k e = sym (refuses (t .0) i j m o .says) ∙ sym (ap (λ (x : Ended). x .reply .answer) f) ∙ done in
                 let x : _≡_ {A = ℕ} 0 1 = cc in absurd (omega arith)
             same true o =
-                let z : answer.Done j (touches (t .0) i j m o .exits) ≡ answer.Done k e = sym (touches (t .0) i j m o .says) ∙ sym (ap (λ (x : Ended). x .reply .answer) f) ∙ done in
+                let z : answer.Done j (0 + putOn (t .0) i j m .put .exits) ≡ answer.Done k e = sym (touches (t .0) i j m o .says) ∙ sym (ap (λ (x : Ended). x .reply .answer) f) ∙ done in
                 let x : j ≡ k = cc in
-                subst (SameStore r m n a v) x (record {
+                let y : 0 + putOn (t .0) i j m .put .exits ≡ e = cc in
+                subst (λ l. SameStore r m n a v l e) x (subst (SameStore r m n a v j) y (record {
                   frame = t .0;
-                  touched = ap (λ (y : Out). touchedBy a (y .translated .walked)) p;
-                  before = subst (Touches r m j (t .0) (wordOf a) v) (sym f) (touches (t .0) i j m o);
-                  altered = subst (λ y. Touches r n j (t .0) (wordOf a) v y ⊎ Refuses r n y) (sym g) (either (t .0) i j n);
-                  only = λ tables. subst (Touches r n j (t .0) (wordOf a) v) (sym g) (touches (t .0) i j n (whole-tables (t .0) i j n long tables));
-                })
+                  touched = ap (λ (u : Out). touchedBy a (u .translated .walked)) p;
+                  before = subst (Touches r m j (0 + putOn (t .0) i j m .put .exits) (t .0) (wordOf a) v) (sym f) (touches (t .0) i j m o);
+                  altered = subst (λ u. ((y : ℕ) × Touches r n j y (t .0) (wordOf a) v u) ⊎ Refuses r n u) (sym g) (either (t .0) i j n);
+                  only = λ tables. subst (Touches r n j (0 + putOn (t .0) i j m .put .exits) (t .0) (wordOf a) v) (sym g) (same-touches (t .0) i j n long tables);
+                }))
 
-        go : (b : Bool) → addressOk r a ≡ b → SameStore r m n a v k
+        go : (b : Bool) → addressOk r a ≡ b → SameStore r m n a v k e
         go false q =
             let z : answer.Refused 4 ≡ answer.Done k e = sym (ap (λ (x : Ended). x .reply .answer) (store-fits m refl ∙ ap (λ b. cond b (said m) (refused r 4 m)) q)) ∙ done in
             let x : _≡_ {A = ℕ} 0 1 = cc in absurd (omega arith)
@@ -287,3 +295,54 @@ module _ (s : State) (r : Record) (m : List ℕ) (inv : Inv s r m) (a : ℕ) whe
             by (l .walked) (l .before) (l .altered) (subst (λ (o : Out). ArrivedIn c (o .translated .walked)) (l .before) arrives)
             (store-fits m refl ∙ ap (λ b. cond b (said m) (refused r 4 m)) q ∙ ap (λ (o : Out). storeBy r a v o (o .translated .walked)) (l .before))
             (store-fits n long ∙ ap (λ b. cond b (said n) (refused r 4 n)) q ∙ ap (λ (o : Out). storeBy r a v o (o .translated .walked)) (l .altered))
+
+-- a load through any held path
+pub held-load : (c : Config) (b : Book) (a : ℕ) (h : Held) → find (upper c (depth (b .marks) (addressIndexes c a)) (addressIndexes c a)) (b .held) ≡ some h → HeldOrPlain c b false a
+unfolding HeldOrPlain
+held-load c b a h e = inl (subst (λ o. T (serves false (depth (b .marks) (addressIndexes c a)) o)) (sym e) (go (depth (b .marks) (addressIndexes c a))))
+  where
+    go : (d : ℕ) → T (serves false d (some h))
+    go zero = tt
+    go (suc d) = tt
+
+-- ---- "After any run that demand 3 covers": a granted opening, on any memory, and any list of calls
+module _ (m : List ℕ) (h s : ℕ) (xs : List Call) (granted : refusalOf (length m) h s ≡ 0) where
+  -- the book of that run
+  abbrev pub book : Book
+  book = after (configBy (length m) h s) xs (opened (configBy (length m) h s) m) .book
+
+  -- the unit's record and memory after it
+  abbrev pub ran : Ended
+  ran = unitAfter xs (openCall m h s .reply .unit) (openCall m h s .memory) (openCall m h s)
+
+  abbrev pub unit : Record
+  unit = ran .reply .unit
+
+  abbrev pub memory : List ℕ
+  memory = ran .memory
+
+  abbrev stands : Inv (after (configBy (length m) h s) xs (opened (configBy (length m) h s) m)) unit memory
+  stands = after-run m h s xs granted .1
+
+  here : (st : Bool) (a : ℕ) → HeldOrPlain (configBy (length m) h s) book st a → HeldOrPlain (configOf unit) book st a
+  here st a k = subst (λ c. HeldOrPlain c book st a) (sym (after-run m h s xs granted .0)) k
+
+  -- "take a load whose path is held or whose d is 5, and alter at will any words of the memory but those it counts .. and the
+  -- word it loads: its value or fault, its references and its exits stay the same"
+  pub run-counted-load : (a : ℕ) → HeldOrPlain (configBy (length m) h s) book false a
+      → (n : List ℕ) → length n ≡ length memory → SameWords memory n (countedOf unit memory false a) → SameWords memory n (touchedOf unit memory false a)
+      → loadOf unit n a ≡ ended unit (loadOf unit memory a .reply .answer) n
+  run-counted-load a k = words-counted-load (after (configBy (length m) h s) xs (opened (configBy (length m) h s) m)) unit memory stands a (here false a k)
+
+  -- "A store that is granted through a held path or at d = 5 touches, after such a change, the same word or, only if host or
+  -- shadow words are among those altered, is refused with 11"
+  pub run-counted-store : (a v k e : ℕ) → HeldOrPlain (configBy (length m) h s) book true a → storeCall unit memory a v .reply .answer ≡ answer.Done k e
+      → (n : List ℕ) → length n ≡ length memory → SameWords memory n (countedOf unit memory true a) → SameStore unit memory n a v k e
+  run-counted-store a v k e q = words-counted-store (after (configBy (length m) h s) xs (opened (configBy (length m) h s) m)) unit memory stands a v (here true a q) k e
+
+  -- those words are as many as the references of the answer
+  pub run-counted-words : (a : ℕ) → (HeldOrPlain (configBy (length m) h s) book false a → References (length (countedOf unit memory false a)) (loadOf unit memory a .reply .answer))
+      × ((v : ℕ) → HeldOrPlain (configBy (length m) h s) book true a → References (length (countedOf unit memory true a)) (storeCall unit memory a v .reply .answer))
+  run-counted-words a =
+      let st = after (configBy (length m) h s) xs (opened (configBy (length m) h s) m) in
+      (λ k. load-counted st unit memory stands a (here false a k), λ v k. store-counted st unit memory stands a v (here true a k))

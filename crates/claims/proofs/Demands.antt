@@ -58,6 +58,19 @@ opened-config : (m : List ℕ) (h s : ℕ) → configOf (grantedOf m h s .unit) 
 unfolding grantedOf firstOf
 opened-config m h s = refl
 
+-- after a granted opening, on any memory, and a list of calls, the record and the memory stand for machine and book
+pub after-run : (m : List ℕ) (h s : ℕ) (xs : List Call) → refusalOf (length m) h s ≡ 0
+    → let o = openCall m h s in
+    let c = configBy (length m) h s in
+    let e = unitAfter xs (o .reply .unit) (o .memory) o in
+    (configOf (e .reply .unit) ≡ c) × Inv (after c xs (opened c m)) (e .reply .unit) (e .memory)
+after-run m h s xs g =
+    let o = openCall m h s in
+    let c = configBy (length m) h s in
+    let q = granted-call m h s g in
+    after-follow c xs (opened c m) (o .reply .unit) (o .memory) o (ap (λ (e : Ended). configOf (e .reply .unit)) q ∙ opened-config m h s)
+    (subst (λ (e : Ended). Inv (opened c m) (e .reply .unit) (e .memory)) (sym q) (opened-inv m h s g)) refl refl
+
 -- Demand 3. "For every granted opening, on any memory, and every list of calls after it: each value, fault, refusal, count and
 -- the guest words equal those of document 01's machine without shadow and its book"
 pub demand-3 : (m : List ℕ) (h s : ℕ) (xs : List Call) → refusalOf (length m) h s ≡ 0
@@ -69,15 +82,3 @@ demand-3 m h s xs g =
     let k = grantedOf m h s in
     ap (λ (e : Ended). unitRun xs (e .reply .unit) (e .memory)) (granted-call m h s g)
     ∙ runs-follow c xs (opened c m) (k .unit) (k .memory) (opened-config m h s) (opened-inv m h s g)
-
--- after every run the record and the memory stand for the machine and its book
-pub run-inv : (m : List ℕ) (h s : ℕ) (xs : List Call) → refusalOf (length m) h s ≡ 0
-    → let e = runOf m h s xs in
-    let c = configBy (length m) h s in
-    Inv (after c xs (opened c m)) (e .reply .unit) (e .memory)
-run-inv m h s xs g =
-    let c = configBy (length m) h s in
-    let k = grantedOf m h s in
-    let o = ended (k .unit) answer.Ok (k .memory) in
-    subst (λ (e : Ended). let d = unitAfter xs (e .reply .unit) (e .memory) e in Inv (after c xs (opened c m)) (d .reply .unit) (d .memory)) (sym (granted-call m h s g))
-    (after-follow c xs (opened c m) (k .unit) (k .memory) o (opened-config m h s) (opened-inv m h s g) refl refl .1)

@@ -39,7 +39,7 @@ use Rattle.claims.proofs.Invariant.{Inv}
 use Rattle.laws.proofs.Indexes.{indexes-all}
 use Rattle.claims.proofs.Found.{memory-stands, root-small}
 use Rattle.claims.proofs.Requests.{page-in, fits-of, load-step, store-step}
-use Rattle.claims.proofs.Demands.{follows, run-inv}
+use Rattle.claims.proofs.Demands.{follows, after-run}
 
 -- ---- a load, or a store of a value
 abbrev pub isStore : Option ℕ → Bool
@@ -205,4 +205,4 @@ pub demand-2 : (m : List ℕ) (h s : ℕ) (xs : List Call) → refusalOf (length
     Unrefused (e .reply .answer) → AsWalked r n a v e (plainWalk r n (isStore v) a)
 demand-2 m h s xs g a v =
     let u = runOf m h s xs in
-    as-walked (after (configBy (length m) h s) xs (opened (configBy (length m) h s) m)) (u .reply .unit) (u .memory) (run-inv m h s xs g) a v
+    as-walked (after (configBy (length m) h s) xs (opened (configBy (length m) h s) m)) (u .reply .unit) (u .memory) (after-run m h s xs g .1) a v

@@ -466,7 +466,7 @@ module _ (r : Record) (m : List ℕ) where
       let t = unmapOf (configOf r) (r .host) m g in
       judged-kept r m _ (λ e. let z = fits-layout r (length m) e in
       changed-kept t _ (unmap-kept (configOf r) (r .host) m (omega (arith, z .sizes .hosts)) g)
-      (λ x. unmapped-kept (withHost r (t .change .pool)) (t .memory) g (host-layout r (t .change .pool)) (z .shadow .0) x))
+      (λ x. mapped-kept (t .change .pool) (t .memory) g (z .shadow .0) x (hostWalkOf (configOf r) m g)))
 
   -- ---- marks
   marked-kept : (x a n : ℕ) (t : Marks) → (x ≢ 0 → Numbered x) → Kept r m (judged r m (cond (eqb x 0) (markedOf r m a n t) (refused r x m)))

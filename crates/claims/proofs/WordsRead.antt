@@ -1,26 +1,26 @@
 -- A walk over memory, and a translation through a held path or at depth N + 1, depend on the words that they read and on no
 -- other, and count them; for any memory.
 -- Assumes nothing.
-use mathlib.Core.Path.{_≡_, refl, sym, ap, ap₂, _∙_, subst}
-use mathlib.Core.Logic.{_⊎_, inl, inr}
-use Prim.Native.Nat.{ℕ, zero, suc, pred, _+_, _-_, _*_, _%_, _<_, _≤_}
+use mathlib.Core.Path.{_≡_, refl, sym, ap, _∙_, subst}
+use Prim.Native.Nat.{ℕ, suc, pred, _+_, _-_, _%_, _<_, _≤_}
 use native.Mathlib.Nat.{zero-add}
 use native.Mathlib.Omega.{arith}
 use mathlib.Core.Bool.{Bool, true, false, not, _&&_, _||_, cond}
 use mathlib.Core.List.{List, [], _∷_, _++_}
 use mathlib.Core.Option.{Option, none, some}
-use lib.Dec.{T, eqb, leb, ltb, leb→le, le→leb, nleb→lt}
+use lib.Dec.{eqb, leb, ltb, leb→le, le→leb}
 use borrow.Author.Tests.{ltb-false}
 use lib.ListN.{length}
 use Rattle.spec.specs.declared.Fault.{Fault}
 use Rattle.spec.specs.declared.Fault.the-variants.{Absent, Malformed, Protected, HostAbsent, HostReadOnly}
 use Rattle.spec.specs.Config.{Config}
-use Rattle.spec.specs.Entry.{present, writable, frameOf, malformed, wordOf, pageOf, indexes}
-use Rattle.spec.specs.Walk.{Walk, done, fail, host, word, _>>=_, _>>_, World, Trace, Result, granted, failed, trace}
+use Rattle.spec.specs.Entry.{present, writable, frameOf, malformed, pageOf, indexes}
+use Rattle.spec.specs.Walk.{Walk, done, fail, host, word, _>>=_, World, Trace, trace}
 use Rattle.spec.specs.Plain.{Place, must, mapped, hosted, entry, next, levels, walk}
 use Rattle.spec.specs.Refusal.{inGuestArea}
 use Rattle.laws.proofs.Lists.{All, all-map, is-true, is-false}
 use Rattle.laws.proofs.Indexes.{indexes-length}
+use Rattle.entry.specs.declared.HostPhysical.{HostPhysical}
 use Rattle.words.specs.Words.{wordIn}
 use Rattle.area.specs.declared.Way.{Way}
 use Rattle.area.specs.declared.Way.the-variants.{To, Not, Bad}
@@ -39,12 +39,11 @@ use Rattle.walk.specs.declared.Walked.the-variants as walked
 use Rattle.walk.specs.Memory.{placeOf, readsOf, memoryWorld, absentBy, walkedBy, walkedOf}
 use Rattle.walk.proofs.Laws.{walked-done}
 use Rattle.record.specs.declared.Record.{Record}
-use Rattle.record.specs.Record.{configOf, fitsOf}
-use Rattle.entry.specs.declared.HostPhysical.{HostPhysical}
+use Rattle.record.specs.Record.{configOf}
 use Rattle.shadow.specs.Held.{heldOf}
 use Rattle.request.specs.Translate.{Out, outs, translation, exitBy, pathIndexes, directOf, servedOf, servesOf, foundOf, foundBy, missedOf, plainOf, translateOf}
-use Rattle.unit.specs.Calls.{Ended, ended, refused, judged, withHeld, depthAt, addressOk, translatedOf, loadBy, loadOf}
-use Rattle.claims.specs.Counted.{Word, SameWords, hostWords, walkWords, pathWords, directWords, countedOf, touchedBy, touchedOf}
+use Rattle.unit.specs.Calls.{depthAt, translatedOf}
+use Rattle.claims.specs.Counted.{Word, SameWords, hostWords, walkWords, pathWords, directWords, countedOf}
 
 -- ---- lists of words
 

@@ -2,7 +2,7 @@
 -- Assumes nothing.
 use mathlib.Core.Path.{_≡_}
 use mathlib.Core.Logic.{_⊎_}
-use Prim.Native.Nat.{ℕ, _-_, _<_}
+use Prim.Native.Nat.{ℕ, _<_}
 use mathlib.Core.Bool.{Bool, true, cond}
 use mathlib.Core.List.{List, [], _∷_, _++_}
 use lib.Dec.{T, leb, ltb}
@@ -101,11 +101,10 @@ References x (answer.Done n e) = n ≡ x
 References x (answer.Faulted y n e) = n ≡ x
 References x (answer.Refused n) = Unit {0}
 
--- a call on memory m is granted with k references and touches word i of host frame t: v stands there, and no other word of the
--- guest area changes
-pub record Touches (r : Record) (m : List ℕ) (k t i v : ℕ) (e : Ended) : Type 0 where
-  pub exits : ℕ
-  pub says : e .reply .answer ≡ answer.Done k exits
+-- a call on memory m is granted with k references and x exits and touches word i of host frame t: v stands there, and no other
+-- word of the guest area changes
+pub record Touches (r : Record) (m : List ℕ) (k x t i v : ℕ) (e : Ended) : Type 0 where
+  pub says : e .reply .answer ≡ answer.Done k x
   pub area : guestArea r (e .memory) ≡ set (guestArea r m) (place (configOf r) t i) v
 
 -- a call on memory m is refused with 11, and no word of the guest area changes
@@ -118,11 +117,11 @@ pub record Refuses (r : Record) (m : List ℕ) (e : Ended) : Type 0 where
 abbrev pub SameTables : Config → List ℕ → List ℕ → Type 0
 SameTables c m n = (f : ℕ) → f < guestBase c → SameFrame m n f
 
--- a store that is granted on memory m with k references, and the same store on memory n: "touches, after such a change, the
--- same word or, only if host or shadow words are among those altered, is refused with 11"
-pub record SameStore (r : Record) (m n : List ℕ) (a v k : ℕ) : Type 0 where
+-- a store that is granted on memory m, and the same store on memory n: "touches, after such a change, the same word or, only
+-- if host or shadow words are among those altered, is refused with 11"; else its exits stay the same too
+pub record SameStore (r : Record) (m n : List ℕ) (a v k x : ℕ) : Type 0 where
   pub frame : ℕ
   pub touched : touchedOf r m true a ≡ (frame, wordOf a) ∷ []
-  pub before : Touches r m k frame (wordOf a) v (storeCall r m a v)
-  pub altered : Touches r n k frame (wordOf a) v (storeCall r n a v) ⊎ Refuses r n (storeCall r n a v)
-  pub only : SameTables (configOf r) m n → Touches r n k frame (wordOf a) v (storeCall r n a v)
+  pub before : Touches r m k x frame (wordOf a) v (storeCall r m a v)
+  pub altered : ((y : ℕ) × Touches r n k y frame (wordOf a) v (storeCall r n a v)) ⊎ Refuses r n (storeCall r n a v)
+  pub only : SameTables (configOf r) m n → Touches r n k x frame (wordOf a) v (storeCall r n a v)
