@@ -126,7 +126,17 @@ impl Record {
     /// The record that nothing has opened: every call refuses it with 3.
     pub fn zeros() -> Record {
         let none = Pool::default();
-        Record { words: 0, hosts: 0, shadows: 0, root: 0, top: 0, host: none, shadow: none, set: 0, place: [0; 64] }
+        Record {
+            words: 0,
+            hosts: 0,
+            shadows: 0,
+            root: 0,
+            top: 0,
+            host: none,
+            shadow: none,
+            set: 0,
+            place: [0; 64],
+        }
     }
 
     /// Loads the word at a guest-virtual address: 3, 4, 11.

@@ -46,7 +46,13 @@ extern "C" {
         writable: bool,
     ) -> Reply;
     pub fn cangrieb_unmap(record: Record, memory: *mut u64, words: usize, guest: u64) -> Reply;
-    pub fn cangrieb_set_mark(record: Record, memory: *mut u64, words: usize, address: u64, level: u64) -> Reply;
+    pub fn cangrieb_set_mark(
+        record: Record,
+        memory: *mut u64,
+        words: usize,
+        address: u64,
+        level: u64,
+    ) -> Reply;
     pub fn cangrieb_clear_mark(
         record: Record,
         memory: *mut u64,
