@@ -1,0 +1,25 @@
+//! A monitor in a few lines: a guest of eight frames, its tables, and what its processor asks for.
+
+use cangrieb::{Answer, Record};
+
+fn main() {
+    let mut memory = vec![0; 16 * 512];
+    let mut unit = Record::open(&mut memory, 4, 4)
+        .expect("sixteen frames, four for host tables, four for shadow tables");
+    for guest in 0..8 {
+        unit.map(&mut memory, guest, 8 + guest, true);
+    }
+    unit.root(&mut memory, 0);
+    for (address, entry) in [(0x0000, 0x1003), (0x1000, 0x2003), (0x2000, 0x3003), (0x3000, 0x4003)] {
+        unit.device_store(&mut memory, address, entry);
+    }
+    for address in [0, 0, 0x1000] {
+        match unit.load(&mut memory, address) {
+            Answer::Value { word, references, exits } => {
+                println!("{address:#x}: {word:#x}, {references} references, {exits} exits")
+            }
+            Answer::Fault { fault, .. } => println!("{address:#x}: {fault:?}, for the guest"),
+            other => println!("{address:#x}: {other:?}"),
+        }
+    }
+}

@@ -1,0 +1,189 @@
+//! The proved memory unit, for a monitor to link.
+//!
+//! The monitor owns a memory, a slice of 64-bit words in frames of 512: first the host frames, then the shadow frames,
+//! then the guest area. [`Record::open`] lays it out; each later call takes the record and the same memory.
+//!
+//! Nothing else is asked of the caller: the archive's functions have no precondition. A memory of another length or a
+//! record that breaks a rule is refused with 3, and a damaged table with 11; no call reads or writes a word outside the
+//! slice.
+//!
+//! ```
+//! use cangrieb::{Answer, Record};
+//!
+//! let mut memory = vec![0; 16 * 512];
+//! let mut unit = Record::open(&mut memory, 4, 4).unwrap();
+//! assert_eq!(unit.map(&mut memory, 0, 8, true), Answer::Ok);
+//! assert_eq!(unit.root(&mut memory, 0), Answer::Ok);
+//! // The guest's top table is its frame 0; its entry 0 names frame 0 again, at each of the four levels.
+//! assert_eq!(unit.device_store(&mut memory, 0, 3), Answer::Done { references: 4, exits: 0 });
+//! assert_eq!(unit.load(&mut memory, 0), Answer::Value { word: 3, references: 4, exits: 1 });
+//! assert_eq!(unit.load(&mut memory, 0), Answer::Value { word: 3, references: 4, exits: 0 });
+//! ```
+
+pub mod raw;
+
+/// What the unit keeps of an area of tables. The unit's own: a caller has no use for it.
+#[repr(C)]
+#[derive(Clone, Copy, Debug, Default, PartialEq, Eq)]
+pub struct Pool {
+    pub fresh: u64,
+    pub free: u64,
+    pub used: u64,
+}
+
+/// The unit's record. It is plain data: it may be copied, kept and compared. Each call replaces it; a refusal leaves it.
+#[repr(C)]
+#[derive(Clone, Copy, Debug, PartialEq, Eq)]
+pub struct Record {
+    /// The opening's words, host frames and shadow frames.
+    pub words: u64,
+    pub hosts: u64,
+    pub shadows: u64,
+    /// The guest frame of the guest's top table.
+    pub root: u64,
+    /// The host frame of the path held at depth 4, or 0.
+    pub top: u64,
+    pub host: Pool,
+    pub shadow: Pool,
+    /// The places of marks that are set, one bit each, and what stands at each.
+    pub set: u64,
+    pub place: [u64; 64],
+}
+
+/// Why a walk ended before its word.
+#[derive(Clone, Copy, Debug, PartialEq, Eq)]
+pub enum Fault {
+    /// A: a guest entry is not present.
+    Absent { level: u64 },
+    /// M: a present guest entry is malformed.
+    Malformed { level: u64 },
+    /// P: a store through a guest entry that is not writable.
+    Protected { level: u64 },
+    /// H: a guest frame is not mapped.
+    HostAbsent { frame: u64 },
+    /// W: a store to a guest frame that is mapped read-only.
+    HostReadOnly { frame: u64 },
+}
+
+/// What a call answers. References are the words of tables read; exits are calls of the guest's processor to the monitor.
+#[derive(Clone, Copy, Debug, PartialEq, Eq)]
+pub enum Answer {
+    Ok,
+    Value { word: u64, references: u64, exits: u64 },
+    Done { references: u64, exits: u64 },
+    Fault { fault: Fault, references: u64, exits: u64 },
+    Refused(u64),
+}
+
+impl Answer {
+    fn from_raw(raw: raw::Answer) -> Answer {
+        let raw::Answer { references, exits, .. } = raw;
+        match raw.kind {
+            0 => Answer::Ok,
+            1 => Answer::Value { word: raw.number, references, exits },
+            2 => Answer::Done { references, exits },
+            3 => Answer::Fault { fault: Fault::from_raw(raw), references, exits },
+            _ => Answer::Refused(raw.number),
+        }
+    }
+}
+
+impl Fault {
+    fn from_raw(raw: raw::Answer) -> Fault {
+        let raw::Answer { level, frame, .. } = raw;
+        match raw.letter as u8 {
+            b'A' => Fault::Absent { level },
+            b'M' => Fault::Malformed { level },
+            b'P' => Fault::Protected { level },
+            b'H' => Fault::HostAbsent { frame },
+            _ => Fault::HostReadOnly { frame },
+        }
+    }
+}
+
+/// Calls an exported function with the record and the memory, and takes its record over.
+macro_rules! call {
+    ($record:expr, $memory:expr, $function:ident $(, $argument:expr)*) => {{
+        // The pointer and the length are those of one slice, lent mutably for the call; the function asks for nothing else.
+        let reply = unsafe { raw::$function(*$record, $memory.as_mut_ptr(), $memory.len() $(, $argument)*) };
+        *$record = reply.record;
+        Answer::from_raw(reply.answer)
+    }};
+}
+
+impl Record {
+    /// Opens a memory with so many host frames and shadow frames; those are cleared, the guest area is kept. Refused with
+    /// 1 if the words are no multiple of 512 or the frames are 0 or more than 65,536; with 2 if either number is below 4
+    /// or no guest frame is left.
+    pub fn open(memory: &mut [u64], hosts: u64, shadows: u64) -> Result<Record, u64> {
+        let reply = unsafe { raw::cangrieb_open(memory.as_mut_ptr(), memory.len(), hosts, shadows) };
+        match Answer::from_raw(reply.answer) {
+            Answer::Refused(number) => Err(number),
+            _ => Ok(reply.record),
+        }
+    }
+
+    /// The record that nothing has opened: every call refuses it with 3.
+    pub fn zeros() -> Record {
+        let none = Pool::default();
+        Record {
+            words: 0,
+            hosts: 0,
+            shadows: 0,
+            root: 0,
+            top: 0,
+            host: none,
+            shadow: none,
+            set: 0,
+            place: [0; 64],
+        }
+    }
+
+    /// Loads the word at a guest-virtual address: 3, 4, 11.
+    #[inline]
+    pub fn load(&mut self, memory: &mut [u64], address: u64) -> Answer {
+        call!(self, memory, cangrieb_load, address)
+    }
+
+    /// Stores a word at a guest-virtual address: 3, 4, 11.
+    #[inline]
+    pub fn store(&mut self, memory: &mut [u64], address: u64, value: u64) -> Answer {
+        call!(self, memory, cangrieb_store, address, value)
+    }
+
+    /// A device stores a word at a guest-physical address: 3, 4, 11.
+    #[inline]
+    pub fn device_store(&mut self, memory: &mut [u64], address: u64, value: u64) -> Answer {
+        call!(self, memory, cangrieb_device_store, address, value)
+    }
+
+    /// Loads the root, the guest frame of the guest's top table: 3, 8.
+    #[inline]
+    pub fn root(&mut self, memory: &mut [u64], guest: u64) -> Answer {
+        call!(self, memory, cangrieb_root, guest)
+    }
+
+    /// Maps a guest frame to a host frame of the guest area, or maps it anew: 3, 8, 9, 10, 11.
+    #[inline]
+    pub fn map(&mut self, memory: &mut [u64], guest: u64, frame: u64, writable: bool) -> Answer {
+        call!(self, memory, cangrieb_map, guest, frame, writable)
+    }
+
+    /// Unmaps a guest frame: 3, 8, 12, 11.
+    #[inline]
+    pub fn unmap(&mut self, memory: &mut [u64], guest: u64) -> Answer {
+        call!(self, memory, cangrieb_unmap, guest)
+    }
+
+    /// Sets a mark of level 1 to 5 at an address: 3, 4, 5, 6, 7, 11.
+    #[inline]
+    pub fn set_mark(&mut self, memory: &mut [u64], address: u64, level: u64) -> Answer {
+        call!(self, memory, cangrieb_set_mark, address, level)
+    }
+
+    /// Clears a mark: 3, 4, 5, 6, 11.
+    #[inline]
+    pub fn clear_mark(&mut self, memory: &mut [u64], address: u64, level: u64) -> Answer {
+        call!(self, memory, cangrieb_clear_mark, address, level)
+    }
+}

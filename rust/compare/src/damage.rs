@@ -1,0 +1,283 @@
+//! Damage to a record and its memory, and what must hold of a call on them all the same.
+
+use crate::answer;
+use cangrieb::Record;
+use std::collections::BTreeMap;
+use walker::random::Random;
+use walker::{Answer, Call};
+
+const FRAME: usize = 512;
+
+/// A memory with a margin of known words on each side of it, which no call may touch.
+#[derive(Clone)]
+pub struct Lent {
+    words: Vec<u64>,
+    left: Vec<u64>,
+    right: Vec<u64>,
+}
+
+impl Lent {
+    /// With a margin of 0 the memory is an allocation of its own, for a tool that watches every access.
+    pub fn new(memory: &[u64], margin: usize, random: &mut Random) -> Lent {
+        let mut side = || -> Vec<u64> { (0..margin).map(|_| random.word()).collect() };
+        let (left, right) = (side(), side());
+        let words = [&left, memory, &right].concat();
+        Lent { words, left, right }
+    }
+
+    pub fn memory(&mut self) -> &mut [u64] {
+        let end = self.words.len() - self.right.len();
+        &mut self.words[self.left.len()..end]
+    }
+
+    fn margins_stand(&self) -> bool {
+        self.words.starts_with(&self.left) && self.words.ends_with(&self.right)
+    }
+}
+
+/// A unit's record and memory.
+#[derive(Clone)]
+pub struct State {
+    pub record: Record,
+    pub lent: Lent,
+}
+
+/// How often each answer came.
+pub type Counts = BTreeMap<String, u64>;
+
+impl State {
+    /// A call, and what must hold after it whatever the record and the memory were:
+    /// no word outside the memory changes; a refusal returns the record given, and
+    /// but for 11 leaves every word; a store changes one guest word at most, to its
+    /// value and at its place in a frame, and any other call none; a load yields a word that stands
+    /// in the guest area, at its place in a frame.
+    pub fn checked_call(&mut self, before: &mut State, call: &Call, part: usize, counts: &mut Counts) {
+        before.record = self.record;
+        before.lent.words.copy_from_slice(&self.lent.words);
+        let said = answer(&mut self.record, &mut self.lent.memory()[..part], call);
+        *counts.entry(name(&said)).or_insert(0) += 1;
+        assert!(self.lent.margins_stand(), "{call:?} => {said:?}: a word outside the memory");
+        if let Answer::No(number) = said {
+            assert!(self.record == before.record, "{call:?} => {said:?}: the record");
+            assert!(number == 11 || self.lent.words == before.lent.words, "{call:?} => {said:?}: a word");
+        }
+        if said == Answer::No(3) {
+            return;
+        }
+        // The record broke no rule, so its sizes are those of the memory.
+        let first = (before.record.hosts + before.record.shadows) as usize * FRAME;
+        let guest = &self.lent.memory()[first..];
+        let guest_before = &before.lent.memory()[first..];
+        match (*call, said) {
+            (Call::Store { address, value } | Call::DeviceStore { address, value }, Answer::Done { .. }) => {
+                let changed = guest.iter().zip(guest_before).enumerate().filter(|(_, (now, was))| now != was);
+                let changed: Vec<(usize, u64)> = changed.map(|(at, (now, _))| (at % FRAME, *now)).collect();
+                let stored = (place(address), value);
+                assert!(
+                    changed.iter().all(|word| *word == stored) && changed.len() <= 1,
+                    "{call:?}: {changed:?}"
+                );
+                assert!(
+                    guest.iter().skip(stored.0).step_by(FRAME).any(|word| *word == value),
+                    "{call:?}: not stored"
+                );
+            }
+            (Call::Load { address }, Answer::Value { value, .. }) => {
+                assert!(guest == guest_before, "{call:?} => {said:?}: a guest word");
+                assert!(
+                    guest.iter().skip(place(address)).step_by(FRAME).any(|word| *word == value),
+                    "{call:?}"
+                );
+            }
+            _ => assert!(guest == guest_before, "{call:?} => {said:?}: a guest word"),
+        }
+    }
+
+    /// One to four kinds of damage.
+    pub fn damage(&mut self, random: &mut Random) {
+        for _ in 0..1 + random.below(4) {
+            match random.below(12) {
+                0 => damage_record(&mut self.record, random),
+                1 => damage_fields(&mut self.record, random),
+                2 | 3 => damage_pools(&mut self.record, random),
+                4 => flip_bits(self.lent.memory(), random),
+                5 => spoil_frame(&self.record.clone(), self.lent.memory(), random),
+                6 | 7 => swap_entries(&self.record.clone(), self.lent.memory(), random),
+                8 | 9 => bend_entries(&self.record.clone(), self.lent.memory(), random),
+                _ => close_cycles(&self.record.clone(), self.lent.memory(), random),
+            }
+        }
+    }
+}
+
+/// The place of an address's word in its frame.
+fn place(address: u64) -> usize {
+    (address / 8) as usize % FRAME
+}
+
+fn name(said: &Answer) -> String {
+    match said {
+        Answer::Ok => "ok".into(),
+        Answer::Value { .. } => "value".into(),
+        Answer::Done { .. } => "done".into(),
+        Answer::Fault { fault, .. } => format!("fault {}", fault.letter()),
+        Answer::No(number) => format!("refusal {number}"),
+    }
+}
+
+// The record.
+
+fn flip(word: &mut u64, random: &mut Random) {
+    *word ^= 1 << random.below(64);
+}
+
+/// One bit of the record.
+fn damage_record(record: &mut Record, random: &mut Random) {
+    let at = random.below(12 + 64);
+    match field(record, at) {
+        Some(word) => flip(word, random),
+        None => flip(&mut record.place[(at - 12) as usize], random),
+    }
+}
+
+/// A field of the record set to a number near a limit, or to any number.
+fn damage_fields(record: &mut Record, random: &mut Random) {
+    let limits = [0, 1, 4, record.hosts, record.shadows, record.words / 512, record.words, 1 << 36, u64::MAX];
+    let number = if random.one_in(4) {
+        random.word()
+    } else {
+        random.pick(&limits).wrapping_add(random.below(3)).wrapping_sub(1)
+    };
+    let at = random.below(12);
+    if let Some(word) = field(record, at) {
+        *word = number;
+    }
+}
+
+/// Fields that may keep their ranges and still say what is not so.
+fn damage_pools(record: &mut Record, random: &mut Random) {
+    // An earlier damage may have set these to any number.
+    let frames = (record.words / 512).clamp(1, 65_536);
+    let (hosts, shadows) = (record.hosts.min(frames), record.shadows.min(frames));
+    match random.below(6) {
+        0 => record.top = hosts + shadows + random.below(frames),
+        1 => record.root = random.below(frames),
+        2 => record.host.free = (random.below(frames + 2) << 12) | random.below(4),
+        3 => record.shadow.free = (random.below(frames + 2) << 12) | random.below(4),
+        4 => {
+            record.shadow.fresh = random.below(shadows + 1);
+            record.shadow.used = random.below(record.shadow.fresh + 1);
+        }
+        _ => {
+            record.host.fresh = random.below(hosts + 1);
+            record.host.used = random.below(record.host.fresh + 1);
+        }
+    }
+}
+
+fn field(record: &mut Record, at: u64) -> Option<&mut u64> {
+    Some(match at {
+        0 => &mut record.words,
+        1 => &mut record.hosts,
+        2 => &mut record.shadows,
+        3 => &mut record.root,
+        4 => &mut record.top,
+        5 => &mut record.host.fresh,
+        6 => &mut record.host.free,
+        7 => &mut record.host.used,
+        8 => &mut record.shadow.fresh,
+        9 => &mut record.shadow.free,
+        10 => &mut record.shadow.used,
+        11 => &mut record.set,
+        _ => return None,
+    })
+}
+
+// The memory.
+
+/// A frame, mostly of the host or shadow tables in use.
+fn some_frame(record: &Record, memory: &[u64], random: &mut Random) -> usize {
+    let frames = (memory.len() / FRAME) as u64;
+    let frame = match random.below(5) {
+        0 => random.below(frames),
+        1 | 2 => random.below(record.host.fresh.clamp(1, frames)),
+        _ => record.hosts.min(frames) + random.below(record.shadow.fresh.clamp(1, frames)),
+    };
+    frame.min(frames - 1) as usize
+}
+
+/// A word of the frame: one that is not 0, if any is.
+fn some_word(memory: &[u64], frame: usize, random: &mut Random) -> usize {
+    let start = random.below(FRAME as u64) as usize;
+    let places = (0..FRAME).map(|step| frame * FRAME + (start + step) % FRAME);
+    let mut used = places.clone().filter(|at| memory[*at] != 0);
+    used.next().unwrap_or(frame * FRAME + start)
+}
+
+fn flip_bits(memory: &mut [u64], random: &mut Random) {
+    for _ in 0..1 + random.below(64) {
+        let at = random.below(memory.len() as u64) as usize;
+        flip(&mut memory[at], random);
+    }
+}
+
+/// A whole frame: random words, zeros, ones, present entries, or another frame's words.
+fn spoil_frame(record: &Record, memory: &mut [u64], random: &mut Random) {
+    let frame = some_frame(record, memory, random);
+    let from = some_frame(record, memory, random);
+    let frames = (memory.len() / FRAME) as u64;
+    let kind = random.below(5);
+    for at in 0..FRAME {
+        memory[frame * FRAME + at] = match kind {
+            0 => random.word(),
+            1 => 0,
+            2 => u64::MAX,
+            3 => (random.below(frames) << 12) | 3 | (random.below(2) << 9),
+            _ => memory[from * FRAME + at],
+        };
+    }
+}
+
+fn swap_entries(record: &Record, memory: &mut [u64], random: &mut Random) {
+    for _ in 0..1 + random.below(4) {
+        let (one, other) = (some_frame(record, memory, random), some_frame(record, memory, random));
+        let (one, other) = (some_word(memory, one, random), some_word(memory, other, random));
+        memory.swap(one, other);
+    }
+}
+
+/// Present entries that name frames out of range or of a wrong area, flip their low bits, or lose the bits above them.
+fn bend_entries(record: &Record, memory: &mut [u64], random: &mut Random) {
+    let frames = (memory.len() / FRAME) as u64;
+    for _ in 0..1 + random.below(4) {
+        let frame = some_frame(record, memory, random);
+        let at = some_word(memory, frame, random);
+        let word = memory[at];
+        let named = match random.below(5) {
+            0 => frames + random.below(3),
+            1 => random.below(1 << 40),
+            2 => (1 << 40) - 1,
+            _ => random.below(frames),
+        };
+        memory[at] = match random.below(4) {
+            0 => word ^ (1 << random.pick(&[0, 1, 7, 9, 12, 48, 52, 63])),
+            1 => (named << 12) | 3,
+            _ => (word & !(((1 << 40) - 1) << 12)) | (named << 12) | 1,
+        };
+    }
+}
+
+/// Tables that name themselves or each other.
+fn close_cycles(record: &Record, memory: &mut [u64], random: &mut Random) {
+    let frame = some_frame(record, memory, random);
+    let other = if random.one_in(2) { frame } else { some_frame(record, memory, random) };
+    let all = random.one_in(3);
+    for (from, to) in [(frame, other), (other, frame)] {
+        let one = some_word(memory, from, random);
+        let end = (from + 1) * FRAME;
+        for word in &mut memory[if all { from * FRAME..end } else { one..one + 1 }] {
+            let kept = *word & !(((1 << 40) - 1) << 12);
+            *word = kept | ((to as u64) << 12) | 3;
+        }
+    }
+}

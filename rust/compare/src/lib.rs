@@ -1,0 +1,59 @@
+//! The proved unit and the second walker on the same calls.
+
+pub mod damage;
+
+use cangrieb::Record;
+use walker::random::{Random, Run};
+use walker::{Answer, Call, Fault};
+
+/// The proved unit's answer to one of the walker's calls, in the walker's terms.
+pub fn answer(record: &mut Record, memory: &mut [u64], call: &Call) -> Answer {
+    let said = match *call {
+        Call::Root { frame } => record.root(memory, frame),
+        Call::Map { guest, host, writable } => record.map(memory, guest, host, writable),
+        Call::Unmap { guest } => record.unmap(memory, guest),
+        Call::SetMark { address, level } => record.set_mark(memory, address, level),
+        Call::ClearMark { address, level } => record.clear_mark(memory, address, level),
+        Call::Load { address } => record.load(memory, address),
+        Call::Store { address, value } => record.store(memory, address, value),
+        Call::DeviceStore { address, value } => record.device_store(memory, address, value),
+    };
+    in_walkers_terms(said)
+}
+
+fn in_walkers_terms(said: cangrieb::Answer) -> Answer {
+    match said {
+        cangrieb::Answer::Ok => Answer::Ok,
+        cangrieb::Answer::Value { word, references, exits } => {
+            Answer::Value { value: word, references, exits }
+        }
+        cangrieb::Answer::Done { references, exits } => Answer::Done { references, exits },
+        cangrieb::Answer::Fault { fault, references, exits } => {
+            Answer::Fault { fault: fault_in_walkers_terms(fault), references, exits }
+        }
+        cangrieb::Answer::Refused(number) => Answer::No(number as u32),
+    }
+}
+
+fn fault_in_walkers_terms(fault: cangrieb::Fault) -> Fault {
+    match fault {
+        cangrieb::Fault::Absent { level } => Fault::Absent { level: level as u32 },
+        cangrieb::Fault::Malformed { level } => Fault::Malformed { level: level as u32 },
+        cangrieb::Fault::Protected { level } => Fault::Protected { level: level as u32 },
+        cangrieb::Fault::HostAbsent { frame } => Fault::HostAbsent { frame },
+        cangrieb::Fault::HostReadOnly { frame } => Fault::HostReadOnly { frame },
+    }
+}
+
+/// The run's memory with random words in the host and shadow frames: an opening clears them.
+pub fn memory_before(run: &Run, random: &mut Random) -> Vec<u64> {
+    let mut memory = run.words.clone();
+    for word in &mut memory[..first_guest_word(run)] {
+        *word = random.word();
+    }
+    memory
+}
+
+pub fn first_guest_word(run: &Run) -> usize {
+    ((run.sizes.h + run.sizes.s) * walker::numbers::FRAME_WORDS) as usize
+}

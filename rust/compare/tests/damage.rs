@@ -1,0 +1,75 @@
+//! A million calls on damaged records and memories: each ends, and leaves what it may not change.
+//! DAMAGED_CALLS sets another number, MARGIN the words on each side of the lent memory.
+
+use cangrieb::Record;
+use compare::damage::{Counts, Lent, State};
+use compare::{answer, memory_before};
+use walker::random::{run, Random, Run, Sizes};
+
+/// Calls after each damage, and damages of one run.
+const CALLS: u64 = 50;
+const DAMAGES: u64 = 6;
+
+fn number(variable: &str, otherwise: u64) -> u64 {
+    std::env::var(variable).ok().and_then(|text| text.parse().ok()).unwrap_or(otherwise)
+}
+
+fn calls() -> u64 {
+    number("DAMAGED_CALLS", 1_200_000)
+}
+
+/// A sound state somewhere in the run.
+fn sound_state(run: &Run, random: &mut Random) -> State {
+    let mut lent = Lent::new(&memory_before(run, random), number("MARGIN", 1024) as usize, random);
+    let mut record = Record::open(lent.memory(), run.sizes.h, run.sizes.s).unwrap();
+    let length = random.below(run.calls.len() as u64) as usize;
+    for call in &run.calls[..length] {
+        answer(&mut record, lent.memory(), call);
+    }
+    State { record, lent }
+}
+
+fn damaged_run(seed: u64, sizes: Sizes, counts: &mut Counts) {
+    let mut random = Random::new(seed ^ 0xDA4A_6E00);
+    let run = run(seed, sizes, 300);
+    let sound = sound_state(&run, &mut random);
+    let mut before = sound.clone();
+    for _ in 0..DAMAGES {
+        let mut state = sound.clone();
+        state.damage(&mut random);
+        for _ in 0..CALLS {
+            let call = random.pick(&run.calls);
+            let words = state.lent.memory().len();
+            // Now and then only a part of the memory is lent, or nothing.
+            let part = if random.one_in(100) { random.below(words as u64 + 1) as usize } else { words };
+            state.checked_call(&mut before, &call, part, counts);
+        }
+    }
+}
+
+fn damaged_runs(first_seed: u64, calls: u64, sizes: fn(&mut Random) -> Sizes) {
+    let mut counts = Counts::new();
+    let runs = calls.div_ceil(CALLS * DAMAGES);
+    for seed in first_seed..first_seed + runs {
+        damaged_run(seed, sizes(&mut Random::new(seed)), &mut counts);
+    }
+    println!("{} calls: {counts:?}", runs * CALLS * DAMAGES);
+    if calls >= 100_000 {
+        let refusals = [3, 4, 5, 6, 7, 8, 9, 10, 11, 12].map(|number| format!("refusal {number}"));
+        let faults = ["A", "M", "P", "H", "W"].map(|letter| format!("fault {letter}"));
+        let others = ["ok", "value", "done"].map(String::from);
+        for name in refusals.iter().chain(&faults).chain(&others) {
+            assert!(counts.contains_key(name), "no damaged run had: {name}");
+        }
+    }
+}
+
+#[test]
+fn sixteen_frames() {
+    damaged_runs(0, calls() / 2, |_| Sizes { levels: 4, frames: 16, h: 4, s: 4 });
+}
+
+#[test]
+fn small_memories() {
+    damaged_runs(1_000_000, calls() / 2, |random| Sizes::small(random, 4));
+}
