@@ -1,54 +1,44 @@
+use Rattle.jobs.specs.Run.{runOf}
 use borrow.Author.Needs.{needs}
 use Rattle.jobs.proofs.run_job.Statement.{statement}
 use Rattle.jobs.proofs.run_job.Tie as tie
-use Rattle.jobs.proofs.run_job.Reads as reads
-use Rattle.jobs.proofs.run_job.Lts as lts
-use Rattle.jobs.proofs.run_call.Reads as run-call-reads
-use Rattle.jobs.proofs.run_open.Reads as run-open-reads
 
--- src/lib.rt:329:21
 enum-known-job : tie.Need-enum-known-job
 enum-known-job c = search needs
 
--- src/lib.rt:329:41
 run-open-requires : tie.Need-run-open-requires
 run-open-requires c κs = search needs
 
--- src/lib.rt:330:19
 enum-known-job-2 : tie.Need-enum-known-job-2
 enum-known-job-2 c = search needs
 
--- src/lib.rt:332:21
 run-call-requires : tie.Need-run-call-requires
 run-call-requires c κs = search needs
 
--- src/lib.rt:353:21
 enum-told : tie.Need-enum-told
 enum-told c = search needs
 
--- src/lib.rt:325:1
 same-length : tie.Need-same-length
 same-length c = search needs
 
--- src/lib.rt:325:1
 returns : tie.Need-returns
-returns c = ?
+unfolding runOf
+returns c = rw (c .before .before .before .before .before .job .given .1) (c .before .before .run-open .ensures)
 
--- src/lib.rt:325:1
 same-length-2 : tie.Need-same-length-2
 same-length-2 c = search needs
 
--- src/lib.rt:325:1
 returns-2 : tie.Need-returns-2
-returns-2 c = ?
+unfolding runOf
+returns-2 c = rw (c .before .before .before .before .before .before .before .job2 .given .1, c .before .before .before .before .before .if1 .taken, ← c .before .before .before .run-call .ensures)
 
--- src/lib.rt:325:1
 returns-3 : tie.Need-returns-3
-returns-3 c = ?
+unfolding runOf
+returns-3 c = rw (c .before .before .job2 .given .1, c .if1 .left)
 
--- src/lib.rt:325:1
 returns-4 : tie.Need-returns-4
-returns-4 c = ?
+unfolding runOf
+returns-4 c = rw (c .enum-told .given .1)
 
 pub run-job-spec : {M : Type 1} → statement M
 run-job-spec =

@@ -1,34 +1,24 @@
 use borrow.Author.Needs.{needs}
 use Rattle.jobs.proofs.run_open.Statement.{statement}
 use Rattle.jobs.proofs.run_open.Tie as tie
-use Rattle.jobs.proofs.run_open.Reads as reads
-use Rattle.jobs.proofs.run_open.Lts as lts
-use Rattle.jobs.proofs.granted.Reads as granted-reads
-use Rattle.unit.proofs.open.Reads as open-reads
 
--- src/lib.rt:304:9
 open-requires : tie.Need-open-requires
 open-requires c κs = search needs
 
--- src/lib.rt:306:8
 granted-requires : tie.Need-granted-requires
 granted-requires c κs = search needs
 
--- src/lib.rt:301:1
 same-length : tie.Need-same-length
 same-length c = search needs
 
--- src/lib.rt:301:1
 returns : tie.Need-returns
-returns c = ?
+returns c = rw (← c .before .before .before .before .before .«open» .ensures, ← c .before .before .granted .ensures, c .before .if1 .taken)
 
--- src/lib.rt:301:1
 same-length-2 : tie.Need-same-length-2
 same-length-2 c = search needs
 
--- src/lib.rt:301:1
 returns-2 : tie.Need-returns-2
-returns-2 c = ?
+returns-2 c = rw (← c .before .before .before .before .«open» .ensures, ← c .before .granted .ensures, c .if1 .left)
 
 pub run-open-spec : {M : Type 1} → statement M
 run-open-spec =
