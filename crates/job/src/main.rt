@@ -1,2 +1,4 @@
-// x
-fn main() {}
+// The job program: records from standard input, a line for each.
+fn main() {
+    stream::run();
+}

@@ -36,6 +36,12 @@ bodyOf s (Body k b n) = take n (drop b s)
 bodyOf s Short = []
 bodyOf s Wrong = []
 
+-- where it ends
+abbrev pub nextOf : ℕ → Cut → ℕ
+nextOf at (Body k b n) = b + n
+nextOf at Short = at
+nextOf at Wrong = at
+
 -- ---- what a record of a kind with a body asks for
 
 -- "13 .. if the length is not its kind's"

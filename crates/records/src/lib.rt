@@ -2,7 +2,7 @@
 ghost use mathlib.Core.Path.{_≡_};
 ghost use Prim.Native.Nat.{_+_, _≤_, _<_};
 ghost use lib.ListN.{length};
-ghost use Rattle.records.specs.Records.{number, cutAt, bodyOf, jobOf, openBody, mapBody, numberBody, markBody, pairBody, jobAt};
+ghost use Rattle.records.specs.Records.{number, cutAt, bodyOf, nextOf, jobOf, openBody, mapBody, numberBody, markBody, pairBody, jobAt};
 
 // ---- splitting the input
 
@@ -89,6 +89,17 @@ pub fn body_at(s: &[u8], at: usize) -> &[u8]
         Cut::Body { kind, start, len } => &s[start..start + len],
         Cut::Short => &s[..0],
         Cut::Wrong => &s[..0],
+    }
+}
+
+// Where the record that starts at a position ends; the position itself where there is no whole record.
+pub fn next_at(s: &[u8], at: usize) -> usize
+    ensures { λ r. ⌜ r ≡ nextOf at (cutAt (now (s .entry)) at) ⌝ }
+{
+    match cut_at(s, at) {
+        Cut::Body { kind, start, len } => start + len,
+        Cut::Short => at,
+        Cut::Wrong => at,
     }
 }
 

@@ -1,0 +1,115 @@
+use Prim.Native.Nat.{ℕ, _<_}
+use borrow.Fn.Kinds.{In}
+use borrow.Fn.PlainCycle.{Measures, is, falls, and}
+use Rattle.lines.proofs.put_hex.Reads as put-hex
+use Rattle.lines.proofs.put_hex.Kinds as put-hex-kinds
+use Rattle.lines.proofs.+put_hex.Lts-put_hex as put-hex-lts
+use Rattle.lines.proofs.digit_of.Reads as digit-of-reads
+use Rattle.lines.proofs.put.Reads as put-reads
+use Rattle.lines.proofs.+put_hex.{statement}
+use Rattle.lines.proofs.+put_hex.Tie.{close}
+
+abbrev μ-put-hex : Measures 1 put-hex-kinds.ps ℕ
+μ-put-hex κs a = ?
+
+abbrev put-hex-at : ℕ → In 1 put-hex-kinds.ps
+put-hex-at t = and 1 put-hex-kinds.ps (is 1 put-hex-kinds.ps μ-put-hex t) put-hex.Pre
+
+abbrev put-hex-below : ℕ → In 1 put-hex-kinds.ps
+put-hex-below t = and 1 put-hex-kinds.ps (falls 1 put-hex-kinds.ps _<_ μ-put-hex t) put-hex.Pre
+
+-- src/lib.rt:67:9
+put-hex-returns : (t : ℕ) → put-hex-lts.Need-returns (
+  put-hex-below t,
+  put-hex.Post,
+  digit-of-reads.Asked,
+  digit-of-reads.Learnt,
+  put-reads.Asked,
+  put-reads.Learnt,
+) (put-hex-at t) put-hex.Post
+put-hex-returns t c = ?
+
+-- src/lib.rt:69:41
+put-hex-sub-put-hex : (t : ℕ) → put-hex-lts.Need-sub-put-hex (
+  put-hex-below t,
+  put-hex.Post,
+  digit-of-reads.Asked,
+  digit-of-reads.Learnt,
+  put-reads.Asked,
+  put-reads.Learnt,
+) (put-hex-at t) put-hex.Post
+put-hex-sub-put-hex t c = ?
+
+-- src/lib.rt:69:9
+put-hex-put-hex-requires : (t : ℕ) → put-hex-lts.Need-put-hex-requires (
+  put-hex-below t,
+  put-hex.Post,
+  digit-of-reads.Asked,
+  digit-of-reads.Learnt,
+  put-reads.Asked,
+  put-reads.Learnt,
+) (put-hex-at t) put-hex.Post
+put-hex-put-hex-requires t c κs = ?
+
+-- src/lib.rt:70:20
+put-hex-digit-of-requires : (t : ℕ) → put-hex-lts.Need-digit-of-requires (
+  put-hex-below t,
+  put-hex.Post,
+  digit-of-reads.Asked,
+  digit-of-reads.Learnt,
+  put-reads.Asked,
+  put-reads.Learnt,
+) (put-hex-at t) put-hex.Post
+put-hex-digit-of-requires t c κs = ?
+
+-- src/lib.rt:70:5
+put-hex-put-requires : (t : ℕ) → put-hex-lts.Need-put-requires (
+  put-hex-below t,
+  put-hex.Post,
+  digit-of-reads.Asked,
+  digit-of-reads.Learnt,
+  put-reads.Asked,
+  put-reads.Learnt,
+) (put-hex-at t) put-hex.Post
+put-hex-put-requires t c κs = ?
+
+-- src/lib.rt:62:1
+put-hex-same-length : (t : ℕ) → put-hex-lts.Need-same-length (
+  put-hex-below t,
+  put-hex.Post,
+  digit-of-reads.Asked,
+  digit-of-reads.Learnt,
+  put-reads.Asked,
+  put-reads.Learnt,
+) (put-hex-at t) put-hex.Post
+put-hex-same-length t c = ?
+
+-- src/lib.rt:62:1
+put-hex-returns-2 : (t : ℕ) → put-hex-lts.Need-returns-2 (
+  put-hex-below t,
+  put-hex.Post,
+  digit-of-reads.Asked,
+  digit-of-reads.Learnt,
+  put-reads.Asked,
+  put-reads.Learnt,
+) (put-hex-at t) put-hex.Post
+put-hex-returns-2 t c = ?
+
+pub +put-hex-spec : {M : Type 1} → statement M
++put-hex-spec = close μ-put-hex λ t. put-hex-lts.spec (
+  put-hex-below t,
+  put-hex.Post,
+  digit-of-reads.Asked,
+  digit-of-reads.Learnt,
+  put-reads.Asked,
+  put-reads.Learnt,
+)
+    (put-hex-at t)
+    put-hex.Post
+    (put-hex-returns t)
+    (put-hex-sub-put-hex t)
+    (put-hex-put-hex-requires t)
+    (put-hex-digit-of-requires t)
+    (put-hex-put-requires t)
+    (put-hex-same-length t)
+    (put-hex-returns-2 t)
