@@ -11,7 +11,7 @@ use spec::Fault;
 // Puts a byte at a position, and answers the position past it.
 fn put(out: &mut [u8], at: usize, b: u8) -> usize
     requires { ⌜ at + 1 ≤ length (now out) ⌝ }
-    ensures { λ r. ⌜ (r ≤ at + 1) × (Puts (now (out .entry)) at (now (out .exit)) r (b ∷ [])) ⌝ }
+    ensures { λ r. ⌜ (r ≡ at + 1) × (Puts (now (out .entry)) at (now (out .exit)) r (b ∷ [])) ⌝ }
 {
     out[at] = b;
     at + 1

@@ -1,3 +1,10 @@
+use Rattle.lines.specs.Text.{decimal, hexadecimal, puts-as, then, decimal-zero, decimal-one, decimal-more, hex-zero, hex-more}
+use Prim.Native.Nat.{_-_, _/_}
+use lib.ListN.{take}
+use mathlib.Core.List.{List, [], _∷_, _++_, append-nil}
+use mathlib.Core.Path.{_≡_, refl, sym, ap, _∙_}
+use native.Mathlib.Omega.{arith}
+use borrow.Author.Needs.{needs}
 use Prim.Native.Nat.{ℕ, _<_}
 use borrow.Fn.Kinds.{In}
 use borrow.Fn.PlainCycle.{Measures, is, falls, and}
@@ -10,7 +17,7 @@ use Rattle.lines.proofs.+put_hex.{statement}
 use Rattle.lines.proofs.+put_hex.Tie.{close}
 
 abbrev μ-put-hex : Measures 1 put-hex-kinds.ps ℕ
-μ-put-hex κs a = ?
+μ-put-hex κs a = a .1 .1 .1 .0
 
 abbrev put-hex-at : ℕ → In 1 put-hex-kinds.ps
 put-hex-at t = and 1 put-hex-kinds.ps (is 1 put-hex-kinds.ps μ-put-hex t) put-hex.Pre
@@ -27,7 +34,9 @@ put-hex-returns : (t : ℕ) → put-hex-lts.Need-returns (
   put-reads.Asked,
   put-reads.Learnt,
 ) (put-hex-at t) put-hex.Post
-put-hex-returns t c = ?
+put-hex-returns t c =
+    let a = c .before .before .args in
+    (omega arith, sym (append-nil (take (a .at) (a .out .now))) ∙ ap (λ (x : List ℕ). take (a .at) (a .out .now) ++ x) (sym (hex-zero (a .width) (a .n) (c .if1 .taken))))
 
 -- src/lib.rt:69:41
 put-hex-sub-put-hex : (t : ℕ) → put-hex-lts.Need-sub-put-hex (
@@ -38,7 +47,7 @@ put-hex-sub-put-hex : (t : ℕ) → put-hex-lts.Need-sub-put-hex (
   put-reads.Asked,
   put-reads.Learnt,
 ) (put-hex-at t) put-hex.Post
-put-hex-sub-put-hex t c = ?
+put-hex-sub-put-hex t c = search needs
 
 -- src/lib.rt:69:9
 put-hex-put-hex-requires : (t : ℕ) → put-hex-lts.Need-put-hex-requires (
@@ -49,7 +58,7 @@ put-hex-put-hex-requires : (t : ℕ) → put-hex-lts.Need-put-hex-requires (
   put-reads.Asked,
   put-reads.Learnt,
 ) (put-hex-at t) put-hex.Post
-put-hex-put-hex-requires t c κs = ?
+put-hex-put-hex-requires t c κs = search needs
 
 -- src/lib.rt:70:20
 put-hex-digit-of-requires : (t : ℕ) → put-hex-lts.Need-digit-of-requires (
@@ -60,7 +69,7 @@ put-hex-digit-of-requires : (t : ℕ) → put-hex-lts.Need-digit-of-requires (
   put-reads.Asked,
   put-reads.Learnt,
 ) (put-hex-at t) put-hex.Post
-put-hex-digit-of-requires t c κs = ?
+put-hex-digit-of-requires t c κs = search needs
 
 -- src/lib.rt:70:5
 put-hex-put-requires : (t : ℕ) → put-hex-lts.Need-put-requires (
@@ -71,7 +80,7 @@ put-hex-put-requires : (t : ℕ) → put-hex-lts.Need-put-requires (
   put-reads.Asked,
   put-reads.Learnt,
 ) (put-hex-at t) put-hex.Post
-put-hex-put-requires t c κs = ?
+put-hex-put-requires t c κs = search needs
 
 -- src/lib.rt:62:1
 put-hex-same-length : (t : ℕ) → put-hex-lts.Need-same-length (
@@ -82,7 +91,7 @@ put-hex-same-length : (t : ℕ) → put-hex-lts.Need-same-length (
   put-reads.Asked,
   put-reads.Learnt,
 ) (put-hex-at t) put-hex.Post
-put-hex-same-length t c = ?
+put-hex-same-length t c = search needs
 
 -- src/lib.rt:62:1
 put-hex-returns-2 : (t : ℕ) → put-hex-lts.Need-returns-2 (
@@ -93,7 +102,10 @@ put-hex-returns-2 : (t : ℕ) → put-hex-lts.Need-returns-2 (
   put-reads.Asked,
   put-reads.Learnt,
 ) (put-hex-at t) put-hex.Post
-put-hex-returns-2 t c = ?
+put-hex-returns-2 t c =
+    let a = c .before .before .before .before .before .before .before .before .before .before .before .args in
+    (omega (arith, c .before .before .put .ensures .0, c .before .before .before .before .before .before .before .put-hex .ensures .0),
+    puts-as (a .out .now) (c .before .before .put .last .0) (a .at) (c .before .before .put .result) _ _ (then (a .out .now) (c .before .before .before .before .before .before .before .put-hex .last .0) (c .before .before .put .last .0) (a .at) (c .before .before .before .before .before .before .before .put-hex .result) (c .before .before .put .result) _ _ (c .before .before .before .before .before .before .before .put-hex .ensures .1) (c .before .before .put .ensures .1)) (ap (λ (x : ℕ). hexadecimal (a .width - 1) (a .n / 16) ++ (x ∷ [])) (c .before .before .before .digit-of .ensures) ∙ sym (hex-more (a .width) (a .n) (c .before .before .before .before .before .before .before .before .before .if1 .left))))
 
 pub +put-hex-spec : {M : Type 1} → statement M
 +put-hex-spec = close μ-put-hex λ t. put-hex-lts.spec (

@@ -1,3 +1,6 @@
+use native.Mathlib.Omega.{arith}
+use Rattle.lines.specs.Text.{puts-byte}
+use mathlib.Core.Path.{refl}
 use borrow.Author.Needs.{needs}
 use Rattle.lines.proofs.put.Statement.{statement}
 use Rattle.lines.proofs.put.Tie as tie
@@ -18,7 +21,7 @@ same-length c = search needs
 
 -- src/lib.rt:12:1
 returns : tie.Need-returns
-returns c = ?
+returns c = (refl, puts-byte (c .args .out .now) (c .args .at) (c .args .b) (omega arith))
 
 pub put-spec : {M : Type 1} → statement M
 put-spec = tie.close (tie.spec slice-write-out add-result same-length returns)

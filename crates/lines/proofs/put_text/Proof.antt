@@ -1,3 +1,10 @@
+use Prim.Native.Nat.{ℕ, _≤_, _-_, _+_}
+use lib.ListN.{length, take, getD}
+use lib.Seq.{take-all}
+use native.Mathlib.Omega.{arith}
+use mathlib.Core.Path.{_≡_, refl, sym, ap, _∙_}
+use mathlib.Core.List.{List, [], _∷_, _++_, append-nil, append-assoc}
+use Rattle.lines.specs.Text.{Puts, puts-as, puts-next}
 use borrow.Author.Needs.{needs}
 use Rattle.lines.proofs.put_text.Statement.{statement}
 use Rattle.lines.proofs.put_text.Tie as tie
@@ -6,14 +13,17 @@ use Rattle.lines.proofs.put_text.Lts as lts
 use Rattle.lines.proofs.put.Reads as put-reads
 
 abbrev Inv-loop : tie.InvT-loop
-Inv-loop out₀ at text i₀ out i = ?
+Inv-loop out₀ at text i₀ out i = (i ≤ length text) × (length out ≡ length out₀) × (Puts out₀ at out (at + i) (take i text))
 
 abbrev μ-loop : tie.MeasureT-loop
-μ-loop out₀ at text i₀ out i = ?
+μ-loop out₀ at text i₀ out i = length text - i
 
 -- src/lib.rt:38:5
 loop-holds : tie.Need-loop-holds Inv-loop μ-loop
-loop-holds c = search needs
+loop-holds c =
+    let a = c .before .before .args in
+    let e : a .at + 0 ≡ a .at = omega arith in
+    (omega arith, refl, ap (λ (k : ℕ). take k (a .out .now)) e ∙ sym (append-nil (take (a .at) (a .out .now))))
 
 -- src/lib.rt:39:18
 add-put : tie.Need-add-put Inv-loop μ-loop
@@ -37,7 +47,11 @@ loop-less c = search needs
 
 -- src/lib.rt:38:5
 loop-again : tie.Need-loop-again Inv-loop μ-loop
-loop-again c = search needs
+loop-again c =
+    let l = c .before .before .before .before .before .before .loop in
+    let a = c .before .before .before .before .before .before .before .before .before .args in
+    let p = c .before .before .put in
+    (omega arith, search needs, puts-next (a .out .now) (l .out) (p .last .0) (a .at) (l .i) (p .result) (a .text .now) (omega arith) (p .ensures .0) (l .inv .2) (p .ensures .1))
 
 -- src/lib.rt:42:5
 add-result : tie.Need-add-result Inv-loop μ-loop
@@ -49,7 +63,10 @@ same-length c = search needs
 
 -- src/lib.rt:33:1
 returns : tie.Need-returns Inv-loop μ-loop
-returns c = search needs
+returns c =
+    let l = c .before .loop in
+    let a = c .before .before .before .before .args in
+    (omega arith, puts-as (a .out .now) (l .out) (a .at) (a .at + l .i) _ _ (l .inv .2) (take-all (l .i) (a .text .now) (omega arith)))
 
 pub put-text-spec : {M : Type 1} → statement M
 put-text-spec =
