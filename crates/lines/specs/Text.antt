@@ -38,12 +38,16 @@ pair m n = number m ++ number n
 -- "`ok`", "`value V R E`", "`done R E`", "`fault C L G R E`", "`no N`", each after a space
 abbrev pub okText : List ℕ
 okText = 32 ∷ 111 ∷ 107 ∷ []
+
 abbrev pub valueText : List ℕ
 valueText = 32 ∷ 118 ∷ 97 ∷ 108 ∷ 117 ∷ 101 ∷ 32 ∷ []
+
 abbrev pub doneText : List ℕ
 doneText = 32 ∷ 100 ∷ 111 ∷ 110 ∷ 101 ∷ []
+
 abbrev pub faultText : List ℕ
 faultText = 32 ∷ 102 ∷ 97 ∷ 117 ∷ 108 ∷ 116 ∷ 32 ∷ []
+
 abbrev pub noText : List ℕ
 noText = 32 ∷ 110 ∷ 111 ∷ []
 

@@ -9,11 +9,7 @@ ghost use Rattle.records.specs.Records.{number, cutAt, bodyOf, nextOf, j
 // Where a record stands: its kind, and the part of the input that is its body. Short: the input ends before the record does.
 // Wrong: a length that no kind has.
 pub enum Cut {
-    Body {
-        kind: u64,
-        start: usize,
-        len: usize,
-    },
+    Body { kind: u64, start: usize, len: usize },
     Short,
     Wrong,
 }
@@ -135,10 +131,7 @@ pub enum Call {
 
 // Bad: 13.
 pub enum Job {
-    Open {
-        hosts: u64,
-        shadows: u64,
-    },
+    Open { hosts: u64, shadows: u64 },
     Call(Call),
     Bad,
 }

@@ -26,7 +26,7 @@ fn part(buf: &[u8], len: usize) -> &[u8] {
 fn write_line(number: u64, answer: Answer) -> bool {
     let mut out = [0u8; 128];
     let n = lines::line(number, answer, &mut out);
-    io::write_all(1, &out[..n])
+    io::write_all(1, part(&out, n))
 }
 
 // Runs the record at the position, and writes its line.

@@ -11,8 +11,6 @@ use borrow.Fn.PlainCycle.{Measures, is, falls, and}
 use Rattle.lines.proofs.put_decimal.Reads as put-decimal
 use Rattle.lines.proofs.put_decimal.Kinds as put-decimal-kinds
 use Rattle.lines.proofs.+put_decimal.Lts-put_decimal as put-decimal-lts
-use Rattle.lines.proofs.digit_of.Reads as digit-of-reads
-use Rattle.lines.proofs.put.Reads as put-reads
 use Rattle.lines.proofs.+put_decimal.{statement}
 use Rattle.lines.proofs.+put_decimal.Tie.{close}
 
@@ -27,7 +25,6 @@ abbrev put-decimal-below : ℕ → In 1 put-decimal-kinds.ps
 put-decimal-below t =
     and 1 put-decimal-kinds.ps (falls 1 put-decimal-kinds.ps _<_ μ-put-decimal t) put-decimal.Pre
 
--- src/lib.rt:50:9
 put-decimal-digit-of-requires : (t : ℕ) → put-decimal-lts.Need-digit-of-requires (
   digit-of-reads.Asked,
   digit-of-reads.Learnt,
@@ -38,7 +35,6 @@ put-decimal-digit-of-requires : (t : ℕ) → put-decimal-lts.Need-digit-of-requ
 ) (put-decimal-at t) put-decimal.Post
 put-decimal-digit-of-requires t c κs = search needs
 
--- src/lib.rt:52:9
 put-decimal-put-requires : (t : ℕ) → put-decimal-lts.Need-put-requires (
   digit-of-reads.Asked,
   digit-of-reads.Learnt,
@@ -49,7 +45,6 @@ put-decimal-put-requires : (t : ℕ) → put-decimal-lts.Need-put-requires (
 ) (put-decimal-at t) put-decimal.Post
 put-decimal-put-requires t c κs = search needs
 
--- src/lib.rt:52:9
 put-decimal-same-length : (t : ℕ) → put-decimal-lts.Need-same-length (
   digit-of-reads.Asked,
   digit-of-reads.Learnt,
@@ -60,7 +55,6 @@ put-decimal-same-length : (t : ℕ) → put-decimal-lts.Need-same-length (
 ) (put-decimal-at t) put-decimal.Post
 put-decimal-same-length t c = search needs
 
--- src/lib.rt:52:9
 put-decimal-returns : (t : ℕ) → put-decimal-lts.Need-returns (
   digit-of-reads.Asked,
   digit-of-reads.Learnt,
@@ -70,11 +64,11 @@ put-decimal-returns : (t : ℕ) → put-decimal-lts.Need-returns (
   put-decimal.Post,
 ) (put-decimal-at t) put-decimal.Post
 put-decimal-returns t c =
-    let a = c .before .before .before .before .before .before .before .args in
-    (omega (arith, c .before .before .put .ensures .0),
-    puts-as (a .out .now) (c .before .before .put .last .0) (a .at) (c .before .before .put .result) _ _ (c .before .before .put .ensures .1) (ap (λ (x : ℕ). x ∷ []) (c .before .before .before .before .before .digit-of .ensures) ∙ sym (decimal-zero (a .more) (a .n) (c .before .before .before .before .if1 .taken))))
+    let a = c .before .before .before .before .before .before .before .args in (
+      omega (arith, c .before .before .put .ensures .0),
+      puts-as (a .out .now) (c .before .before .put .last .0) (a .at) (c .before .before .put .result) _ _ (c .before .before .put .ensures .1) (ap (λ (x : ℕ). x ∷ []) (c .before .before .before .before .before .digit-of .ensures) ∙ sym (decimal-zero (a .more) (a .n) (c .before .before .before .before .if1 .taken))),
+    )
 
--- src/lib.rt:55:9
 put-decimal-put-requires-2 : (t : ℕ) → put-decimal-lts.Need-put-requires-2 (
   digit-of-reads.Asked,
   digit-of-reads.Learnt,
@@ -85,7 +79,6 @@ put-decimal-put-requires-2 : (t : ℕ) → put-decimal-lts.Need-put-requires-2 (
 ) (put-decimal-at t) put-decimal.Post
 put-decimal-put-requires-2 t c κs = search needs
 
--- src/lib.rt:55:9
 put-decimal-same-length-2 : (t : ℕ) → put-decimal-lts.Need-same-length-2 (
   digit-of-reads.Asked,
   digit-of-reads.Learnt,
@@ -96,7 +89,6 @@ put-decimal-same-length-2 : (t : ℕ) → put-decimal-lts.Need-same-length-2 (
 ) (put-decimal-at t) put-decimal.Post
 put-decimal-same-length-2 t c = search needs
 
--- src/lib.rt:55:9
 put-decimal-returns-2 : (t : ℕ) → put-decimal-lts.Need-returns-2 (
   digit-of-reads.Asked,
   digit-of-reads.Learnt,
@@ -106,11 +98,11 @@ put-decimal-returns-2 : (t : ℕ) → put-decimal-lts.Need-returns-2 (
   put-decimal.Post,
 ) (put-decimal-at t) put-decimal.Post
 put-decimal-returns-2 t c =
-    let a = c .before .before .before .before .before .before .before .before .args in
-    (omega (arith, c .before .before .put2 .ensures .0),
-    puts-as (a .out .now) (c .before .before .put2 .last .0) (a .at) (c .before .before .put2 .result) _ _ (c .before .before .put2 .ensures .1) (ap (λ (x : ℕ). x ∷ []) (c .before .before .before .before .before .before .digit-of .ensures) ∙ sym (decimal-one (a .more) (a .n) (c .before .before .before .before .if2 .taken))))
+    let a = c .before .before .before .before .before .before .before .before .args in (
+      omega (arith, c .before .before .put2 .ensures .0),
+      puts-as (a .out .now) (c .before .before .put2 .last .0) (a .at) (c .before .before .put2 .result) _ _ (c .before .before .put2 .ensures .1) (ap (λ (x : ℕ). x ∷ []) (c .before .before .before .before .before .before .digit-of .ensures) ∙ sym (decimal-one (a .more) (a .n) (c .before .before .before .before .if2 .taken))),
+    )
 
--- src/lib.rt:57:45
 put-decimal-sub-put-decimal : (t : ℕ) → put-decimal-lts.Need-sub-put-decimal (
   digit-of-reads.Asked,
   digit-of-reads.Learnt,
@@ -121,7 +113,6 @@ put-decimal-sub-put-decimal : (t : ℕ) → put-decimal-lts.Need-sub-put-decimal
 ) (put-decimal-at t) put-decimal.Post
 put-decimal-sub-put-decimal t c = search needs
 
--- src/lib.rt:57:9
 put-decimal-put-decimal-requires : (t : ℕ) → put-decimal-lts.Need-put-decimal-requires (
   digit-of-reads.Asked,
   digit-of-reads.Learnt,
@@ -132,7 +123,6 @@ put-decimal-put-decimal-requires : (t : ℕ) → put-decimal-lts.Need-put-decima
 ) (put-decimal-at t) put-decimal.Post
 put-decimal-put-decimal-requires t c κs = search needs
 
--- src/lib.rt:58:5
 put-decimal-put-requires-3 : (t : ℕ) → put-decimal-lts.Need-put-requires-3 (
   digit-of-reads.Asked,
   digit-of-reads.Learnt,
@@ -143,7 +133,6 @@ put-decimal-put-requires-3 : (t : ℕ) → put-decimal-lts.Need-put-requires-3 (
 ) (put-decimal-at t) put-decimal.Post
 put-decimal-put-requires-3 t c κs = search needs
 
--- src/lib.rt:46:1
 put-decimal-same-length-3 : (t : ℕ) → put-decimal-lts.Need-same-length-3 (
   digit-of-reads.Asked,
   digit-of-reads.Learnt,
@@ -154,7 +143,6 @@ put-decimal-same-length-3 : (t : ℕ) → put-decimal-lts.Need-same-length-3 (
 ) (put-decimal-at t) put-decimal.Post
 put-decimal-same-length-3 t c = search needs
 
--- src/lib.rt:46:1
 put-decimal-returns-3 : (t : ℕ) → put-decimal-lts.Need-returns-3 (
   digit-of-reads.Asked,
   digit-of-reads.Learnt,
@@ -164,9 +152,10 @@ put-decimal-returns-3 : (t : ℕ) → put-decimal-lts.Need-returns-3 (
   put-decimal.Post,
 ) (put-decimal-at t) put-decimal.Post
 put-decimal-returns-3 t c =
-    let a = c .before .before .before .before .before .before .before .before .before .before .before .before .args in
-    (omega (arith, c .before .before .put3 .ensures .0, c .before .before .before .before .before .before .put-decimal .ensures .0),
-    puts-as (a .out .now) (c .before .before .put3 .last .0) (a .at) (c .before .before .put3 .result) _ _ (then (a .out .now) (c .before .before .before .before .before .before .put-decimal .last .0) (c .before .before .put3 .last .0) (a .at) (c .before .before .before .before .before .before .put-decimal .result) (c .before .before .put3 .result) _ _ (c .before .before .before .before .before .before .put-decimal .ensures .1) (c .before .before .put3 .ensures .1)) (ap (λ (x : ℕ). decimal (a .more - 1) (a .n / 10) ++ (x ∷ [])) (c .before .before .before .before .before .before .before .before .before .before .digit-of .ensures) ∙ sym (decimal-more (a .more) (a .n) (c .before .before .before .before .before .before .before .before .before .if1 .left) (c .before .before .before .before .before .before .before .before .if2 .left))))
+    let a = c .before .before .before .before .before .before .before .before .before .before .before .before .args in (
+      omega (arith, c .before .before .put3 .ensures .0, c .before .before .before .before .before .before .put-decimal .ensures .0),
+      puts-as (a .out .now) (c .before .before .put3 .last .0) (a .at) (c .before .before .put3 .result) _ _ (then (a .out .now) (c .before .before .before .before .before .before .put-decimal .last .0) (c .before .before .put3 .last .0) (a .at) (c .before .before .before .before .before .before .put-decimal .result) (c .before .before .put3 .result) _ _ (c .before .before .before .before .before .before .put-decimal .ensures .1) (c .before .before .put3 .ensures .1)) (ap (λ (x : ℕ). decimal (a .more - 1) (a .n / 10) ++ (x ∷ [])) (c .before .before .before .before .before .before .before .before .before .before .digit-of .ensures) ∙ sym (decimal-more (a .more) (a .n) (c .before .before .before .before .before .before .before .before .before .if1 .left) (c .before .before .before .before .before .before .before .before .if2 .left))),
+    )
 
 pub +put-decimal-spec : {M : Type 1} → statement M
 +put-decimal-spec = close μ-put-decimal λ t. put-decimal-lts.spec (

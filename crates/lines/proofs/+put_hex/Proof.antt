@@ -11,8 +11,6 @@ use borrow.Fn.PlainCycle.{Measures, is, falls, and}
 use Rattle.lines.proofs.put_hex.Reads as put-hex
 use Rattle.lines.proofs.put_hex.Kinds as put-hex-kinds
 use Rattle.lines.proofs.+put_hex.Lts-put_hex as put-hex-lts
-use Rattle.lines.proofs.digit_of.Reads as digit-of-reads
-use Rattle.lines.proofs.put.Reads as put-reads
 use Rattle.lines.proofs.+put_hex.{statement}
 use Rattle.lines.proofs.+put_hex.Tie.{close}
 
@@ -25,7 +23,6 @@ put-hex-at t = and 1 put-hex-kinds.ps (is 1 put-hex-kinds.ps μ-put-hex t) put-h
 abbrev put-hex-below : ℕ → In 1 put-hex-kinds.ps
 put-hex-below t = and 1 put-hex-kinds.ps (falls 1 put-hex-kinds.ps _<_ μ-put-hex t) put-hex.Pre
 
--- src/lib.rt:67:9
 put-hex-returns : (t : ℕ) → put-hex-lts.Need-returns (
   put-hex-below t,
   put-hex.Post,
@@ -38,7 +35,6 @@ put-hex-returns t c =
     let a = c .before .before .args in
     (omega arith, sym (append-nil (take (a .at) (a .out .now))) ∙ ap (λ (x : List ℕ). take (a .at) (a .out .now) ++ x) (sym (hex-zero (a .width) (a .n) (c .if1 .taken))))
 
--- src/lib.rt:69:41
 put-hex-sub-put-hex : (t : ℕ) → put-hex-lts.Need-sub-put-hex (
   put-hex-below t,
   put-hex.Post,
@@ -49,7 +45,6 @@ put-hex-sub-put-hex : (t : ℕ) → put-hex-lts.Need-sub-put-hex (
 ) (put-hex-at t) put-hex.Post
 put-hex-sub-put-hex t c = search needs
 
--- src/lib.rt:69:9
 put-hex-put-hex-requires : (t : ℕ) → put-hex-lts.Need-put-hex-requires (
   put-hex-below t,
   put-hex.Post,
@@ -60,7 +55,6 @@ put-hex-put-hex-requires : (t : ℕ) → put-hex-lts.Need-put-hex-requires (
 ) (put-hex-at t) put-hex.Post
 put-hex-put-hex-requires t c κs = search needs
 
--- src/lib.rt:70:20
 put-hex-digit-of-requires : (t : ℕ) → put-hex-lts.Need-digit-of-requires (
   put-hex-below t,
   put-hex.Post,
@@ -71,7 +65,6 @@ put-hex-digit-of-requires : (t : ℕ) → put-hex-lts.Need-digit-of-requires (
 ) (put-hex-at t) put-hex.Post
 put-hex-digit-of-requires t c κs = search needs
 
--- src/lib.rt:70:5
 put-hex-put-requires : (t : ℕ) → put-hex-lts.Need-put-requires (
   put-hex-below t,
   put-hex.Post,
@@ -82,7 +75,6 @@ put-hex-put-requires : (t : ℕ) → put-hex-lts.Need-put-requires (
 ) (put-hex-at t) put-hex.Post
 put-hex-put-requires t c κs = search needs
 
--- src/lib.rt:62:1
 put-hex-same-length : (t : ℕ) → put-hex-lts.Need-same-length (
   put-hex-below t,
   put-hex.Post,
@@ -93,7 +85,6 @@ put-hex-same-length : (t : ℕ) → put-hex-lts.Need-same-length (
 ) (put-hex-at t) put-hex.Post
 put-hex-same-length t c = search needs
 
--- src/lib.rt:62:1
 put-hex-returns-2 : (t : ℕ) → put-hex-lts.Need-returns-2 (
   put-hex-below t,
   put-hex.Post,
@@ -103,9 +94,10 @@ put-hex-returns-2 : (t : ℕ) → put-hex-lts.Need-returns-2 (
   put-reads.Learnt,
 ) (put-hex-at t) put-hex.Post
 put-hex-returns-2 t c =
-    let a = c .before .before .before .before .before .before .before .before .before .before .before .args in
-    (omega (arith, c .before .before .put .ensures .0, c .before .before .before .before .before .before .before .put-hex .ensures .0),
-    puts-as (a .out .now) (c .before .before .put .last .0) (a .at) (c .before .before .put .result) _ _ (then (a .out .now) (c .before .before .before .before .before .before .before .put-hex .last .0) (c .before .before .put .last .0) (a .at) (c .before .before .before .before .before .before .before .put-hex .result) (c .before .before .put .result) _ _ (c .before .before .before .before .before .before .before .put-hex .ensures .1) (c .before .before .put .ensures .1)) (ap (λ (x : ℕ). hexadecimal (a .width - 1) (a .n / 16) ++ (x ∷ [])) (c .before .before .before .digit-of .ensures) ∙ sym (hex-more (a .width) (a .n) (c .before .before .before .before .before .before .before .before .before .if1 .left))))
+    let a = c .before .before .before .before .before .before .before .before .before .before .before .args in (
+      omega (arith, c .before .before .put .ensures .0, c .before .before .before .before .before .before .before .put-hex .ensures .0),
+      puts-as (a .out .now) (c .before .before .put .last .0) (a .at) (c .before .before .put .result) _ _ (then (a .out .now) (c .before .before .before .before .before .before .before .put-hex .last .0) (c .before .before .put .last .0) (a .at) (c .before .before .before .before .before .before .before .put-hex .result) (c .before .before .put .result) _ _ (c .before .before .before .before .before .before .before .put-hex .ensures .1) (c .before .before .put .ensures .1)) (ap (λ (x : ℕ). hexadecimal (a .width - 1) (a .n / 16) ++ (x ∷ [])) (c .before .before .before .digit-of .ensures) ∙ sym (hex-more (a .width) (a .n) (c .before .before .before .before .before .before .before .before .before .if1 .left))),
+    )
 
 pub +put-hex-spec : {M : Type 1} → statement M
 +put-hex-spec = close μ-put-hex λ t. put-hex-lts.spec (
