@@ -1,0 +1,57 @@
+-- What a record does, over the definitions that the unit's calls are proved equal to.
+-- Assumes nothing.
+use Prim.Native.Nat.{ℕ}
+use mathlib.Core.Bool.{Bool, true, false, cond}
+use mathlib.Core.List.{List}
+use Rattle.spec.specs.declared.Answer.{Answer}
+use Rattle.spec.specs.declared.Answer.the-variants as answer
+use Rattle.record.specs.declared.Record.{Record}
+use Rattle.unit.specs.Calls.{Ended, openCall, loadOf, storeCall, deviceCall, rootCall, mapCall, unmapCall, setMarkCall, clearMarkCall}
+use Rattle.records.specs.declared.Call.{Call}
+use Rattle.records.specs.declared.Call.the-variants as call
+use Rattle.records.specs.declared.Job.{Job}
+use Rattle.records.specs.declared.Job.the-variants as job
+use Rattle.jobs.specs.declared.Ran.{Ran}
+
+-- everything that a record leaves
+pub record After : Type 0 where
+  pub ran : Ran
+  pub memory : List ℕ
+
+abbrev pub runs : Ran → List ℕ → After
+runs r m = record { ran = r; memory = m }
+
+abbrev pub leaves : Bool → Record → Answer → Bool → List ℕ → After
+leaves o r x more m = runs (record { opened = o; unit = r; answer = x; more = more }) m
+
+unfoldable pub callOf : Record → List ℕ → Call → Ended
+callOf r m (call.Root g) = rootCall r m g
+callOf r m (call.Map g f w) = mapCall r m g f w
+callOf r m (call.Unmap g) = unmapCall r m g
+callOf r m (call.SetMark a n) = setMarkCall r m a n
+callOf r m (call.ClearMark a n) = clearMarkCall r m a n
+callOf r m (call.Load a) = loadOf r m a
+callOf r m (call.Store a v) = storeCall r m a v
+callOf r m (call.Device a v) = deviceCall r m a v
+
+abbrev pub isOk : Answer → Bool
+isOk answer.Ok = true
+isOk (answer.Value v r e) = false
+isOk (answer.Done r e) = false
+isOk (answer.Faulted x r e) = false
+isOk (answer.Refused n) = false
+
+-- "A refused open keeps the unit's earlier record in use"
+abbrev pub openedBy : Bool → Record → Ended → After
+openedBy o r e =
+    cond (isOk (e .reply .answer)) (leaves true (e .reply .unit) (e .reply .answer) true (e .memory))
+    (leaves o r (e .reply .answer) true (e .memory))
+
+abbrev pub calledBy : Ended → After
+calledBy e = leaves true (e .reply .unit) (e .reply .answer) true (e .memory)
+
+-- "13 and the end"; "Checked next: 3 for any kind but 1 before a granted open"
+unfoldable pub runOf : Bool → Record → List ℕ → Job → After
+runOf o r m (job.Open h s) = openedBy o r (openCall m h s)
+runOf o r m (job.Call x) = cond o (calledBy (callOf r m x)) (leaves false r (answer.Refused 3) true m)
+runOf o r m job.Bad = leaves o r (answer.Refused 13) false m

@@ -1,0 +1,38 @@
+use native.Mathlib.Omega.{arith}
+use mathlib.Core.Path.{_≡_, sym, ap, _∙_}
+use mathlib.Core.List.{List, [], _∷_, _++_}
+use Rattle.lines.specs.Text.{puts-as, then, answerText}
+use borrow.Author.Needs.{needs}
+use Rattle.lines.proofs.put_faulted.Statement.{statement}
+use Rattle.lines.proofs.put_faulted.Tie as tie
+
+slice-aggregate-put-text : tie.Need-slice-aggregate-put-text
+slice-aggregate-put-text c = search needs
+
+put-text-requires : tie.Need-put-text-requires
+put-text-requires c κs = search needs
+
+put-fault-requires : tie.Need-put-fault-requires
+put-fault-requires c κs = search needs
+
+put-pair-requires : tie.Need-put-pair-requires
+put-pair-requires c κs = search needs
+
+same-length : tie.Need-same-length
+same-length c = search needs
+
+returns : tie.Need-returns
+returns c =
+    let a = c .before .before .before .before .before .before .before .before .before .before .before .before .before .before .args in
+    (omega (arith, c .before .before .before .before .before .before .before .before .before .before .put-text .ensures .0, c .before .before .before .before .before .before .put-fault .ensures .0, c .before .before .put-pair .ensures .0), (then (a .out .now) (c .before .before .before .before .before .before .put-fault .last .0) (c .before .before .put-pair .last .0) (a .at) (c .before .before .before .before .before .before .put-fault .result) (c .before .before .put-pair .result) _ _ (then (a .out .now) (c .before .before .before .before .before .before .before .before .before .before .put-text .last .0) (c .before .before .before .before .before .before .put-fault .last .0) (a .at) (c .before .before .before .before .before .before .before .before .before .before .put-text .result) (c .before .before .before .before .before .before .put-fault .result) _ _ (c .before .before .before .before .before .before .before .before .before .before .put-text .ensures .1) (c .before .before .before .before .before .before .put-fault .ensures .1)) (c .before .before .put-pair .ensures .1)))
+
+pub put-faulted-spec : {M : Type 1} → statement M
+put-faulted-spec =
+    tie.close
+    (tie.spec
+    slice-aggregate-put-text
+    put-text-requires
+    put-fault-requires
+    put-pair-requires
+    same-length
+    returns)

@@ -1,0 +1,49 @@
+use borrow.Author.Tests.{eq-eqb, ne-eqb, lt-ltb, le-ltb, le-leb, lt-leb}
+use native.Mathlib.Omega.{arith}
+use Prim.Native.Nat.{ℕ, _+_, _-_, _≤_, _<_}
+use lib.ListN.{length, take, drop}
+use mathlib.Core.Path.{_≡_, sym, ap, _∙_, subst}
+use Rattle.records.specs.Records.{number, cutAt, nextOf}
+use Rattle.records.specs.Laws.{Within, cut-within}
+use borrow.Author.Needs.{needs}
+use Rattle.records.proofs.next_at.Statement.{statement}
+use Rattle.records.proofs.next_at.Tie as tie
+
+cut-at-requires : tie.Need-cut-at-requires
+cut-at-requires c κs = search needs
+
+enum-known-kind : tie.Need-enum-known-kind
+enum-known-kind c = search needs
+
+add-result : tie.Need-add-result
+add-result c =
+    let a = c .before .before .before .before .before .args in
+    omega (arith, subst (Within (length (a .s .now))) (sym (c .before .before .before .cut-at .ensures) ∙ c .before .kind .given .1) (cut-within (a .s .now) (a .at)))
+
+enum-told : tie.Need-enum-told
+enum-told c = search needs
+
+enum-told-2 : tie.Need-enum-told-2
+enum-told-2 c = search needs
+
+returns : tie.Need-returns
+returns c = ap (nextOf (c .before .before .before .before .before .args .at)) (sym (c .before .kind .given .1) ∙ c .before .before .before .cut-at .ensures)
+
+returns-2 : tie.Need-returns-2
+returns-2 c = ap (nextOf (c .before .before .before .before .args .at)) (sym (c .enum-told .given .1) ∙ c .before .before .cut-at .ensures)
+
+returns-3 : tie.Need-returns-3
+returns-3 c = ap (nextOf (c .before .before .before .before .args .at)) (sym (c .enum-told2 .given .1) ∙ c .before .before .cut-at .ensures)
+
+pub next-at-spec : {M : Type 1} → statement M
+next-at-spec =
+    tie.close
+    (tie.spec
+    cut-at-requires
+    enum-known-kind
+    add-result
+    enum-told
+    enum-told-2
+    returns
+    returns-2
+    returns-3)
