@@ -54,7 +54,7 @@ after-follow c (x ∷ xs) s r m d k i p q =
     let now : step (configOf r) x s ≡ step c x s = ap (λ y. step y x s) k in
     after-follow c xs ((step c x s) .1) (u .reply .unit) (u .memory) u (f .config ∙ k) (subst (λ o. Inv (o .1) (u .reply .unit) (u .memory)) now (f .next)) refl refl
 
-opened-config : (m : List ℕ) (h s : ℕ) → configOf (grantedOf m h s .unit) ≡ configBy (length m) h s
+pub opened-config : (m : List ℕ) (h s : ℕ) → configOf (grantedOf m h s .unit) ≡ configBy (length m) h s
 unfolding grantedOf firstOf
 opened-config m h s = refl
 

@@ -1,0 +1,124 @@
+-- The lines of a job are those of the specification.
+-- Assumes nothing.
+use mathlib.Core.Path.{_≡_, refl, sym, ap, ap₂, _∙_, subst}
+use Prim.Native.Nat.{ℕ, suc}
+use mathlib.Core.Bool.{Bool, true, false, cond}
+use mathlib.Core.List.{List, [], _∷_, _++_, map}
+use mathlib.Core.Option.{Option, none, some}
+use lib.ListN.{length}
+use native.Mathlib.Decide.{ℕ-discrete}
+use mathlib.Core.Logic.{_≢_}
+use Rattle.spec.specs.declared.Answer.{Answer}
+use Rattle.spec.specs.declared.Answer.the-variants as answer
+use Rattle.spec.specs.Answer.{Line, line}
+use Rattle.spec.specs.Run.{State, step, opened, opening}
+use Rattle.record.specs.declared.Record.{Record}
+use Rattle.record.specs.Record.{configOf, configBy, zeros}
+use Rattle.record.specs.Open.{refusalOf, firstOf, grantedOf}
+use Rattle.record.proofs.Opening.{refused-opening, granted-opening}
+use Rattle.records.specs.declared.Call.{Call}
+use Rattle.records.specs.declared.Call.the-variants as call
+use Rattle.records.specs.declared.Job.{Job}
+use Rattle.records.specs.declared.Job.the-variants as job
+use Rattle.jobs.specs.Run as jobs
+use Rattle.jobs.specs.Run.{After, runOf}
+use Rattle.lines.specs.Text.{decimal, lineOf}
+use Rattle.claims.specs.Run as claims
+use Rattle.claims.proofs.Invariant.{Inv}
+use Rattle.claims.proofs.Opens.{opened-inv, granted-call, refused-call}
+use Rattle.claims.proofs.Demands.{follows, opened-config}
+use Rattle.job_claims.specs.Job.{answers, callFor, Opened, said, saidAll, textOf, linesFrom, textsFrom}
+
+-- one text for a call of a record, in job and claims
+same-call : (x : Call) (r : Record) (m : List ℕ) → jobs.callOf r m x ≡ claims.callOf (callFor x) r m
+unfolding jobs.callOf claims.callOf
+same-call (call.Root g) r m = refl
+same-call (call.Map g f w) r m = refl
+same-call (call.Unmap g) r m = refl
+same-call (call.SetMark a n) r m = refl
+same-call (call.ClearMark a n) r m = refl
+same-call (call.Load a) r m = refl
+same-call (call.Store a v) r m = refl
+same-call (call.Device a v) r m = refl
+
+-- record and memory of a job stand for machine and book, once an open was granted
+abbrev Stands : Option Opened → Bool → Record → List ℕ → Type 0
+Stands none o r m = o ≡ false
+Stands (some k) o r m = (o ≡ true) × (configOf r ≡ k .config) × Inv (k .state) r m
+
+-- ---- one record
+
+-- what the unit says to a record is what is said, and both go on alike
+record Alike (j : Job) (k : Option Opened) (o : Bool) (r : Record) (m : List ℕ) : Type 0 where
+  says : line (runOf o r m j .ran .answer) ≡ (said j m k) .0
+  stands : let a = runOf o r m j in Stands ((said j m k) .1) (a .ran .opened) (a .ran .unit) (a .memory)
+
+opens-alike : (h s : ℕ) (k : Option Opened) (o : Bool) (r : Record) (m : List ℕ) → Stands k o r m → Alike (job.Open h s) k o r m
+unfolding runOf
+opens-alike h s k o r m i = go (ℕ-discrete (refusalOf (length m) h s) 0)
+  where
+    go : Dec (refusalOf (length m) h s ≡ 0) → Alike (job.Open h s) k o r m
+    go (yes e) = record {
+      says = rw (granted-call m h s e, granted-opening m h s e);
+      stands = rw (granted-call m h s e, granted-opening m h s e) (refl, opened-config m h s, opened-inv m h s e);
+    }
+    go (no n) = record {
+      says = rw (refused-call m h s n, refused-opening m h s n);
+      stands = rw (refused-call m h s n, refused-opening m h s n) i;
+    }
+
+calls-alike : (x : Call) (k : Option Opened) (o : Bool) (r : Record) (m : List ℕ) → Stands k o r m → Alike (job.Call x) k o r m
+unfolding runOf
+calls-alike x none o r m i = record { says = rw i; stands = rw i; }
+calls-alike x (some k) o r m i =
+    let f = follows (callFor x) (k .state) r m (i .2) in
+    let now : step (configOf r) (callFor x) (k .state) ≡ step (k .config) (callFor x) (k .state) = ap (λ c. step c (callFor x) (k .state)) (i .1) in
+    record {
+      says = rw (i .0, same-call x r m) (f .says ∙ ap (λ u. u .0) now);
+      stands = rw (i .0, same-call x r m) (
+        refl,
+        f .config ∙ i .1,
+        subst (λ u. Inv (u .1) (claims.callOf (callFor x) r m .reply .unit) (claims.callOf (callFor x) r m .memory)) now (f .next),
+      );
+    }
+
+alike : (j : Job) (k : Option Opened) (o : Bool) (r : Record) (m : List ℕ) → Stands k o r m → Alike j k o r m
+unfolding runOf
+alike (job.Open h s) k o r m i = opens-alike h s k o r m i
+alike (job.Call x) k o r m i = calls-alike x k o r m i
+alike job.Bad k o r m i = record { says = refl; stands = i; }
+
+-- ---- a job
+
+lines : (js : List Job) (k : Option Opened) (o : Bool) (r : Record) (m : List ℕ) → Stands k o r m → map line (answers js o r m) ≡ saidAll js k o r m
+unfolding answers saidAll
+lines [] k o r m i = refl
+lines (j ∷ js) k o r m i =
+    let a = runOf o r m j in
+    let h = alike j k o r m i in
+    ap₂ (λ x xs. x ∷ xs) (h .says)
+    (more (a .ran .more) (answers js (a .ran .opened) (a .ran .unit) (a .memory)) (saidAll js ((said j m k) .1) (a .ran .opened) (a .ran .unit) (a .memory))
+      (lines js ((said j m k) .1) (a .ran .opened) (a .ran .unit) (a .memory) (h .stands)))
+  where
+    more : (b : Bool) (xs : List Answer) (ls : List Line) → map line xs ≡ ls → map line (cond b xs []) ≡ cond b ls []
+    more true xs ls e = e
+    more false xs ls e = refl
+
+-- the bytes of a line are those of what it says
+line-text : (n : ℕ) (x : Answer) → lineOf n x ≡ (decimal 19 n ++ textOf (line x)) ++ (10 ∷ [])
+unfolding lineOf
+line-text n answer.Ok = refl
+line-text n (answer.Value v r e) = refl
+line-text n (answer.Done r e) = refl
+line-text n (answer.Faulted x r e) = refl
+line-text n (answer.Refused k) = refl
+
+texts : (n : ℕ) (xs : List Answer) → linesFrom n xs ≡ textsFrom n (map line xs)
+unfolding linesFrom textsFrom
+texts n [] = refl
+texts n (x ∷ xs) = ap₂ (λ l ls. l ∷ ls) (line-text n x) (texts (suc n) xs)
+
+-- "It runs records from standard input on a memory .. zero at start": on any memory, the bytes of the lines, numbered from 1, are
+-- those of machine and book
+pub job-lines : (js : List Job) (r : Record) (m : List ℕ) → linesFrom 1 (answers js false r m) ≡ textsFrom 1 (saidAll js none false r m)
+job-lines js r m = texts 1 (answers js false r m) ∙ ap (textsFrom 1) (lines js none false r m refl)
