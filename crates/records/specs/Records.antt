@@ -1,13 +1,12 @@
 -- The records of a job, as definitions over the bytes of the input. Document 01, "Job program".
 -- Assumes nothing.
 use Prim.Native.Nat.{ℕ, zero, suc, _+_, _-_, _*_}
-use mathlib.Core.Bool.{Bool, true, false, not, cond}
+use mathlib.Core.Bool.{not, cond}
 use mathlib.Core.List.{List, []}
 use lib.Dec.{eqb, ltb, leb}
 use lib.ListN.{length, getD, take, drop}
 use Rattle.records.specs.declared.Cut.{Cut}
 use Rattle.records.specs.declared.Cut.the-variants.{Body, Short, Wrong}
-use Rattle.records.specs.declared.Call.{Call}
 use Rattle.records.specs.declared.Call.the-variants as call
 use Rattle.records.specs.declared.Job.{Job}
 use Rattle.records.specs.declared.Job.the-variants as job

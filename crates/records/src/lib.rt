@@ -245,3 +245,32 @@ pub fn job_at(s: &[u8], at: usize) -> Job
         Cut::Wrong => Job::Bad,
     }
 }
+
+// ---- the input with its cursor
+
+// A reader of records: the input and the position of the next record.
+pub struct Reader<'a> {
+    pub src: &'a [u8],
+    pub at: usize,
+}
+
+// A reader at the start of the input.
+pub fn new<'a>(src: &'a [u8]) -> Reader<'a>
+    ensures { λ r. ⌜ (r .src ≡ src .entry) × (r .at ≡ 0) ⌝ }
+{
+    Reader { src, at: 0 }
+}
+
+// The record at the cursor.
+pub fn next<'a>(r: Reader<'a>) -> Cut
+    ensures { λ c. ⌜ c ≡ cutAt (now (r .entry .src)) (r .entry .at) ⌝ }
+{
+    cut_at(r.src, r.at)
+}
+
+// Its body, as a part of the input.
+pub fn body<'a>(r: Reader<'a>) -> &'a [u8]
+    ensures { λ b. ⌜ now b ≡ bodyOf (now (r .entry .src)) (cutAt (now (r .entry .src)) (r .entry .at)) ⌝ }
+{
+    body_at(r.src, r.at)
+}

@@ -1,9 +1,8 @@
-use borrow.Author.Tests.{eq-eqb, ne-eqb, lt-ltb, le-ltb, le-leb, lt-leb}
+use borrow.Author.Tests.{lt-ltb, le-ltb, le-leb, lt-leb}
 use native.Mathlib.Omega.{arith}
-use Prim.Native.Nat.{ℕ, _+_, _-_, _≤_, _<_}
-use lib.ListN.{length, take, drop}
-use mathlib.Core.Path.{_≡_, sym, ap, _∙_, subst}
-use Rattle.records.specs.Records.{number, cutAt, bodyOf}
+use Prim.Native.Nat.{_+_, _-_, _≤_, _<_}
+use lib.ListN.{length}
+use Rattle.records.specs.Records.{number}
 use borrow.Author.Needs.{needs}
 use Rattle.records.proofs.cut_at.Statement.{statement}
 use Rattle.records.proofs.cut_at.Tie as tie

@@ -1,5 +1,4 @@
-use Rattle.records.specs.Laws.{number-4, number-8}
-use borrow.Author.Tests.{eq-eqb, ne-eqb, lt-ltb, le-ltb, le-leb, lt-leb}
+use Rattle.records.specs.Laws.{number-4}
 use native.Mathlib.Omega.{arith}
 use borrow.Author.Needs.{needs}
 use Rattle.records.proofs.number4.Statement.{statement}
