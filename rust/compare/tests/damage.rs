@@ -31,14 +31,16 @@ fn sound_state(run: &Run, random: &mut Random) -> State {
 
 fn damaged_run(seed: u64, sizes: Sizes, counts: &mut Counts) {
     let mut random = Random::new(seed ^ 0xDA4A_6E00);
-    let run = run(seed, sizes, 300);
+    let run = run(seed, sizes, 300 + 2 * sizes.frames as usize);
+    // The calls before these map the guest's frames.
+    let later = &run.calls[run.calls.len() - 250..];
     let sound = sound_state(&run, &mut random);
     let mut before = sound.clone();
     for _ in 0..DAMAGES {
         let mut state = sound.clone();
         state.damage(&mut random);
         for _ in 0..CALLS {
-            let call = random.pick(&run.calls);
+            let call = random.pick(later);
             let words = state.lent.memory().len();
             // Now and then only a part of the memory is lent, or nothing.
             let part = if random.one_in(100) { random.below(words as u64 + 1) as usize } else { words };
@@ -72,4 +74,9 @@ fn sixteen_frames() {
 #[test]
 fn small_memories() {
     damaged_runs(1_000_000, calls() / 2, |random| Sizes::small(random, 4));
+}
+
+#[test]
+fn hundreds_of_frames() {
+    damaged_runs(2_000_000, calls() / 80, |random| Sizes::large(random, 4));
 }

@@ -22,7 +22,8 @@ fn same(seed: u64, run: &Run) -> Events {
         let expected = walker.call(call);
         assert_eq!(said, expected, "seed {seed}, {:?}, call {number}: {call:?}", run.sizes);
         if frames <= 24 || number % 100 == 99 {
-            let place = format!("seed {seed}, {:?}, words or tables after call {number}: {call:?}", run.sizes);
+            let place =
+                format!("seed {seed}, {:?}, words or tables after call {number}: {call:?}", run.sizes);
             assert!(memory[first..] == *walker.guest_words(), "{place}");
             assert_eq!(record.shadow.used, shadow_tables(&walker), "{place}");
             assert_eq!(record.host.used, host_tables(&walker), "{place}");
