@@ -1,0 +1,112 @@
+//! The program `job` beside the second walker: random jobs, every way to 13, and how its pipes behave.
+//! `rt check job` builds it; CANGRIEB_JOB names another place.
+
+use std::io::{Read, Write};
+use std::path::PathBuf;
+use std::process::{Child, Command, Stdio};
+use std::time::{Duration, Instant};
+
+use walker::job::{raw_record, run_job, write_record, Record};
+use walker::random::job;
+use walker::Call;
+
+fn start() -> Child {
+    let built = PathBuf::from(env!("CARGO_MANIFEST_DIR")).join("../../target/bin/job");
+    let program = std::env::var_os("CANGRIEB_JOB").map_or(built, PathBuf::from);
+    let started = Command::new(&program).stdin(Stdio::piped()).stdout(Stdio::piped()).spawn();
+    started.unwrap_or_else(|error| panic!("{}: {error}", program.display()))
+}
+
+/// The whole output; the input is written in pieces of so many bytes.
+fn output(input: &[u8], piece: usize) -> String {
+    let mut child = start();
+    let mut stdin = child.stdin.take().unwrap();
+    let bytes = input.to_vec();
+    let writer = std::thread::spawn(move || {
+        // After 13 the program reads no more, so that a write may find the pipe closed.
+        bytes.chunks(piece).try_for_each(|part| stdin.write_all(part)).ok();
+    });
+    let mut text = String::new();
+    child.stdout.take().unwrap().read_to_string(&mut text).unwrap();
+    writer.join().unwrap();
+    assert!(child.wait().unwrap().success());
+    text
+}
+
+fn load(address: u64) -> Vec<u8> {
+    write_record(&Record::Call(Call::Load { address }))
+}
+
+fn open() -> Vec<u8> {
+    write_record(&Record::Open { h: 4, s: 4 })
+}
+
+#[test]
+fn random_jobs() {
+    let mut ends = 0;
+    for seed in 0..400 {
+        let input = job(seed, 300);
+        let expected = run_job(&input);
+        ends += expected.ends_with("no 13\n") as u32;
+        assert!(output(&input, 65_536) == expected, "seed {seed}");
+    }
+    assert!(ends > 0, "no job had a damaged end");
+}
+
+#[test]
+fn every_split_of_a_pipe() {
+    let input = [open(), load(0), load(1 << 48), load(4), raw_record(10, 10, &[0; 8]), load(0)].concat();
+    for piece in 1..=input.len() {
+        assert_eq!(output(&input, piece), "1 ok\n2 fault H 0 0 1 1\n3 no 4\n4 no 4\n5 no 13\n", "pieces of {piece}");
+    }
+}
+
+#[test]
+fn every_cut() {
+    let input = [open(), load(0)].concat();
+    for length in 0..=input.len() {
+        assert_eq!(output(&input[..length], 7), run_job(&input[..length]), "{length} bytes");
+    }
+    assert_eq!(output(&[], 1), "");
+    assert_eq!(output(&input[..3], 1), "1 no 13\n");
+}
+
+#[test]
+fn every_length_and_kind() {
+    for kind in (0..=12).chain([255, 256, 65_535]) {
+        for length in (0..=24).chain([256, 65_535]) {
+            let body = vec![0; (length as usize).saturating_sub(2)];
+            let input = [open(), raw_record(length, kind, &body), load(4)].concat();
+            assert_eq!(output(&input, 65_536), run_job(&input), "length {length}, kind {kind}");
+        }
+    }
+}
+
+/// The least of three times, since other work may hold the machine.
+#[test]
+fn sixty_five_thousand_records() {
+    let input = [open(), load(0).repeat(65_534)].concat();
+    let time = (0..3).map(|_| timed(&input)).min().unwrap();
+    println!("65,535 records in {time:?}");
+    assert!(time < Duration::from_secs(1), "{time:?}");
+}
+
+fn timed(input: &[u8]) -> Duration {
+    let start = Instant::now();
+    let said = output(input, 65_536);
+    let time = start.elapsed();
+    assert_eq!(said.lines().count(), 65_535);
+    assert_eq!(said.lines().last(), Some("65535 fault H 0 0 1 1"));
+    time
+}
+
+#[test]
+fn a_closed_output_ends_it() {
+    let mut child = start();
+    drop(child.stdout.take());
+    let mut stdin = child.stdin.take().unwrap();
+    let input = [open(), load(0).repeat(100_000)].concat();
+    stdin.write_all(&input).ok();
+    drop(stdin);
+    child.wait().unwrap();
+}
