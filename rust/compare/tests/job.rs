@@ -57,7 +57,11 @@ fn random_jobs() {
 fn every_split_of_a_pipe() {
     let input = [open(), load(0), load(1 << 48), load(4), raw_record(10, 10, &[0; 8]), load(0)].concat();
     for piece in 1..=input.len() {
-        assert_eq!(output(&input, piece), "1 ok\n2 fault H 0 0 1 1\n3 no 4\n4 no 4\n5 no 13\n", "pieces of {piece}");
+        assert_eq!(
+            output(&input, piece),
+            "1 ok\n2 fault H 0 0 1 1\n3 no 4\n4 no 4\n5 no 13\n",
+            "pieces of {piece}"
+        );
     }
 }
 
