@@ -69,7 +69,7 @@ opens-alike h s k o r m i = go (ℕ-discrete (refusalOf (length m) h s) 0)
 
 calls-alike : (x : Call) (k : Option Opened) (o : Bool) (r : Record) (m : List ℕ) → Stands k o r m → Alike (job.Call x) k o r m
 unfolding runOf
-calls-alike x none o r m i = record { says = rw i; stands = rw i; }
+calls-alike x none o r m i = record { says = rw i; stands = rw i }
 calls-alike x (some k) o r m i =
     let f = follows (callFor x) (k .state) r m (i .2) in
     let now : step (configOf r) (callFor x) (k .state) ≡ step (k .config) (callFor x) (k .state) = ap (λ c. step c (callFor x) (k .state)) (i .1) in
@@ -86,7 +86,7 @@ alike : (j : Job) (k : Option Opened) (o : Bool) (r : Record) (m : List ℕ) →
 unfolding runOf
 alike (job.Open h s) k o r m i = opens-alike h s k o r m i
 alike (job.Call x) k o r m i = calls-alike x k o r m i
-alike job.Bad k o r m i = record { says = refl; stands = i; }
+alike job.Bad k o r m i = record { says = refl; stands = i }
 
 -- ---- a job
 
@@ -98,7 +98,7 @@ lines (j ∷ js) k o r m i =
     let h = alike j k o r m i in
     ap₂ (λ x xs. x ∷ xs) (h .says)
     (more (a .ran .more) (answers js (a .ran .opened) (a .ran .unit) (a .memory)) (saidAll js ((said j m k) .1) (a .ran .opened) (a .ran .unit) (a .memory))
-      (lines js ((said j m k) .1) (a .ran .opened) (a .ran .unit) (a .memory) (h .stands)))
+    (lines js ((said j m k) .1) (a .ran .opened) (a .ran .unit) (a .memory) (h .stands)))
   where
     more : (b : Bool) (xs : List Answer) (ls : List Line) → map line xs ≡ ls → map line (cond b xs []) ≡ cond b ls []
     more true xs ls e = e
