@@ -1,7 +1,6 @@
 // The unit's calls for C and for Rust: the record goes in and comes back by value, the memory is lent, the answer is numbers.
 // Nothing is asked of the caller but a memory of that many words at that place.
 ghost use mathlib.Core.Path.{_≡_};
-ghost use Rattle.spec.specs.Answer.{letter, level, frame};
 ghost use Rattle.unit.specs.Calls.{openCall, loadOf, storeCall, deviceCall, rootCall, mapCall, unmapCall, setMarkCall, clearMarkCall};
 ghost use Rattle.export.specs.Flat.{recordOf, flatOf, answerOf, replyOf, leaves, leftOf};
 use area::Pool;
@@ -104,42 +103,6 @@ fn flat_of(r: Record) -> FlatRecord
     }
 }
 
-fn letter_of(x: Fault) -> u64
-    ensures { λ r. ⌜ r ≡ letter x ⌝ }
-{
-    match x {
-        Fault::Absent(n) => 65,
-        Fault::Malformed(n) => 77,
-        Fault::Protected(n) => 80,
-        Fault::HostAbsent(g) => 72,
-        Fault::HostReadOnly(g) => 87,
-    }
-}
-
-fn level_of(x: Fault) -> u64
-    ensures { λ r. ⌜ r ≡ level x ⌝ }
-{
-    match x {
-        Fault::Absent(n) => n,
-        Fault::Malformed(n) => n,
-        Fault::Protected(n) => n,
-        Fault::HostAbsent(g) => 0,
-        Fault::HostReadOnly(g) => 0,
-    }
-}
-
-fn frame_of(x: Fault) -> u64
-    ensures { λ r. ⌜ r ≡ frame x ⌝ }
-{
-    match x {
-        Fault::Absent(n) => 0,
-        Fault::Malformed(n) => 0,
-        Fault::Protected(n) => 0,
-        Fault::HostAbsent(g) => g,
-        Fault::HostReadOnly(g) => g,
-    }
-}
-
 fn answer_of(a: Answer) -> FlatAnswer
     ensures { λ r. ⌜ r ≡ answerOf a ⌝ }
 {
@@ -182,9 +145,9 @@ fn answer_of(a: Answer) -> FlatAnswer
         } => FlatAnswer {
             kind: 3,
             number: 0,
-            letter: letter_of(fault),
-            level: level_of(fault),
-            frame: frame_of(fault),
+            letter: fault::letter_of(fault) as u64,
+            level: fault::level_of(fault),
+            frame: fault::frame_of(fault),
             references: references,
             exits: exits,
         },

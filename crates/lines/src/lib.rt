@@ -3,7 +3,6 @@ ghost use mathlib.Core.Path.{_≡_};
 ghost use mathlib.Core.List.{List, [], _∷_, _++_};
 ghost use Prim.Native.Nat.{_+_, _≤_, _<_};
 ghost use lib.ListN.{length, take};
-ghost use Rattle.spec.specs.Answer.{letter, level, frame};
 ghost use Rattle.lines.specs.Text.{digit, decimal, hexadecimal, number, pair, faultOf, answerText, lineOf, Puts};
 use spec::Answer;
 use spec::Fault;
@@ -84,52 +83,13 @@ fn put_pair(out: &mut [u8], at: usize, m: u64, n: u64) -> usize
     put_number(out, from, n)
 }
 
-// The letter of a fault.
-fn letter_of(fault: Fault) -> u8
-    ensures { λ r. ⌜ r ≡ letter fault ⌝ }
-{
-    match fault {
-        Fault::Absent(n) => b'A',
-        Fault::Malformed(n) => b'M',
-        Fault::Protected(n) => b'P',
-        Fault::HostAbsent(g) => b'H',
-        Fault::HostReadOnly(g) => b'W',
-    }
-}
-
-// Its level, or 0.
-fn level_of(fault: Fault) -> u64
-    ensures { λ r. ⌜ r ≡ level fault ⌝ }
-{
-    match fault {
-        Fault::Absent(n) => n,
-        Fault::Malformed(n) => n,
-        Fault::Protected(n) => n,
-        Fault::HostAbsent(g) => 0,
-        Fault::HostReadOnly(g) => 0,
-    }
-}
-
-// Its guest frame, or 0.
-fn frame_of(fault: Fault) -> u64
-    ensures { λ r. ⌜ r ≡ frame fault ⌝ }
-{
-    match fault {
-        Fault::Absent(n) => 0,
-        Fault::Malformed(n) => 0,
-        Fault::Protected(n) => 0,
-        Fault::HostAbsent(g) => g,
-        Fault::HostReadOnly(g) => g,
-    }
-}
-
 // Puts the letter, the level and the guest frame of a fault.
 fn put_fault(out: &mut [u8], at: usize, fault: Fault) -> usize
     requires { ⌜ at + 43 ≤ length (now out) ⌝ }
     ensures { λ r. ⌜ (r ≤ at + 43) × (Puts (now (out .entry)) at (now (out .exit)) r (faultOf fault)) ⌝ }
 {
-    let from = put(out, at, letter_of(fault));
-    put_pair(out, from, level_of(fault), frame_of(fault))
+    let from = put(out, at, fault::letter_of(fault));
+    put_pair(out, from, fault::level_of(fault), fault::frame_of(fault))
 }
 
 // Puts a value, references and exits.

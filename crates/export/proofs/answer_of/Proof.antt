@@ -17,6 +17,9 @@ enum-known-a-3 c = search needs
 letter-of-requires : tie.Need-letter-of-requires
 letter-of-requires c κs = search needs
 
+cast-t13 : tie.Need-cast-t13
+cast-t13 c = search needs
+
 level-of-requires : tie.Need-level-of-requires
 level-of-requires c κs = search needs
 
@@ -50,6 +53,7 @@ answer-of-spec =
     enum-known-a-2
     enum-known-a-3
     letter-of-requires
+    cast-t13
     level-of-requires
     frame-of-requires
     enum-known-a-4
