@@ -7,7 +7,7 @@ use std::process::{Child, Command, Stdio};
 use std::time::{Duration, Instant};
 
 use walker::job::{raw_record, run_job, write_record, Record};
-use walker::random::job;
+use walker::random::{job, Random};
 use walker::Call;
 
 fn start() -> Child {
@@ -51,6 +51,46 @@ fn random_jobs() {
         assert!(output(&input, 65_536) == expected, "seed {seed}");
     }
     assert!(ends > 0, "no job had a damaged end");
+}
+
+/// A record with random bytes in it; mostly of a kind and its length, small numbers among them.
+fn random_record(random: &mut Random) -> Vec<u8> {
+    let kind = 1 + random.below(9) as u16;
+    let length = match kind {
+        _ if random.one_in(100) => random.below(24) as u16,
+        1 => 6,
+        3 => 19,
+        5 | 6 => 11,
+        8 | 9 => 18,
+        _ => 10,
+    };
+    let body: Vec<u8> = (2..length).map(|_| random_byte(random)).collect();
+    raw_record(length, if random.one_in(100) { random.word() as u16 } else { kind }, &body)
+}
+
+fn random_byte(random: &mut Random) -> u8 {
+    if random.one_in(4) {
+        random.word() as u8
+    } else {
+        0
+    }
+}
+
+#[test]
+fn random_bytes() {
+    let mut longest = 0;
+    for seed in 0..400 {
+        let random = &mut Random::new(seed);
+        let mut input = if random.one_in(4) { Vec::new() } else { open() };
+        for _ in 0..random.below(200) {
+            input.extend(random_record(random));
+        }
+        input.extend((0..random.below(40)).map(|_| random.word() as u8).collect::<Vec<_>>());
+        let expected = run_job(&input);
+        longest = longest.max(expected.lines().count());
+        assert!(output(&input, 65_536) == expected, "seed {seed}");
+    }
+    assert!(longest > 20, "every job ended early");
 }
 
 #[test]

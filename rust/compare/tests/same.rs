@@ -1,4 +1,5 @@
 //! Random runs: every answer of the proved unit, with its counts, is the second walker's, and so are the guest words.
+//! TIMES sets how many times as many runs there are.
 
 use cangrieb::Record;
 use compare::{answer, first_guest_word, memory_before};
@@ -107,7 +108,8 @@ fn events(overflows: bool) -> Vec<String> {
 /// So many runs, and that they had every event of the list.
 fn all_same(first_seed: u64, runs: u64, overflows: bool, sizes: fn(&mut Random) -> Sizes) {
     let mut all = Events::default();
-    for seed in first_seed..first_seed + runs {
+    let times: u64 = std::env::var("TIMES").map_or(1, |text| text.parse().expect("TIMES is a number"));
+    for seed in first_seed..first_seed + runs * times {
         all.join(&same(seed, &run(seed, sizes(&mut Random::new(seed.wrapping_add(1))), CALLS)));
     }
     for event in events(overflows) {
