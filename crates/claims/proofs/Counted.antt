@@ -309,7 +309,11 @@ held-load c b a h e = inl (subst (λ o. T (serves false (depth (b .marks) (addre
 module _ (m : List ℕ) (h s : ℕ) (xs : List Call) (granted : refusalOf (length m) h s ≡ 0) where
   -- the book of that run
   abbrev pub book : Book
-  book = after (configBy (length m) h s) xs (opened (configBy (length m) h s) m) .book
+  book = after xs (opened (configBy (length m) h s) m) .book
+
+  -- its configuration
+  abbrev pub config : Config
+  config = after xs (opened (configBy (length m) h s) m) .config
 
   -- the unit's record and memory after it
   abbrev pub ran : Ended
@@ -321,28 +325,28 @@ module _ (m : List ℕ) (h s : ℕ) (xs : List Call) (granted : refusalOf (lengt
   abbrev pub memory : List ℕ
   memory = ran .memory
 
-  abbrev stands : Inv (after (configBy (length m) h s) xs (opened (configBy (length m) h s) m)) unit memory
+  abbrev stands : Inv (after xs (opened (configBy (length m) h s) m)) unit memory
   stands = after-run m h s xs granted .1
 
-  here : (st : Bool) (a : ℕ) → HeldOrPlain (configBy (length m) h s) book st a → HeldOrPlain (configOf unit) book st a
-  here st a k = subst (λ c. HeldOrPlain c book st a) (sym (after-run m h s xs granted .0)) k
+  here : (st : Bool) (a : ℕ) → HeldOrPlain config book st a → HeldOrPlain (configOf unit) book st a
+  here st a k = subst (λ c. HeldOrPlain c book st a) (after-run m h s xs granted .0) k
 
   -- "take a load whose path is held or whose d is 5, and alter at will any words of the memory but those it counts .. and the
   -- word it loads: its value or fault, its references and its exits stay the same"
-  pub run-counted-load : (a : ℕ) → HeldOrPlain (configBy (length m) h s) book false a
+  pub run-counted-load : (a : ℕ) → HeldOrPlain config book false a
       → (n : List ℕ) → length n ≡ length memory → SameWords memory n (countedOf unit memory false a) → SameWords memory n (touchedOf unit memory false a)
       → loadOf unit n a ≡ ended unit (loadOf unit memory a .reply .answer) n
-  run-counted-load a k = words-counted-load (after (configBy (length m) h s) xs (opened (configBy (length m) h s) m)) unit memory stands a (here false a k)
+  run-counted-load a k = words-counted-load (after xs (opened (configBy (length m) h s) m)) unit memory stands a (here false a k)
 
   -- "A store that is granted through a held path or at d = 5 touches, after such a change, the same word or, only if host or
   -- shadow words are among those altered, is refused with 11"
-  pub run-counted-store : (a v k e : ℕ) → HeldOrPlain (configBy (length m) h s) book true a → storeCall unit memory a v .reply .answer ≡ answer.Done k e
+  pub run-counted-store : (a v k e : ℕ) → HeldOrPlain config book true a → storeCall unit memory a v .reply .answer ≡ answer.Done k e
       → (n : List ℕ) → length n ≡ length memory → SameWords memory n (countedOf unit memory true a) → SameStore unit memory n a v k e
-  run-counted-store a v k e q = words-counted-store (after (configBy (length m) h s) xs (opened (configBy (length m) h s) m)) unit memory stands a v (here true a q) k e
+  run-counted-store a v k e q = words-counted-store (after xs (opened (configBy (length m) h s) m)) unit memory stands a v (here true a q) k e
 
   -- those words are as many as the references of the answer
-  pub run-counted-words : (a : ℕ) → (HeldOrPlain (configBy (length m) h s) book false a → References (length (countedOf unit memory false a)) (loadOf unit memory a .reply .answer))
-      × ((v : ℕ) → HeldOrPlain (configBy (length m) h s) book true a → References (length (countedOf unit memory true a)) (storeCall unit memory a v .reply .answer))
+  pub run-counted-words : (a : ℕ) → (HeldOrPlain config book false a → References (length (countedOf unit memory false a)) (loadOf unit memory a .reply .answer))
+      × ((v : ℕ) → HeldOrPlain config book true a → References (length (countedOf unit memory true a)) (storeCall unit memory a v .reply .answer))
   run-counted-words a =
-      let st = after (configBy (length m) h s) xs (opened (configBy (length m) h s) m) in
+      let st = after xs (opened (configBy (length m) h s) m) in
       (λ k. load-counted st unit memory stands a (here false a k), λ v k. store-counted st unit memory stands a v (here true a k))

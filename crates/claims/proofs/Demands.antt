@@ -13,7 +13,7 @@ use Rattle.record.specs.Record.{configOf, configBy}
 use Rattle.record.specs.Open.{refusalOf, firstOf, grantedOf}
 use Rattle.unit.specs.Calls.{Ended, ended, openCall}
 use Rattle.claims.specs.Run.{callOf, unitRun, unitAfter, runOf, machineRun}
-use Rattle.claims.proofs.Invariant.{Inv, Follows}
+use Rattle.claims.proofs.Invariant.{Inv, Follows, at}
 use Rattle.claims.proofs.Opens.{opened-inv, granted-call}
 use Rattle.claims.proofs.Remaps.{root-follows, map-follows, unmap-follows}
 use Rattle.claims.proofs.Marks.{set-mark-follows, clear-mark-follows}
@@ -31,28 +31,32 @@ follows (load a) s r m i = load-follows s r m i a
 follows (store a v) s r m i = store-follows s r m i a v
 follows (device a v) s r m i = device-follows s r m i a v
 
+-- a state that carries the record's configuration
+pub at-self : (c : Config) (s : State) → s .config ≡ c → at c s ≡ s
+at-self c s e = λ i. record { config = sym e i; machine = s .machine; book = s .book }
+
 -- a list of calls, from any state that the record and the memory stand for
-pub runs-follow : (c : Config) (xs : List Call) (s : State) (r : Record) (m : List ℕ) → configOf r ≡ c → Inv s r m → unitRun xs r m ≡ machineRun (run c xs s)
+pub runs-follow : (xs : List Call) (s : State) (r : Record) (m : List ℕ) → s .config ≡ configOf r → Inv s r m → unitRun xs r m ≡ machineRun (run xs s)
 unfolding unitRun run
-runs-follow c [] s r m e i = refl
-runs-follow c (x ∷ xs) s r m e i =
+runs-follow [] s r m e i = refl
+runs-follow (x ∷ xs) s r m e i =
     let f = follows x s r m i in
     let u = callOf x r m in
-    let now : step (configOf r) x s ≡ step c x s = ap (λ k. step k x s) e in
+    let now : step x (at (configOf r) s) ≡ step x s = ap (step x) (at-self (configOf r) s e) in
     ap₂ (λ o os. o ∷ os)
     (ap₂ (λ l g. (l, g)) (f .says ∙ ap (λ o. o .0) now) (f .next .area ∙ ap (λ o. o .1 .machine .area) now))
-    (runs-follow c xs ((step c x s) .1) (u .reply .unit) (u .memory) (f .config ∙ e) (subst (λ o. Inv (o .1) (u .reply .unit) (u .memory)) now (f .next)))
+    (runs-follow xs ((step x s) .1) (u .reply .unit) (u .memory) (sym (f .config ∙ ap (λ o. o .1 .config) now)) (subst (λ o. Inv (o .1) (u .reply .unit) (u .memory)) now (f .next)))
 
 -- and the invariant at its end
-pub after-follow : (c : Config) (xs : List Call) (s : State) (r : Record) (m : List ℕ) (d : Ended) → configOf r ≡ c → Inv s r m → r ≡ d .reply .unit → m ≡ d .memory
-    → let e = unitAfter xs r m d in (configOf (e .reply .unit) ≡ c) × Inv (after c xs s) (e .reply .unit) (e .memory)
+pub after-follow : (xs : List Call) (s : State) (r : Record) (m : List ℕ) (d : Ended) → s .config ≡ configOf r → Inv s r m → r ≡ d .reply .unit → m ≡ d .memory
+    → let e = unitAfter xs r m d in ((after xs s) .config ≡ configOf (e .reply .unit)) × Inv (after xs s) (e .reply .unit) (e .memory)
 unfolding unitAfter after
-after-follow c [] s r m d k i p q = (ap configOf (sym p) ∙ k, subst (λ x. Inv s x (d .memory)) p (subst (Inv s r) q i))
-after-follow c (x ∷ xs) s r m d k i p q =
+after-follow [] s r m d k i p q = (k ∙ ap configOf p, subst (λ x. Inv s x (d .memory)) p (subst (Inv s r) q i))
+after-follow (x ∷ xs) s r m d k i p q =
     let f = follows x s r m i in
     let u = callOf x r m in
-    let now : step (configOf r) x s ≡ step c x s = ap (λ y. step y x s) k in
-    after-follow c xs ((step c x s) .1) (u .reply .unit) (u .memory) u (f .config ∙ k) (subst (λ o. Inv (o .1) (u .reply .unit) (u .memory)) now (f .next)) refl refl
+    let now : step x (at (configOf r) s) ≡ step x s = ap (step x) (at-self (configOf r) s k) in
+    after-follow xs ((step x s) .1) (u .reply .unit) (u .memory) u (sym (f .config ∙ ap (λ o. o .1 .config) now)) (subst (λ o. Inv (o .1) (u .reply .unit) (u .memory)) now (f .next)) refl refl
 
 pub opened-config : (m : List ℕ) (h s : ℕ) → configOf (grantedOf m h s .unit) ≡ configBy (length m) h s
 unfolding grantedOf firstOf
@@ -63,12 +67,12 @@ pub after-run : (m : List ℕ) (h s : ℕ) (xs : List Call) → refusalOf (lengt
     → let o = openCall m h s in
     let c = configBy (length m) h s in
     let e = unitAfter xs (o .reply .unit) (o .memory) o in
-    (configOf (e .reply .unit) ≡ c) × Inv (after c xs (opened c m)) (e .reply .unit) (e .memory)
+    ((after xs (opened c m)) .config ≡ configOf (e .reply .unit)) × Inv (after xs (opened c m)) (e .reply .unit) (e .memory)
 after-run m h s xs g =
     let o = openCall m h s in
     let c = configBy (length m) h s in
     let q = granted-call m h s g in
-    after-follow c xs (opened c m) (o .reply .unit) (o .memory) o (ap (λ (e : Ended). configOf (e .reply .unit)) q ∙ opened-config m h s)
+    after-follow xs (opened c m) (o .reply .unit) (o .memory) o (sym (ap (λ (e : Ended). configOf (e .reply .unit)) q ∙ opened-config m h s))
     (subst (λ (e : Ended). Inv (opened c m) (e .reply .unit) (e .memory)) (sym q) (opened-inv m h s g)) refl refl
 
 -- Demand 3. "For every granted opening, on any memory, and every list of calls after it: each value, fault, refusal, count and
@@ -76,9 +80,9 @@ after-run m h s xs g =
 pub demand-3 : (m : List ℕ) (h s : ℕ) (xs : List Call) → refusalOf (length m) h s ≡ 0
     → let e = openCall m h s in
     let c = configBy (length m) h s in
-    unitRun xs (e .reply .unit) (e .memory) ≡ machineRun (run c xs (opened c m))
+    unitRun xs (e .reply .unit) (e .memory) ≡ machineRun (run xs (opened c m))
 demand-3 m h s xs g =
     let c = configBy (length m) h s in
     let k = grantedOf m h s in
     ap (λ (e : Ended). unitRun xs (e .reply .unit) (e .memory)) (granted-call m h s g)
-    ∙ runs-follow c xs (opened c m) (k .unit) (k .memory) (opened-config m h s) (opened-inv m h s g)
+    ∙ runs-follow xs (opened c m) (k .unit) (k .memory) (sym (opened-config m h s)) (opened-inv m h s g)

@@ -69,10 +69,14 @@ stands c s p m h e = record {
     go g none q = tt
     go g (some x) q = lookup-inside c g (s .mappings) x (h .inside) q
 
+-- machine and book under a configuration
+abbrev pub at : Config → State → State
+at c s = record { config = c; machine = s .machine; book = s .book }
+
 -- ---- what a call of the unit does, and that it follows the specification's step
 
 -- the call x, which leaves e, says what the specification's step says, and keeps the invariant
 pub record Follows (x : Call) (s : State) (r : Record) (e : Ended) : Type 0 where
-  pub config : configOf (e .reply .unit) ≡ configOf r
-  pub says : line (e .reply .answer) ≡ (step (configOf r) x s) .0
-  pub next : Inv ((step (configOf r) x s) .1) (e .reply .unit) (e .memory)
+  pub config : configOf (e .reply .unit) ≡ (step x (at (configOf r) s)) .1 .config
+  pub says : line (e .reply .answer) ≡ (step x (at (configOf r) s)) .0
+  pub next : Inv ((step x (at (configOf r) s)) .1) (e .reply .unit) (e .memory)

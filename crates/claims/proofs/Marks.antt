@@ -162,7 +162,7 @@ module _ (s : State) (r : Record) (m : List ℕ) (h : Inv s r m) (a n : ℕ) (t 
   top = cond (ltb n levels) (r .top) 0
 
   abbrev marked : State
-  marked = record { machine = s .machine; book = record { marks = ms; held = dropPrefix (take (levels - n) (addressIndexes (configOf r) a)) (s .book .held) } }
+  marked = record { config = configOf r; machine = s .machine; book = record { marks = ms; held = dropPrefix (take (levels - n) (addressIndexes (configOf r) a)) (s .book .held) } }
 
   drops : Dropped (configOf r) m (leafAt (entryOf (configOf r) F) (longer left)) F (dropPrefixOf (configOf r) (r .shadow) m is)
   unfolding F held left is

@@ -47,7 +47,7 @@ use Rattle.drops.proofs.Scan.{Dropped}
 use Rattle.drops.proofs.Held.{leafAt, leaf-none}
 use Rattle.drops.proofs.Valid.{framesAt, entryOf, valid-entry, Stays, holds-on}
 use Rattle.unit.specs.Calls.{Ended, withHeld, withHost, refused, droppedBy}
-use Rattle.claims.proofs.Invariant.{longer, topBy, frames, Inv, Follows, stands}
+use Rattle.claims.proofs.Invariant.{longer, topBy, frames, Inv, Follows, stands, at}
 
 -- ---- the record
 -- an area that holds leaves keeps a pool in its ranges
@@ -241,12 +241,16 @@ top-on c hs s t m n sm tn bs bt few a = go (find [] hs) refl
         let found : lookup (t .root) (t .mappings) ≡ lookup (t .root) (s .mappings) = (subst (All (λ g. lookup g (t .mappings) ≡ lookup g (s .mappings))) after (v .mapped)) .0 in
         frame-root c s m sm bs ∙ ap (λ g. frameIn (lookup g (s .mappings))) roots ∙ sym (ap frameIn found) ∙ sym (frame-root c t n tn bt)
 
+-- the invariant asks nothing of the configuration that a state carries
+pub at-inv : {c : Config} {s : State} {r : Record} {m : List ℕ} → Inv s r m → Inv (at c s) r m
+at-inv h = record { fits = h .fits; word = h .word; root = h .root; maps = h .maps; area = h .area; book = h .book; valid = h .valid; marks = h .marks; shadow = h .shadow; top = h .top }
+
 -- ---- a call
 -- "A refused call changes nothing"
 pub follows-no : (x : Call) {s : State} {r : Record} {m : List ℕ} (n : ℕ) → Inv s r m → refusal (configOf r) x (s .machine) (s .book) ≡ some n
     → Follows x s r (refused r n m)
 unfolding step
-follows-no x n h e = record { config = refl; says = rw e; next = rw e h }
+follows-no x {s} n h e = record { config = rw e; says = rw e; next = rw e (at-inv h) }
 
 -- a call that is granted and says no more leaves the invariant on machine and book after it
 pub record Left (t : State) (r : Record) (e : Ended) : Type 0 where
@@ -261,16 +265,16 @@ dropped-left d s r next top e h = rw (d .done) (record { config = e; says = refl
 
 -- machine and book after a call that is granted
 abbrev pub after : Config → Call → State → State
-after c x s = record { machine = (machineStep c x (s .machine)) .1; book = (bookStep c x (s .machine) (s .book)) .book }
+after c x s = record { config = c; machine = (machineStep c x (s .machine)) .1; book = (bookStep c x (s .machine) (s .book)) .book }
 
 pub follows-ok : (x : Call) (s : State) (r : Record) (e : Ended) → refusal (configOf r) x (s .machine) (s .book) ≡ none
     → (machineStep (configOf r) x (s .machine)) .0 ≡ outcome.ok → Left (after (configOf r) x s) r e → Follows x s r e
 unfolding step
-follows-ok x s r e free ok l = record { config = l .config; says = rw (free, ok) (l .says); next = rw free (l .next) }
+follows-ok x s r e free ok l = record { config = rw free (l .config); says = rw (free, ok) (l .says); next = rw free (l .next) }
 
 pub after-fits : (c : Config) (x : Call) (s : State) → refusal c x (s .machine) (s .book) ≡ none → BookFits c (s .book) → BookFits c ((after c x s) .book)
 unfolding step
-after-fits c x s free b = rw free at (step-fits c x s b)
+after-fits c x s free b = rw free at (step-fits x (at c s) b)
 
 -- the number of a refusal
 pub first-positive : (xs : List (Bool × ℕ)) (n : ℕ) → All (λ x. 0 < x .1) xs → firstFailed xs ≡ some n → 0 < n

@@ -52,28 +52,31 @@ tests-other c (store a v) m b = (other 4 tt, tt)
 tests-other c (device a v) m b = (other 4 tt, tt)
 
 -- ---- a step, and a run, of the specification
-step-covered : (c : Config) (x : Call) (s : State) → Covered ((step c x s) .0)
+step-covered : (x : Call) (s : State) → Covered ((step x s) .0)
 unfolding step refusal
-step-covered c x s = go (refusal c x (s .machine) (s .book)) refl
+step-covered x s = go (refusal (s .config) x (s .machine) (s .book)) refl
   where
+    c : Config
+    c = s .config
+
     said : (o : Outcome) (r e : ℕ) → Covered (lineOf o r e)
     said ok r e = tt
     said done r e = tt
     said (value v) r e = tt
     said (fault y) r e = tt
 
-    go : (o : Option ℕ) → refusal c x (s .machine) (s .book) ≡ o → Covered ((answered c x s o) .0)
+    go : (o : Option ℕ) → refusal c x (s .machine) (s .book) ≡ o → Covered ((answered x s o) .0)
     go none q = let k = bookStep c x (s .machine) (s .book) in said ((machineStep c x (s .machine)) .0) (k .references) (k .exits)
     go (some n) q = failed-in Neither (tests c x (s .machine) (s .book)) (tests-other c x (s .machine) (s .book)) n q
 
-run-covered : (c : Config) (xs : List Call) (s : State) → All (λ o. Covered (o .0)) (machineRun (run c xs s))
+run-covered : (xs : List Call) (s : State) → All (λ o. Covered (o .0)) (machineRun (run xs s))
 unfolding run
-run-covered c [] s = tt
-run-covered c (x ∷ xs) s = (step-covered c x s, run-covered c xs ((step c x s) .1))
+run-covered [] s = tt
+run-covered (x ∷ xs) s = (step-covered x s, run-covered xs ((step x s) .1))
 
 -- and so of the unit
 pub never-3-nor-11 : (m : List ℕ) (h s : ℕ) (xs : List Call) → refusalOf (length m) h s ≡ 0
     → let e = openCall m h s in All (λ o. Covered (o .0)) (unitRun xs (e .reply .unit) (e .memory))
 never-3-nor-11 m h s xs g =
     let c = configBy (length m) h s in
-    subst (All (λ o. Covered (o .0))) (sym (demand-3 m h s xs g)) (run-covered c xs (opened c m))
+    subst (All (λ o. Covered (o .0))) (sym (demand-3 m h s xs g)) (run-covered xs (opened c m))

@@ -35,7 +35,7 @@ use Rattle.record.specs.Record.{levels, configOf, configBy}
 use Rattle.record.specs.Open.{refusalOf}
 use Rattle.unit.specs.Calls.{Ended, refused, addressOk, depthAt, loadOf, storeCall}
 use Rattle.claims.specs.Run.{callOf, guestArea, runOf}
-use Rattle.claims.proofs.Invariant.{Inv}
+use Rattle.claims.proofs.Invariant.{Inv, at}
 use Rattle.laws.proofs.Indexes.{indexes-all}
 use Rattle.claims.proofs.Found.{memory-stands, root-small}
 use Rattle.claims.proofs.Requests.{page-in, fits-of, load-step, store-step}
@@ -130,9 +130,14 @@ module _ (s : State) (r : Record) (m : List ℕ) (inv : Inv s r m) where
         let k = storing (wordOf a) x (cost true) in
         (lineOf (o .0) (k .references) (k .exits), o .1 .area)
 
-    step-is : (v : Option ℕ) → let o = step c (requestAt a v) s in (o .0, o .1 .machine .area) ≡ stepBy v ((plain c mach (isStore v) a) .result)
+    step-is : (v : Option ℕ) → let o = step (requestAt a v) (at c s) in (o .0, o .1 .machine .area) ≡ stepBy v ((plain c mach (isStore v) a) .result)
     step-is none = ap (λ o. (o .0, o .1 .machine .area)) (load-step s r m inv a ok)
     step-is (some v) = ap (λ o. (o .0, o .1 .machine .area)) (store-step s r m inv a v ok)
+
+    -- a load or store leaves the configuration
+    config-is : (v : Option ℕ) → (step (requestAt a v) (at c s)) .1 .config ≡ c
+    config-is none = ap (λ o. o .1 .config) (load-step s r m inv a ok)
+    config-is (some v) = ap (λ o. o .1 .config) (store-step s r m inv a v ok)
 
     -- and what the unit does
     does : (v : Option ℕ) (x : Result Fault Place) → (plain c mach (isStore v) a) .result ≡ x
@@ -140,7 +145,7 @@ module _ (s : State) (r : Record) (m : List ℕ) (inv : Inv s r m) where
     does v x q =
         let f = follows (requestAt a v) s r m inv in
         let e = callOf (requestAt a v) r m in
-        ap₂ (λ l g. (l, g)) (f .says) (ap (λ k. drop (512 * guestBase k) (e .memory)) (sym (f .config)) ∙ f .next .area)
+        ap₂ (λ l g. (l, g)) (f .says) (ap (λ k. drop (512 * guestBase k) (e .memory)) (sym (f .config ∙ config-is v)) ∙ f .next .area)
         ∙ step-is v ∙ ap (stepBy v) q
 
     granted-by : (v : Option ℕ) (p : Place) → (plain c mach (isStore v) a) .result ≡ granted p → Granted r m a v (callOf (requestAt a v) r m) (p .0)
@@ -205,4 +210,4 @@ pub demand-2 : (m : List ℕ) (h s : ℕ) (xs : List Call) → refusalOf (length
     Unrefused (e .reply .answer) → AsWalked r n a v e (plainWalk r n (isStore v) a)
 demand-2 m h s xs g a v =
     let u = runOf m h s xs in
-    as-walked (after (configBy (length m) h s) xs (opened (configBy (length m) h s) m)) (u .reply .unit) (u .memory) (after-run m h s xs g .1) a v
+    as-walked (after xs (opened (configBy (length m) h s) m)) (u .reply .unit) (u .memory) (after-run m h s xs g .1) a v

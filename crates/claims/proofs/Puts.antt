@@ -118,7 +118,7 @@ pub record Puts (s : State) (r : Record) (t i v : ℕ) (x : Stored) : Type 0 whe
   pub pool : Pool
   pub memory : List ℕ
   pub done : x ≡ put.stored pool (one (watched t (s .book .held))) true memory
-  pub next : Inv (record { machine = stored (configOf r) (s .machine) t i v; book = holding (s .book) (dropWord t i (s .book .held)) }) (withHeld r pool (r .top)) memory
+  pub next : Inv (record { config = configOf r; machine = stored (configOf r) (s .machine) t i v; book = holding (s .book) (dropWord t i (s .book .held)) }) (withHeld r pool (r .top)) memory
 
 module _ (s : State) (r : Record) (m : List ℕ) (inv : Inv s r m) (t i v : ℕ) (word : i < 512) (there : InGuestArea (configOf r) t) where
   abbrev c : Config
@@ -143,10 +143,10 @@ module _ (s : State) (r : Record) (m : List ℕ) (inv : Inv s r m) (t i v : ℕ)
   -- from shadow tables that hold the kept paths, and a memory that differs in them alone, to the invariant after the store
   stored-next : (p : Pool) (n : List ℕ) → Beside (shadowArea c) m n
       → Holds (shadowArea c) false p n (leafAt (entryOf c (frames r m)) (longer kept)) (frames r m)
-      → Inv (record { machine = stored c mach t i v; book = holding (s .book) kept }) (withHeld r p (r .top)) (setIn n t i v)
+      → Inv (record { config = c; machine = stored c mach t i v; book = holding (s .book) kept }) (withHeld r p (r .top)) (setIn n t i v)
   unfolding withHeld
   stored-next p n b h =
-      invariant (record { machine = stored c mach t i v; book = holding (s .book) kept }) (withHeld r p (r .top)) (setIn n t i v)
+      invariant (record { config = c; machine = stored c mach t i v; book = holding (s .book) kept }) (withHeld r p (r .top)) (setIn n t i v)
       (subst (Fits (withHeld r p (r .top))) (sym (length-set n (t * 512 + i) v ∙ b .len)) (fits-held (found.rules s r m inv) p (r .top) (holds-pool h) (found.rules s r m inv .top)))
       (inv .word) (inv .root) maps area (kept-fits c (s .book) (λ h. not (readsWord t i h)) (inv .book)) (all-map (Stays c mach (stored c mach t i v)) _ kept (λ h k. k .after) stays) (inv .marks)
       (shadow-on kept mach (stored c mach t i v) m (setIn n t i v) (found.memory-stands s r m inv) now (found.root-small s r m inv) (found.root-small s r m inv) (found.few s r m inv) stays

@@ -129,7 +129,7 @@ module _ (s : State) (r : Record) (m : List ℕ) (h : Inv s r m) (g : ℕ) (ys :
 
   -- machine and book after it
   abbrev changedState : State
-  changedState = record { machine = remapped (s .machine) ys; book = holding (s .book) (dropMapping g (s .book .held)) }
+  changedState = record { config = configOf r; machine = remapped (s .machine) ys; book = holding (s .book) (dropMapping g (s .book .held)) }
 
   held : List Held
   held = s .book .held

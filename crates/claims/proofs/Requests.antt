@@ -43,18 +43,19 @@ use Rattle.request.proofs.Device.{deviceScript, device-script}
 use Rattle.request.specs.Store as put
 use Rattle.request.specs.Store.{Stored, storeOf}
 use Rattle.unit.specs.Calls.{Ended, ended, refused, judged, withHeld, addressOk, deviceOk, translatedOf, heldAfter, loadBy, loadOf, writtenBy, storeBy, storeCall, deviceBy, deviceCall}
-use Rattle.claims.proofs.Invariant.{Inv, Follows, stands}
+use Rattle.claims.proofs.Invariant.{Inv, Follows, stands, at}
 use Rattle.claims.proofs.Paths.{exit-is}
 use Rattle.laws.proofs.Indexes.{indexes-all}
 use Rattle.claims.proofs.Found as found
+use Rattle.claims.proofs.Moves.{at-inv}
 use Rattle.claims.proofs.Translates.{Translates, translates}
 use Rattle.claims.proofs.Puts.{Puts, puts}
 
 -- a call that says l and leaves the record q, the memory n and the state t
-pub follows-by : (x : Call) (s t : State) (r q : Record) (a : Answer) (l : Line) (n : List ℕ) → step (configOf r) x s ≡ (l, t) → configOf q ≡ configOf r → line a ≡ l
+pub follows-by : (x : Call) (s t : State) (r q : Record) (a : Answer) (l : Line) (n : List ℕ) → step x (at (configOf r) s) ≡ (l, t) → configOf q ≡ t .config → line a ≡ l
     → Inv t q n → Follows x s r (ended q a n)
 follows-by x s t r q a l n e k i v =
-    record { config = k; says = i ∙ sym (ap (λ y. y .0) e); next = subst (λ y. Inv y q n) (sym (ap (λ y. y .1) e)) v }
+    record { config = k ∙ sym (ap (λ y. y .1 .config) e); says = i ∙ sym (ap (λ y. y .0) e); next = subst (λ y. Inv y q n) (sym (ap (λ y. y .1) e)) v }
 
 -- a call that meets the invariant is not refused with 3
 pub judged-by : (x : Call) (s : State) (r : Record) (m : List ℕ) (e : Ended) → Inv s r m → Follows x s r e → Follows x s r (judged r m e)
@@ -71,7 +72,7 @@ module _ (s : State) (r : Record) (m : List ℕ) (inv : Inv s r m) where
   tested : (x : Call) (b : Bool) (y : Ended) → refusal c x mach (s .book) ≡ firstFailed ((b, 4) ∷ []) → (b ≡ true → Follows x s r y) → Follows x s r (cond b y (refused r 4 m))
   unfolding step
   tested x true y e f = f refl
-  tested x false y e f = follows-by x s s r r (answer.Refused 4) (say.no 4) m (ap (answered c x s) e) refl refl inv
+  tested x false y e f = follows-by x s (at c s) r r (answer.Refused 4) (say.no 4) m (ap (answered x (at c s)) e) refl refl (at-inv inv)
 
   -- the page of a granted walk is in the guest area
   pub page-in : (st : Bool) (a : ℕ) (p : Place) → (plain c mach st a) .result ≡ granted p → InGuestArea c (p .0)
@@ -95,9 +96,9 @@ module _ (s : State) (r : Record) (m : List ℕ) (inv : Inv s r m) where
 
     pub load-step : addressOk r a ≡ true
         → let o = access c mach (wordOf a) none ((plain c mach false a) .result) in
-        step c (load a) s ≡ (lineOf (o .0) ((costs false) .references) ((costs false) .exits), record { machine = o .1; book = (costs false) .book })
+        step (load a) (at c s) ≡ (lineOf (o .0) ((costs false) .references) ((costs false) .exits), record { config = c; machine = o .1; book = (costs false) .book })
     unfolding step refusal tests machineStep bookStep
-    load-step ok = ap (λ b. answered c (load a) s (firstFailed ((b, 4) ∷ []))) ok
+    load-step ok = ap (λ b. answered (load a) (at c s) (firstFailed ((b, 4) ∷ []))) ok
 
     loaded : addressOk r a ≡ true → (x : Result Fault Place) → (plain c mach false a) .result ≡ x
         → Follows (load a) s r (loadBy r a (translatedOf r m false a) (translatedOf r m false a .translated .walked))
@@ -116,13 +117,13 @@ module _ (s : State) (r : Record) (m : List ℕ) (inv : Inv s r m) where
 
         by : (y : Result Fault Place) → (plain c mach false a) .result ≡ y → Follows (load a) s r (loadBy r a (left y) (plainWalked y (k .references)))
         by (failed y) q =
-            follows-by (load a) s (record { machine = mach; book = k .book }) r (withHeld r (t .pool) (t .top)) (answer.Faulted y (k .references) (k .exits)) (faultLine y (k .references) (k .exits)) (t .memory)
-            (load-step ok ∙ ap (λ z. (lineOf ((access c mach (wordOf a) none z) .0) (k .references) (k .exits), record { machine = (access c mach (wordOf a) none z) .1; book = k .book })) q)
+            follows-by (load a) s (record { config = c; machine = mach; book = k .book }) r (withHeld r (t .pool) (t .top)) (answer.Faulted y (k .references) (k .exits)) (faultLine y (k .references) (k .exits)) (t .memory)
+            (load-step ok ∙ ap (λ z. (lineOf ((access c mach (wordOf a) none z) .0) (k .references) (k .exits), record { config = c; machine = (access c mach (wordOf a) none z) .1; book = k .book })) q)
             refl refl (t .next)
         by (granted p) q =
-            follows-by (load a) s (record { machine = mach; book = k .book }) r (withHeld r (t .pool) (t .top)) (answer.Value (words.wordIn (t .memory) (p .0) (wordOf a)) (k .references) (k .exits))
+            follows-by (load a) s (record { config = c; machine = mach; book = k .book }) r (withHeld r (t .pool) (t .top)) (answer.Value (words.wordIn (t .memory) (p .0) (wordOf a)) (k .references) (k .exits))
             (say.value (wordIn c mach (p .0) (wordOf a)) (k .references) (k .exits)) (t .memory)
-            (load-step ok ∙ ap (λ z. (lineOf ((access c mach (wordOf a) none z) .0) (k .references) (k .exits), record { machine = (access c mach (wordOf a) none z) .1; book = k .book })) q)
+            (load-step ok ∙ ap (λ z. (lineOf ((access c mach (wordOf a) none z) .0) (k .references) (k .exits), record { config = c; machine = (access c mach (wordOf a) none z) .1; book = k .book })) q)
             refl (ap (λ v. say.value v (k .references) (k .exits)) (same-word c mach (t .memory) (after-stands false a (costs false) (translatedOf r m false a) t) (p .0) (wordOf a) (page-in false a p q))) (t .next)
 
     pub load-follows : Follows (load a) s r (loadOf r m a)
@@ -135,9 +136,9 @@ module _ (s : State) (r : Record) (m : List ℕ) (inv : Inv s r m) where
       pub store-step : addressOk r a ≡ true
           → let o = access c mach (wordOf a) (some v) ((plain c mach true a) .result) in
           let k = storing (wordOf a) ((plain c mach true a) .result) (costs true) in
-          step c (store a v) s ≡ (lineOf (o .0) (k .references) (k .exits), record { machine = o .1; book = k .book })
+          step (store a v) (at c s) ≡ (lineOf (o .0) (k .references) (k .exits), record { config = c; machine = o .1; book = k .book })
       unfolding step refusal tests machineStep bookStep
-      store-step ok = ap (λ b. answered c (store a v) s (firstFailed ((b, 4) ∷ []))) ok
+      store-step ok = ap (λ b. answered (store a v) (at c s) (firstFailed ((b, 4) ∷ []))) ok
 
       stored-is : addressOk r a ≡ true → (x : Result Fault Place) → (plain c mach true a) .result ≡ x
           → Follows (store a v) s r (storeBy r a v (translatedOf r m true a) (translatedOf r m true a .translated .walked))
@@ -156,20 +157,20 @@ module _ (s : State) (r : Record) (m : List ℕ) (inv : Inv s r m) where
 
           by : (y : Result Fault Place) → (plain c mach true a) .result ≡ y → Follows (store a v) s r (storeBy r a v (left y) (plainWalked y (k .references)))
           by (failed y) q =
-              follows-by (store a v) s (record { machine = mach; book = k .book }) r (withHeld r (t .pool) (t .top)) (answer.Faulted y (k .references) (k .exits)) (faultLine y (k .references) (k .exits)) (t .memory)
+              follows-by (store a v) s (record { config = c; machine = mach; book = k .book }) r (withHeld r (t .pool) (t .top)) (answer.Faulted y (k .references) (k .exits)) (faultLine y (k .references) (k .exits)) (t .memory)
               (store-step ok ∙ ap (λ z. (
                 lineOf ((access c mach (wordOf a) (some v) z) .0) ((storing (wordOf a) z (costs true)) .references) ((storing (wordOf a) z (costs true)) .exits),
-                record { machine = (access c mach (wordOf a) (some v) z) .1; book = (storing (wordOf a) z (costs true)) .book },
+                record { config = c; machine = (access c mach (wordOf a) (some v) z) .1; book = (storing (wordOf a) z (costs true)) .book },
               )) q)
               refl refl (t .next)
           by (granted p) q =
-              let u = puts (record { machine = mach; book = k .book }) (withHeld r (t .pool) (t .top)) (t .memory) (t .next) (p .0) (wordOf a) v (word-fits a) (page-in true a p q) in
+              let u = puts (record { config = c; machine = mach; book = k .book }) (withHeld r (t .pool) (t .top)) (t .memory) (t .next) (p .0) (wordOf a) v (word-fits a) (page-in true a p q) in
               subst (λ z. Follows (store a v) s r (writtenBy r (t .top) (k .references) (k .exits) z)) (sym (u .done))
-              (follows-by (store a v) s (record { machine = stored c mach (p .0) (wordOf a) v; book = holding (k .book) (dropWord (p .0) (wordOf a) (k .book .held)) }) r
+              (follows-by (store a v) s (record { config = c; machine = stored c mach (p .0) (wordOf a) v; book = holding (k .book) (dropWord (p .0) (wordOf a) (k .book .held)) }) r
               (withHeld r (u .pool) (t .top)) (answer.Done (k .references) (k .exits + one (watched (p .0) (k .book .held)))) (say.done (k .references) (k .exits + one (watched (p .0) (k .book .held)))) (u .memory)
               (store-step ok ∙ ap (λ z. (
                 lineOf ((access c mach (wordOf a) (some v) z) .0) ((storing (wordOf a) z (costs true)) .references) ((storing (wordOf a) z (costs true)) .exits),
-                record { machine = (access c mach (wordOf a) (some v) z) .1; book = (storing (wordOf a) z (costs true)) .book },
+                record { config = c; machine = (access c mach (wordOf a) (some v) z) .1; book = (storing (wordOf a) z (costs true)) .book },
               )) q)
               refl refl (u .next))
 
@@ -181,9 +182,9 @@ module _ (s : State) (r : Record) (m : List ℕ) (inv : Inv s r m) where
       device-step : deviceOk r a ≡ true
           → let o = access c mach (wordOf a) (some v) ((deviceWalk c mach a) .result) in
           let k = storing (wordOf a) ((deviceWalk c mach a) .result) (unshadowed (s .book) (deviceWalk c mach a)) in
-          step c (device a v) s ≡ (lineOf (o .0) (k .references) (k .exits), record { machine = o .1; book = k .book })
+          step (device a v) (at c s) ≡ (lineOf (o .0) (k .references) (k .exits), record { config = c; machine = o .1; book = k .book })
       unfolding step refusal tests machineStep bookStep
-      device-step ok = ap (λ b. answered c (device a v) s (firstFailed ((b, 4) ∷ []))) ok
+      device-step ok = ap (λ b. answered (device a v) (at c s) (firstFailed ((b, 4) ∷ []))) ok
 
       -- a device address that fits names a guest frame
       device-small : deviceOk r a ≡ true → pageOf a < 2 ^ frameBits c
@@ -227,17 +228,17 @@ module _ (s : State) (r : Record) (m : List ℕ) (inv : Inv s r m) where
           k y = storing (wordOf a) y (record { references = w .count; exits = hostExit y; book = s .book })
 
           stepped : (y : Result Fault Place) → w .result ≡ y
-              → step c (device a v) s ≡ (lineOf ((access c mach (wordOf a) (some v) y) .0) ((k y) .references) ((k y) .exits), record { machine = (access c mach (wordOf a) (some v) y) .1; book = (k y) .book })
-          stepped y q = device-step ok ∙ ap (λ z. (lineOf ((access c mach (wordOf a) (some v) z) .0) ((k z) .references) ((k z) .exits), record { machine = (access c mach (wordOf a) (some v) z) .1; book = (k z) .book })) q
+              → step (device a v) (at c s) ≡ (lineOf ((access c mach (wordOf a) (some v) y) .0) ((k y) .references) ((k y) .exits), record { config = c; machine = (access c mach (wordOf a) (some v) y) .1; book = (k y) .book })
+          stepped y q = device-step ok ∙ ap (λ z. (lineOf ((access c mach (wordOf a) (some v) z) .0) ((k z) .references) ((k z) .exits), record { config = c; machine = (access c mach (wordOf a) (some v) z) .1; book = (k z) .book })) q
 
           by : (y : Result Fault Place) → w .result ≡ y → Follows (device a v) s r (deviceBy r m a v (plainWalked y (w .count)))
           by (failed y) q =
-              follows-by (device a v) s s r r (answer.Faulted y (w .count) (exitBy (plainWalked (failed y) (w .count)))) (faultLine y (w .count) (hostExit {A = Place} (failed y))) m
-              (stepped (failed y) q) refl (ap (faultLine y (w .count)) (exit-is (failed y) (w .count))) inv
+              follows-by (device a v) s (at c s) r r (answer.Faulted y (w .count) (exitBy (plainWalked (failed y) (w .count)))) (faultLine y (w .count) (hostExit {A = Place} (failed y))) m
+              (stepped (failed y) q) refl (ap (faultLine y (w .count)) (exit-is (failed y) (w .count))) (at-inv inv)
           by (granted p) q =
               let u = puts s r m inv (p .0) (wordOf a) v (word-fits a) (device-in ok p q) in
               subst (λ z. Follows (device a v) s r (writtenBy r (r .top) (w .count) 0 z)) (sym (u .done))
-              (follows-by (device a v) s (record { machine = stored c mach (p .0) (wordOf a) v; book = holding (s .book) (dropWord (p .0) (wordOf a) (s .book .held)) }) r
+              (follows-by (device a v) s (record { config = c; machine = stored c mach (p .0) (wordOf a) v; book = holding (s .book) (dropWord (p .0) (wordOf a) (s .book .held)) }) r
               (withHeld r (u .pool) (r .top)) (answer.Done (w .count) (0 + one (watched (p .0) (s .book .held)))) (say.done (w .count) (0 + one (watched (p .0) (s .book .held)))) (u .memory)
               (stepped (granted p) q) refl refl (u .next))
 

@@ -58,7 +58,7 @@ use Rattle.drops.proofs.Valid.{framesAt, entryOf, entry-thin, valid-frame, insi
 use Rattle.request.specs.Translate.{Out, outs, translation, exitBy, pathIndexes, directOf, servedOf, servesOf, foundOf, foundBy, missedOf, missedBy, filledOf, fillBy, plainOf, translateOf}
 use Rattle.unit.specs.Calls.{withHeld, depthAt, translatedOf}
 use Rattle.claims.proofs.Invariant.{longer, topBy, frames, Inv, stands}
-use Rattle.claims.proofs.Moves.{holds-pool, fits-held, maps-beside, shadow-drop, invariant, shadow-on}
+use Rattle.claims.proofs.Moves.{holds-pool, fits-held, maps-beside, shadow-drop, invariant, shadow-on, at-inv}
 use Rattle.claims.proofs.Paths.{path-upper, path-lower, walk-above, exit-is}
 use Rattle.claims.proofs.Found as found
 
@@ -68,7 +68,7 @@ pub record Translates (s : State) (r : Record) (m : List ℕ) (st : Bool) (a : �
   pub top : ℕ
   pub memory : List ℕ
   pub done : o ≡ outs (translation pool top (k .exits) (plainWalked ((plain (configOf r) (s .machine) st a) .result) (k .references))) memory
-  pub next : Inv (record { machine = s .machine; book = k .book }) (withHeld r pool top) memory
+  pub next : Inv (record { config = configOf r; machine = s .machine; book = k .book }) (withHeld r pool top) memory
 
 -- ---- lists of held paths
 
@@ -118,9 +118,9 @@ module _ (s : State) (r : Record) (m : List ℕ) (inv : Inv s r m) (st : Bool) (
   result = (plain c mach st a) .result
 
   -- the invariant where nothing changed
-  same-inv : Inv (record { machine = s .machine; book = s .book }) (withHeld r (r .shadow) (r .top)) m
+  same-inv : Inv (record { config = configOf r; machine = s .machine; book = s .book }) (withHeld r (r .shadow) (r .top)) m
   unfolding withHeld
-  same-inv = inv
+  same-inv = at-inv inv
 
   -- ---- the direct part, over a memory that stands for the machine
   direct-is : (n : List ℕ) → Stands c mach n → (t : ℕ) (right : Bool) → deep ≤ c .levels → InGuestArea c t
@@ -299,7 +299,7 @@ module _ (s : State) (r : Record) (m : List ℕ) (inv : Inv s r m) (st : Bool) (
 
   -- the state after a fill
   abbrev after : Bool → State
-  after right = record { machine = s .machine; book = holding (s .book) (fill c (new right) (s .book .held)) }
+  after right = record { config = c; machine = s .machine; book = holding (s .book) (fill c (new right) (s .book .held)) }
 
   -- a path with an index stands in the shadow tables
   module _ (t : ℕ) (right : Bool) (low : deep < c .levels) (e : part .result ≡ granted (t, right)) where

@@ -24,10 +24,10 @@ use Rattle.jobs.specs.Run as jobs
 use Rattle.jobs.specs.Run.{After, runOf}
 use Rattle.lines.specs.Text.{decimal, lineOf}
 use Rattle.claims.specs.Run as claims
-use Rattle.claims.proofs.Invariant.{Inv}
+use Rattle.claims.proofs.Invariant.{Inv, at}
 use Rattle.claims.proofs.Opens.{opened-inv, granted-call, refused-call}
-use Rattle.claims.proofs.Demands.{follows, opened-config}
-use Rattle.job_claims.specs.Job.{answers, callFor, Opened, said, saidAll, textOf, linesFrom, textsFrom}
+use Rattle.claims.proofs.Demands.{follows, at-self, opened-config}
+use Rattle.job_claims.specs.Job.{answers, callFor, said, saidAll, textOf, linesFrom, textsFrom}
 
 -- one text for a call of a record, in job and claims
 same-call : (x : Call) (r : Record) (m : List ℕ) → jobs.callOf r m x ≡ claims.callOf (callFor x) r m
@@ -42,47 +42,47 @@ same-call (call.Store a v) r m = refl
 same-call (call.Device a v) r m = refl
 
 -- record and memory of a job stand for machine and book, once an open was granted
-abbrev Stands : Option Opened → Bool → Record → List ℕ → Type 0
+abbrev Stands : Option State → Bool → Record → List ℕ → Type 0
 Stands none o r m = o ≡ false
-Stands (some k) o r m = (o ≡ true) × (configOf r ≡ k .config) × Inv (k .state) r m
+Stands (some k) o r m = (o ≡ true) × (k .config ≡ configOf r) × Inv k r m
 
 -- ---- one record
 
 -- what the unit says to a record is what is said, and both go on alike
-record Alike (j : Job) (k : Option Opened) (o : Bool) (r : Record) (m : List ℕ) : Type 0 where
+record Alike (j : Job) (k : Option State) (o : Bool) (r : Record) (m : List ℕ) : Type 0 where
   says : line (runOf o r m j .ran .answer) ≡ (said j m k) .0
   stands : let a = runOf o r m j in Stands ((said j m k) .1) (a .ran .opened) (a .ran .unit) (a .memory)
 
-opens-alike : (h s : ℕ) (k : Option Opened) (o : Bool) (r : Record) (m : List ℕ) → Stands k o r m → Alike (job.Open h s) k o r m
+opens-alike : (h s : ℕ) (k : Option State) (o : Bool) (r : Record) (m : List ℕ) → Stands k o r m → Alike (job.Open h s) k o r m
 unfolding runOf
 opens-alike h s k o r m i = go (ℕ-discrete (refusalOf (length m) h s) 0)
   where
     go : Dec (refusalOf (length m) h s ≡ 0) → Alike (job.Open h s) k o r m
     go (yes e) = record {
       says = rw (granted-call m h s e, granted-opening m h s e);
-      stands = rw (granted-call m h s e, granted-opening m h s e) (refl, opened-config m h s, opened-inv m h s e);
+      stands = rw (granted-call m h s e, granted-opening m h s e) (refl, sym (opened-config m h s), opened-inv m h s e);
     }
     go (no n) = record {
       says = rw (refused-call m h s n, refused-opening m h s n);
       stands = rw (refused-call m h s n, refused-opening m h s n) i;
     }
 
-calls-alike : (x : Call) (k : Option Opened) (o : Bool) (r : Record) (m : List ℕ) → Stands k o r m → Alike (job.Call x) k o r m
+calls-alike : (x : Call) (k : Option State) (o : Bool) (r : Record) (m : List ℕ) → Stands k o r m → Alike (job.Call x) k o r m
 unfolding runOf
 calls-alike x none o r m i = record { says = rw i; stands = rw i }
 calls-alike x (some k) o r m i =
-    let f = follows (callFor x) (k .state) r m (i .2) in
-    let now : step (configOf r) (callFor x) (k .state) ≡ step (k .config) (callFor x) (k .state) = ap (λ c. step c (callFor x) (k .state)) (i .1) in
+    let f = follows (callFor x) k r m (i .2) in
+    let now : step (callFor x) (at (configOf r) k) ≡ step (callFor x) k = ap (step (callFor x)) (at-self (configOf r) k (i .1)) in
     record {
       says = rw (i .0, same-call x r m) (f .says ∙ ap (λ u. u .0) now);
       stands = rw (i .0, same-call x r m) (
         refl,
-        f .config ∙ i .1,
+        sym (f .config ∙ ap (λ u. u .1 .config) now),
         subst (λ u. Inv (u .1) (claims.callOf (callFor x) r m .reply .unit) (claims.callOf (callFor x) r m .memory)) now (f .next),
       );
     }
 
-alike : (j : Job) (k : Option Opened) (o : Bool) (r : Record) (m : List ℕ) → Stands k o r m → Alike j k o r m
+alike : (j : Job) (k : Option State) (o : Bool) (r : Record) (m : List ℕ) → Stands k o r m → Alike j k o r m
 unfolding runOf
 alike (job.Open h s) k o r m i = opens-alike h s k o r m i
 alike (job.Call x) k o r m i = calls-alike x k o r m i
@@ -90,7 +90,7 @@ alike job.Bad k o r m i = record { says = refl; stands = i }
 
 -- ---- a job
 
-lines : (js : List Job) (k : Option Opened) (o : Bool) (r : Record) (m : List ℕ) → Stands k o r m → map line (answers js o r m) ≡ saidAll js k o r m
+lines : (js : List Job) (k : Option State) (o : Bool) (r : Record) (m : List ℕ) → Stands k o r m → map line (answers js o r m) ≡ saidAll js k o r m
 unfolding answers saidAll
 lines [] k o r m i = refl
 lines (j ∷ js) k o r m i =

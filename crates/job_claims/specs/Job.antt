@@ -6,7 +6,6 @@ use mathlib.Core.List.{List, [], _∷_, _++_}
 use mathlib.Core.Option.{Option, none, some}
 use lib.ListN.{length}
 use Rattle.spec.specs.declared.Answer.{Answer}
-use Rattle.spec.specs.Config.{Config}
 use Rattle.spec.specs.Answer as say
 use Rattle.spec.specs.Answer.{Line, line}
 use Rattle.spec.specs.Call as machine
@@ -42,38 +41,33 @@ callFor (call.Load a) = machine.load a
 callFor (call.Store a v) = machine.store a v
 callFor (call.Device a v) = machine.device a v
 
--- an opening that was granted: its sizes, and machine and book since
-pub record Opened : Type 0 where
-  pub config : Config
-  pub state : State
-
 -- "A refused open keeps the unit's earlier record in use"
-abbrev pub openedBy : Config → Option State → Option Opened → Option Opened
-openedBy c (some s) before = some (record { config = c; state = s })
-openedBy c none before = before
+abbrev pub openedBy : Option State → Option State → Option State
+openedBy (some s) before = some s
+openedBy none before = before
 
 -- "3 for any kind but 1 before a granted open"
-abbrev pub called : Option Opened → Call → Line × Option Opened
+abbrev pub called : Option State → Call → Line × Option State
 called none x = (say.no 3, none)
-called (some o) x =
-    let u : Line × State = step (o .config) (callFor x) (o .state) in
-    (u .0, some (record { config = o .config; state = u .1 }))
+called (some s) x =
+    let u : Line × State = step (callFor x) s in
+    (u .0, some (u .1))
 
 -- what is said to one record. An opening takes the memory it meets.
-abbrev pub said : Job → List ℕ → Option Opened → Line × Option Opened
+abbrev pub said : Job → List ℕ → Option State → Line × Option State
 said (job.Open h s) m o =
     let u : Line × Option State = opening (configBy (length m) h s) m in
-    (u .0, openedBy (configBy (length m) h s) (u .1) o)
+    (u .0, openedBy (u .1) o)
 said (job.Call x) m o = called o x
 said job.Bad m o = (say.no 13, o)
 
 -- the lines of a list of records. Record and memory are the unit's, and only an opening looks at them: which words the tables
 -- of the opening before it left is open.
-unfoldable pub saidAll : List Job → Option Opened → Bool → Record → List ℕ → List Line
+unfoldable pub saidAll : List Job → Option State → Bool → Record → List ℕ → List Line
 saidAll [] k o r m = []
 saidAll (j ∷ js) k o r m =
     let a : After = runOf o r m j in
-    let u : Line × Option Opened = said j m k in
+    let u : Line × Option State = said j m k in
     u .0 ∷ cond (a .ran .more) (saidAll js (u .1) (a .ran .opened) (a .ran .unit) (a .memory)) []
 
 -- ---- bytes

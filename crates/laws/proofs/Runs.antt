@@ -127,10 +127,13 @@ unfolding storing
 storing-keeps c i (failed x) k h = h
 storing-keeps c i (granted p) k h = kept-fits c (k .book) (λ y. not (readsWord (p .0) i y)) h
 
-pub step-fits : (c : Config) (x : Call) (s : State) → BookFits c (s .book) → BookFits c ((step c x s) .1 .book)
+pub step-fits : (x : Call) (s : State) → BookFits (s .config) (s .book) → BookFits ((step x s) .1 .config) ((step x s) .1 .book)
 unfolding step bookStep tests refusal
-step-fits c x s i = go (refusal c x (s .machine) (s .book)) refl
+step-fits x s i = go (refusal (s .config) x (s .machine) (s .book)) refl
   where
+    c : Config
+    c = s .config
+
     m : Machine
     m = s .machine
 
@@ -147,35 +150,38 @@ step-fits c x s i = go (refusal c x (s .machine) (s .book)) refl
     by (store a v) e = storing-keeps c (wordOf a) _ _ (request-keeps c m b true a i)
     by (device a v) e = storing-keeps c (wordOf a) _ _ i
 
-    go : (r : Option ℕ) → refusal c x m b ≡ r → BookFits c ((answered c x s r) .1 .book)
+    go : (r : Option ℕ) → refusal c x m b ≡ r → BookFits ((answered x s r) .1 .config) ((answered x s r) .1 .book)
     go (some n) e = i
     go none e = by x e
 
 pub opened-fits : (c : Config) (memory : List ℕ) → BookFits c ((opened c memory) .book)
 opened-fits c memory = record { marks = tt; held = tt }
 
-pub run-fits : (c : Config) (xs : List Call) (s : State) → BookFits c (s .book) → BookFits c ((after c xs s) .book)
+pub run-fits : (xs : List Call) (s : State) → BookFits (s .config) (s .book) → BookFits ((after xs s) .config) ((after xs s) .book)
 unfolding after
-run-fits c [] s i = i
-run-fits c (x ∷ xs) s i = run-fits c xs ((step c x s) .1) (step-fits c x s i)
+run-fits [] s i = i
+run-fits (x ∷ xs) s i = run-fits xs ((step x s) .1) (step-fits x s i)
 
 -- after any list of calls from an opening, no held path is a proper prefix of another
 pub held-apart : (c : Config) (memory : List ℕ) (xs : List Call)
-    → let hs = (after c xs (opened c memory)) .book .held in
+    → let hs = (after xs (opened c memory)) .book .held in
     All (λ h. All (λ k. T (begins (h .path) (k .path)) → h .path ≡ k .path) hs) hs
 held-apart c memory xs =
-    let b = (after c xs (opened c memory)) .book in
-    let f = run-fits c xs (opened c memory) (opened-fits c memory) in
-    all-map (HeldFits c (b .marks)) _ (b .held)
-    (λ h fh. all-map (HeldFits c (b .marks)) _ (b .held) (λ k fk. no-proper-prefix (c .levels) (b .marks) (h .path) (k .path) fh fk) (f .held)) (f .held)
+    let k = (after xs (opened c memory)) .config in
+    let b = (after xs (opened c memory)) .book in
+    let f = run-fits xs (opened c memory) (opened-fits c memory) in
+    all-map (HeldFits k (b .marks)) _ (b .held)
+    (λ h fh. all-map (HeldFits k (b .marks)) _ (b .held) (λ y fy. no-proper-prefix (k .levels) (b .marks) (h .path) (y .path) fh fy) (f .held)) (f .held)
 
 -- after any list of calls from an opening, a request that the plain walk grants reads N + N·d words
 pub granted-reads : (c : Config) (memory : List ℕ) (xs : List Call) (st : Bool) (a : ℕ) (r : Place)
-    → let s = after c xs (opened c memory) in
-    let d = depth (s .book .marks) (addressIndexes c a) in
-    (plain c (s .machine) st a) .result ≡ granted r → (request c (s .machine) (s .book) st a d) .references ≡ c .levels + c .levels * d
+    → let s = after xs (opened c memory) in
+    let k = s .config in
+    let d = depth (s .book .marks) (addressIndexes k a) in
+    (plain k (s .machine) st a) .result ≡ granted r → (request k (s .machine) (s .book) st a d) .references ≡ k .levels + k .levels * d
 granted-reads c memory xs st a r h =
-    let s = after c xs (opened c memory) in
-    let f = run-fits c xs (opened c memory) (opened-fits c memory) in
-    let is = addressIndexes c a in
-    request-count c (s .machine) (s .book) st a (depth (s .book .marks) is) r (depth-bound (c .levels) (s .book .marks) is (f .marks)) h
+    let s = after xs (opened c memory) in
+    let f = run-fits xs (opened c memory) (opened-fits c memory) in
+    let k = s .config in
+    let is = addressIndexes k a in
+    request-count k (s .machine) (s .book) st a (depth (s .book .marks) is) r (depth-bound (k .levels) (s .book .marks) is (f .marks)) h
