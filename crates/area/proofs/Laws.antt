@@ -100,52 +100,52 @@ hop-small b s e = go (present e) (insideOf b s (frameOf e))
 abbrev pub AreaGood : Area → Way → Type 0
 AreaGood a w = WayGood (a .base) (a .size) w
 
-fresh-good : (a : Area) (p : Pool) (m : List ℕ) → AreaGood a (freshOf a p m .went .way)
+fresh-good : (a : Area) (p : Pool) (m : List ℕ) → AreaGood a (freshOf a p m .result .way)
 unfolding freshOf
 fresh-good a p m = go (ltb (p .fresh) (a .size)) refl
   where
     go : (t : Bool) → ltb (p .fresh) (a .size) ≡ t
-        → AreaGood a (cond t (end (poolOf (p .fresh + 1) (p .free) (p .used + 1)) (To (a .base + p .fresh)) (zeroed m ((a .base + p .fresh) * 512) 512)) (end p Bad m) .went .way)
+        → AreaGood a (cond t (end (poolOf (p .fresh + 1) (p .free) (p .used + 1)) (To (a .base + p .fresh)) (zeroed m ((a .base + p .fresh) * 512) 512)) (end p Bad m) .result .way)
     go true q =
         let l = ltb-true (p .fresh) (a .size) q in
         (omega arith, omega arith)
     go false q = tt
 
-pub take-good : (a : Area) (p : Pool) (m : List ℕ) → AreaGood a (takeOf a p m .went .way)
+pub take-good : (a : Area) (p : Pool) (m : List ℕ) → AreaGood a (takeOf a p m .result .way)
 unfolding takeOf freedOf
 take-good a p m = go (ltb (p .used) (a .size)) (hopOf (a .base) (a .size) (p .free)) (hop-good (a .base) (a .size) (p .free))
   where
-    go : (t : Bool) (w : Way) → AreaGood a w → AreaGood a (cond t (onWay w (freshOf a p m) (end p Bad m) (freedOf p m)) (end p Not m) .went .way)
+    go : (t : Bool) (w : Way) → AreaGood a w → AreaGood a (cond t (onWay w (freshOf a p m) (end p Bad m) (freedOf p m)) (end p Not m) .result .way)
     go true (To f) g = g
     go true Not g = fresh-good a p m
     go true Bad g = tt
     go false w g = tt
 
-pub table-good : (a : Area) (p : Pool) (m : List ℕ) (guest level parent slot : ℕ) → AreaGood a (tableOf a p m guest level parent slot .went .way)
+pub table-good : (a : Area) (p : Pool) (m : List ℕ) (guest level parent slot : ℕ) → AreaGood a (tableOf a p m guest level parent slot .result .way)
 unfolding tableOf
-table-good a p m guest level parent slot = go (takeOf a p m .went .way) (take-good a p m)
+table-good a p m guest level parent slot = go (takeOf a p m .result .way) (take-good a p m)
   where
-    go : (w : Way) → AreaGood a (takeOf a p m .went .way) → AreaGood a (headed (takeOf a p m) w guest level parent slot .went .way)
+    go : (w : Way) → AreaGood a (takeOf a p m .result .way) → AreaGood a (headed (takeOf a p m) w guest level parent slot .result .way)
     go (To f) g = g
     go Not g = g
     go Bad g = g
 
-hang-good : (a : Area) (p : Pool) (m : List ℕ) (guest level f i : ℕ) → AreaGood a (hangOf a p m guest level f i .went .way)
+hang-good : (a : Area) (p : Pool) (m : List ℕ) (guest level f i : ℕ) → AreaGood a (hangOf a p m guest level f i .result .way)
 unfolding hangOf
 hang-good a p m guest level f i =
-    go (tableOf a p m guest level f i .went .way) (table-good a p m guest level f i)
+    go (tableOf a p m guest level f i .result .way) (table-good a p m guest level f i)
   where
-    go : (w : Way) → AreaGood a (tableOf a p m guest level f i .went .way) → AreaGood a (hung (tableOf a p m guest level f i) w f i .went .way)
+    go : (w : Way) → AreaGood a (tableOf a p m guest level f i .result .way) → AreaGood a (hung (tableOf a p m guest level f i) w f i .result .way)
     go (To f) g = g
     go Not g = g
     go Bad g = g
 
-pub descend-good : (a : Area) (p : Pool) (m : List ℕ) (guest level f i : ℕ) → AreaGood a (descendOf a p m guest level f i .went .way)
+pub descend-good : (a : Area) (p : Pool) (m : List ℕ) (guest level f i : ℕ) → AreaGood a (descendOf a p m guest level f i .result .way)
 unfolding descendOf
 descend-good a p m guest level f i =
     go (hopOf (a .base) (a .size) (entryIn m f i)) (hop-good (a .base) (a .size) (entryIn m f i))
   where
-    go : (w : Way) → AreaGood a w → AreaGood a (onWay w (hangOf a p m guest level f i) (end p Bad m) (λ h. end p (To h) m) .went .way)
+    go : (w : Way) → AreaGood a w → AreaGood a (onWay w (hangOf a p m guest level f i) (end p Bad m) (λ h. end p (To h) m) .result .way)
     go (To h) g = g
     go Not g = hang-good a p m guest level f i
     go Bad g = tt
@@ -161,19 +161,19 @@ fits-good a (To f) g = omega arith
 fits-good a Not g = tt
 fits-good a Bad g = tt
 
-pub enter-fits : (a : Area) (p : Pool) (m : List ℕ) (guest : ℕ) → Fits a (enterOf a p m guest .went .way)
+pub enter-fits : (a : Area) (p : Pool) (m : List ℕ) (guest : ℕ) → Fits a (enterOf a p m guest .result .way)
 unfolding enterOf
 enter-fits a p m guest = go (eqb (p .fresh) 0)
   where
-    go : (t : Bool) → Fits a (cond t (tableOf a p m guest (a .levels) 0 0) (end p (To (a .base)) m) .went .way)
-    go true = fits-good a (tableOf a p m guest (a .levels) 0 0 .went .way) (table-good a p m guest (a .levels) 0 0)
+    go : (t : Bool) → Fits a (cond t (tableOf a p m guest (a .levels) 0 0) (end p (To (a .base)) m) .result .way)
+    go true = fits-good a (tableOf a p m guest (a .levels) 0 0 .result .way) (table-good a p m guest (a .levels) 0 0)
     go false = omega arith
 
-pub unhang-good : (a : Area) (p : Pool) (m : List ℕ) (f : ℕ) → AreaGood a (unhangOf a p m f .went .way)
+pub unhang-good : (a : Area) (p : Pool) (m : List ℕ) (f : ℕ) → AreaGood a (unhangOf a p m f .result .way)
 unfolding unhangOf
 unhang-good a p m f = go (bareOf m f 512) (insideOf (a .base) (a .size) (parentOf m f)) refl refl
   where
-    go : (t u : Bool) → bareOf m f 512 ≡ t → insideOf (a .base) (a .size) (parentOf m f) ≡ u → AreaGood a (unhangOf a p m f .went .way)
+    go : (t u : Bool) → bareOf m f 512 ≡ t → insideOf (a .base) (a .size) (parentOf m f) ≡ u → AreaGood a (unhangOf a p m f .result .way)
     go true true q r = rw (q, r) (inside-true (a .base) (a .size) (parentOf m f) r)
     go true false q r = rw (q, r) tt
     go false u q r = rw q tt
@@ -220,7 +220,7 @@ down-last a guests p m d f g e = refl
 pub release-step : (a : Area) (stays : Bool) (p : Pool) (m : List ℕ) (k f : ℕ) → 0 < k
     → releaseOf a stays p m k f
     ≡ (let t = unhangOf a p m f in
-    onWay (t .went .way) (end (t .went .pool) (To f) (t .memory)) (end (t .went .pool) Bad (t .memory)) (λ h. releaseOf a stays (t .went .pool) (t .memory) (k - 1) h))
+    onWay (t .result .way) (end (t .result .pool) (To f) (t .memory)) (end (t .result .pool) Bad (t .memory)) (λ h. releaseOf a stays (t .result .pool) (t .memory) (k - 1) h))
 unfolding releaseOf
 release-step a stays p m zero f l = absurd (omega arith)
 release-step a stays p m (suc k) f l =

@@ -19,11 +19,13 @@ use Rattle.area.specs.declared.Pool.{Pool}
 use Rattle.area.specs.declared.Way.{Way}
 use Rattle.area.specs.declared.Way.the-variants.{To, Not, Bad}
 use Rattle.area.specs.Header.{entryIn, putOf, parentOf, slotOf, headOf, insideOf, bareOf}
-use Rattle.area.specs.Pool.{link, hopOf, onWay, End, end, poolOf, noneOf, freshOf, freedOf, takeOf, giveOf, backOf}
+use Rattle.area.specs.Pool.{link, hopOf, onWay, end, poolOf, noneOf, freshOf, freedOf, takeOf, giveOf, backOf}
 use Rattle.area.specs.Tree.{topOf, roomOf, headed, tableOf, enterOf, hung, hangOf, descendOf, downOf, placeOf, insertOf}
 use Rattle.area.specs.Remove.{unhangOf, shutOf, releaseOf, lastOf, lastIndex, clearOf, removeOf}
 use Rattle.area.specs.Outside.{SameOutside, Narrow}
 use Rattle.area.proofs.Laws.{slot-small, inside-true, AreaGood, hop-good, take-good, table-good, descend-good, unhang-good}
+use Rattle.words.specs.After.{After}
+use Rattle.area.specs.declared.Went.{Went}
 
 pub indexes-narrow : (k g : ℕ) → Narrow (indexes k g)
 unfolding indexes
@@ -74,7 +76,7 @@ unfolding backOf
 back-out b s m f next l h = out-trans b s _ _ _ (set-out b s _ f 1 _ l h (omega arith)) (set-out b s m f 0 _ l h (omega arith))
 
 module _ (a : Area) where
-  abbrev pub Kept : List ℕ → End → Type 0
+  abbrev pub Kept : List ℕ → After Went → Type 0
   Kept m t = SameOutside (a .base) (a .size) m (t .memory)
 
   abbrev In : ℕ → Type 0
@@ -106,7 +108,7 @@ module _ (a : Area) where
 
   pub table-out : (p : Pool) (m : List ℕ) (guest level parent slot : ℕ) → Kept m (tableOf a p m guest level parent slot)
   unfolding tableOf
-  table-out p m guest level parent slot = go (takeOf a p m .went .way) (take-good a p m)
+  table-out p m guest level parent slot = go (takeOf a p m .result .way) (take-good a p m)
     where
       go : (w : Way) → AreaGood a w → Kept m (headed (takeOf a p m) w guest level parent slot)
       go (To f) g =
@@ -126,23 +128,23 @@ module _ (a : Area) where
 
       go : (w : Way) → Kept m (onWay w (hangOf a p m guest level f i) (end p Bad m) (λ d. end p (To d) m))
       go (To d) = same m
-      go Not = hang (tableOf a p m guest level f i .went .way)
+      go Not = hang (tableOf a p m guest level f i .result .way)
       go Bad = same m
 
   pub down-out : (is guests : List ℕ) (p : Pool) (m : List ℕ) (d f i e : ℕ) → In f → i < 512 → Narrow is → Kept m (downOf a guests p m d f i is e)
   unfolding downOf
   down-out [] guests p m d f i e h k n = put-out (a .base) (a .size) m f i e (h .0) (h .1) k
   down-out (j ∷ is) guests p m d f i e h k n =
-      go (step .went .way) (descend-good a p m (getD guests (d + 1) 0) (a .levels - (d + 1)) f i) (λ t l. down-out is guests (step .went .pool) (step .memory) (d + 1) t j e l (n .0) (n .1))
+      go (step .result .way) (descend-good a p m (getD guests (d + 1) 0) (a .levels - (d + 1)) f i) (λ t l. down-out is guests (step .result .pool) (step .memory) (d + 1) t j e l (n .0) (n .1))
     where
-      step : End
+      step : After Went
       step = descendOf a p m (getD guests (d + 1) 0) (a .levels - (d + 1)) f i
 
       one : Kept m step
       one = descend-out p m (getD guests (d + 1) 0) (a .levels - (d + 1)) f i h k
 
-      go : (w : Way) → AreaGood a w → ((t : ℕ) → In t → Kept (step .memory) (downOf a guests (step .went .pool) (step .memory) (d + 1) t j is e))
-          → Kept m (onWay w (end (step .went .pool) Bad (step .memory)) (end (step .went .pool) Bad (step .memory)) (λ t. downOf a guests (step .went .pool) (step .memory) (d + 1) t j is e))
+      go : (w : Way) → AreaGood a w → ((t : ℕ) → In t → Kept (step .memory) (downOf a guests (step .result .pool) (step .memory) (d + 1) t j is e))
+          → Kept m (onWay w (end (step .result .pool) Bad (step .memory)) (end (step .result .pool) Bad (step .memory)) (λ t. downOf a guests (step .result .pool) (step .memory) (d + 1) t j is e))
       go (To t) g next = after m (step .memory) _ (next t g) one
       go Not g next = one
       go Bad g next = one
@@ -166,27 +168,27 @@ module _ (a : Area) where
     first : In (a .base)
     first = (omega arith, omega arith)
 
-    pub enter-out : (p : Pool) (m : List ℕ) (guest : ℕ) → Kept m (enterOf a p m guest) × AreaGood a (enterOf a p m guest .went .way)
+    pub enter-out : (p : Pool) (m : List ℕ) (guest : ℕ) → Kept m (enterOf a p m guest) × AreaGood a (enterOf a p m guest .result .way)
     unfolding enterOf
     enter-out p m guest = go (eqb (p .fresh) 0)
       where
-        go : (t : Bool) → let r = cond t (tableOf a p m guest (a .levels) 0 0) (end p (To (a .base)) m) in Kept m r × AreaGood a (r .went .way)
+        go : (t : Bool) → let r = cond t (tableOf a p m guest (a .levels) 0 0) (end p (To (a .base)) m) in Kept m r × AreaGood a (r .result .way)
         go true = (table-out p m guest (a .levels) 0 0, table-good a p m guest (a .levels) 0 0)
         go false = (same m, first)
 
     pub place-out : (guests : List ℕ) (p : Pool) (m : List ℕ) (i : ℕ) (is : List ℕ) (e : ℕ) → i < 512 → Narrow is → Kept m (placeOf a guests p m i is e)
     unfolding placeOf
-    place-out guests p m i is e k n = go (step .went .way) (enter-out p m (getD guests 0 0) .1)
+    place-out guests p m i is e k n = go (step .result .way) (enter-out p m (getD guests 0 0) .1)
       where
-        step : End
+        step : After Went
         step = enterOf a p m (getD guests 0 0)
 
         one : Kept m step
         one = enter-out p m (getD guests 0 0) .0
 
         go : (w : Way) → AreaGood a w
-            → Kept m (onWay w (end (step .went .pool) Bad (step .memory)) (end (step .went .pool) Bad (step .memory)) (λ t. downOf a guests (step .went .pool) (step .memory) 0 t i is e))
-        go (To t) g = after m (step .memory) _ (down-out is guests (step .went .pool) (step .memory) 0 t i e g k n) one
+            → Kept m (onWay w (end (step .result .pool) Bad (step .memory)) (end (step .result .pool) Bad (step .memory)) (λ t. downOf a guests (step .result .pool) (step .memory) 0 t i is e))
+        go (To t) g = after m (step .memory) _ (down-out is guests (step .result .pool) (step .memory) 0 t i e g k n) one
         go Not g = one
         go Bad g = one
 
@@ -214,16 +216,16 @@ module _ (a : Area) where
     unfolding releaseOf
     release-out zero stays p m f h = shut-out stays p m
     release-out (suc k) stays p m f h =
-        go (step .went .way) (unhang-good a p m f) (λ t l. release-out k stays (step .went .pool) (step .memory) t l)
+        go (step .result .way) (unhang-good a p m f) (λ t l. release-out k stays (step .result .pool) (step .memory) t l)
       where
-        step : End
+        step : After Went
         step = unhangOf a p m f
 
         one : Kept m step
         one = unhang-out p m f h
 
-        go : (w : Way) → AreaGood a w → ((t : ℕ) → In t → Kept (step .memory) (releaseOf a stays (step .went .pool) (step .memory) k t))
-            → Kept m (onWay w (end (step .went .pool) (To f) (step .memory)) (end (step .went .pool) Bad (step .memory)) (λ t. releaseOf a stays (step .went .pool) (step .memory) k t))
+        go : (w : Way) → AreaGood a w → ((t : ℕ) → In t → Kept (step .memory) (releaseOf a stays (step .result .pool) (step .memory) k t))
+            → Kept m (onWay w (end (step .result .pool) (To f) (step .memory)) (end (step .result .pool) Bad (step .memory)) (λ t. releaseOf a stays (step .result .pool) (step .memory) k t))
         go (To t) g next = after m (step .memory) _ (next t g) one
         go Not g next = one
         go Bad g next = one

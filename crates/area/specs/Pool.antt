@@ -12,6 +12,7 @@ use Rattle.area.specs.declared.Went.{Went}
 use Rattle.area.specs.declared.Way.{Way}
 use Rattle.area.specs.declared.Way.the-variants.{To, Not, Bad}
 use Rattle.area.specs.Header.{insideOf}
+use Rattle.words.specs.After.{After, yields}
 
 -- the entry, or the link, that names a frame
 unfoldable pub link : ℕ → ℕ
@@ -27,16 +28,9 @@ onWay (To f) x y next = next f
 onWay Not x y next = x
 onWay Bad x y next = y
 
--- everything that a step leaves
-pub record End : Type 0 where
-  pub went : Went
-  pub memory : List ℕ
-
-abbrev pub ends : Went → List ℕ → End
-ends w m = record { went = w; memory = m }
-
-abbrev pub end : Pool → Way → List ℕ → End
-end p d m = ends (record { pool = p; way = d }) m
+-- what a step leaves
+abbrev pub end : Pool → Way → List ℕ → After Went
+end p d m = yields (record { pool = p; way = d }) m
 
 abbrev pub poolOf : ℕ → ℕ → ℕ → Pool
 poolOf n l u = record { fresh = n; free = l; used = u }
@@ -46,18 +40,18 @@ unfoldable pub noneOf : Pool
 noneOf = poolOf 0 0 0
 
 -- the next frame that was never handed out
-unfoldable pub freshOf : Area → Pool → List ℕ → End
+unfoldable pub freshOf : Area → Pool → List ℕ → After Went
 freshOf a p m =
     cond (ltb (p .fresh) (a .size))
     (end (poolOf (p .fresh + 1) (p .free) (p .used + 1)) (To (a .base + p .fresh)) (zeroed m ((a .base + p .fresh) * 512) 512))
     (end p Bad m)
 
 -- the first of the freed frames, whose word 0 links to the next
-unfoldable pub freedOf : Pool → List ℕ → ℕ → End
+unfoldable pub freedOf : Pool → List ℕ → ℕ → After Went
 freedOf p m f = end (poolOf (p .fresh) (wordIn m f 0) (p .used + 1)) (To f) (zeroed m (f * 512) 512)
 
 -- a frame of zeros; Not if all are in use, Bad if the list of freed frames leads out of the area
-unfoldable pub takeOf : Area → Pool → List ℕ → End
+unfoldable pub takeOf : Area → Pool → List ℕ → After Went
 takeOf a p m =
     cond (ltb (p .used) (a .size))
     (onWay (hopOf (a .base) (a .size) (p .free)) (freshOf a p m) (end p Bad m) (freedOf p m))

@@ -11,11 +11,13 @@ use Rattle.area.specs.declared.Pool.{Pool}
 use Rattle.area.specs.declared.Way.{Way}
 use Rattle.area.specs.declared.Way.the-variants.{To, Not, Bad}
 use Rattle.area.specs.Header.{entryIn, putOf, parentOf, slotOf, insideOf, bareOf}
-use Rattle.area.specs.Pool.{hopOf, onWay, End, end, noneOf, giveOf, backOf}
+use Rattle.area.specs.Pool.{hopOf, onWay, end, noneOf, giveOf, backOf}
 use Rattle.area.specs.Tree.{topOf}
+use Rattle.words.specs.After.{After}
+use Rattle.area.specs.declared.Went.{Went}
 
 -- an empty table is taken off the table above and given back: To names the table above; Not, the table is not empty
-unfoldable pub unhangOf : Area → Pool → List ℕ → ℕ → End
+unfoldable pub unhangOf : Area → Pool → List ℕ → ℕ → After Went
 unhangOf a p m f =
     cond (bareOf m f 512)
     (cond (insideOf (a .base) (a .size) (parentOf m f))
@@ -24,18 +26,18 @@ unhangOf a p m f =
     (end p Not m)
 
 -- the top table goes too if it is empty, unless it stays; and with it everything
-unfoldable pub shutOf : Area → Bool → Pool → List ℕ → End
+unfoldable pub shutOf : Area → Bool → Pool → List ℕ → After Went
 shutOf a stays p m =
     cond stays (end p (To (a .base)) m)
     (cond (bareOf m (a .base) 512) (end noneOf (To (a .base)) (setIn m (a .base) 1 0)) (end p (To (a .base)) m))
 
 -- table f and those above it, k of them below the top one, as far as they are empty
-unfoldable pub releaseOf : Area → Bool → Pool → List ℕ → ℕ → ℕ → End
+unfoldable pub releaseOf : Area → Bool → Pool → List ℕ → ℕ → ℕ → After Went
 releaseOf a stays p m zero f = shutOf a stays p m
 releaseOf a stays p m (suc k) f =
     let t = unhangOf a p m f in
-    onWay (t .went .way) (end (t .went .pool) (To f) (t .memory)) (end (t .went .pool) Bad (t .memory))
-    (λ h. releaseOf a stays (t .went .pool) (t .memory) k h)
+    onWay (t .result .way) (end (t .result .pool) (To f) (t .memory)) (end (t .result .pool) Bad (t .memory))
+    (λ h. releaseOf a stays (t .result .pool) (t .memory) k h)
 
 -- the table that holds the last entry of the path i ∷ is, on from the entry e
 unfoldable pub lastOf : ℕ → ℕ → List ℕ → ℕ → ℕ → List ℕ → Way
@@ -48,11 +50,11 @@ lastIndex i [] = i
 lastIndex i (j ∷ is) = lastIndex j is
 
 -- the entry at index i of table f, which has k tables above it, is cleared
-unfoldable pub clearOf : Area → Bool → Pool → List ℕ → ℕ → ℕ → ℕ → End
+unfoldable pub clearOf : Area → Bool → Pool → List ℕ → ℕ → ℕ → ℕ → After Went
 clearOf a stays p m k f i = cond (present (entryIn m f i)) (releaseOf a stays p (putOf m f i 0) k f) (end p Not m)
 
 -- a path is removed; Not, and nothing changed, if there is none
-unfoldable pub removeOf : Area → Bool → Pool → List ℕ → List ℕ → End
+unfoldable pub removeOf : Area → Bool → Pool → List ℕ → List ℕ → After Went
 removeOf a stays p m [] = end p Not m
 removeOf a stays p m (i ∷ is) =
     onWay (lastOf (a .base) (a .size) m (topOf (a .base) (p .fresh)) i is) (end p Not m) (end p Bad m)

@@ -12,7 +12,9 @@ use Rattle.area.specs.declared.Way.the-variants.{To, Not, Bad}
 use Rattle.area.specs.declared.Look.{Look}
 use Rattle.area.specs.declared.Look.the-variants.{Seen, Broken}
 use Rattle.area.specs.Header.{entryIn, putOf, headOf}
-use Rattle.area.specs.Pool.{link, hopOf, onWay, End, ends, end, takeOf}
+use Rattle.area.specs.Pool.{link, hopOf, onWay, end, takeOf}
+use Rattle.words.specs.After.{After, yields}
+use Rattle.area.specs.declared.Went.{Went}
 
 -- the entry of the top table, which stands in the area's first frame once a frame is handed out
 unfoldable pub topOf : ℕ → ℕ → ℕ
@@ -32,53 +34,53 @@ unfoldable pub roomOf : Area → Pool → List ℕ → List ℕ → Way
 roomOf a p m is = roomBy a p (length is) (lookOf (a .base) (a .size) m (topOf (a .base) (p .fresh)) is 0)
 
 -- the frame that was handed out becomes a table
-abbrev pub headed : End → Way → ℕ → ℕ → ℕ → ℕ → End
-headed t (To f) guest level parent slot = ends (t .went) (headOf (t .memory) f guest level parent slot)
+abbrev pub headed : After Went → Way → ℕ → ℕ → ℕ → ℕ → After Went
+headed t (To f) guest level parent slot = yields (t .result) (headOf (t .memory) f guest level parent slot)
 headed t Not guest level parent slot = t
 headed t Bad guest level parent slot = t
 
 -- a table is handed out, with its header
-unfoldable pub tableOf : Area → Pool → List ℕ → ℕ → ℕ → ℕ → ℕ → End
+unfoldable pub tableOf : Area → Pool → List ℕ → ℕ → ℕ → ℕ → ℕ → After Went
 tableOf a p m guest level parent slot =
     let t = takeOf a p m in
-    headed t (t .went .way) guest level parent slot
+    headed t (t .result .way) guest level parent slot
 
 -- the top table, handed out if there is none
-unfoldable pub enterOf : Area → Pool → List ℕ → ℕ → End
+unfoldable pub enterOf : Area → Pool → List ℕ → ℕ → After Went
 enterOf a p m guest = cond (eqb (p .fresh) 0) (tableOf a p m guest (a .levels) 0 0) (end p (To (a .base)) m)
 
-abbrev pub hung : End → Way → ℕ → ℕ → End
-hung t (To h) f i = ends (t .went) (putOf (t .memory) f i (link h))
+abbrev pub hung : After Went → Way → ℕ → ℕ → After Went
+hung t (To h) f i = yields (t .result) (putOf (t .memory) f i (link h))
 hung t Not f i = t
 hung t Bad f i = t
 
 -- a table is handed out and its entry put at index i of table f
-unfoldable pub hangOf : Area → Pool → List ℕ → ℕ → ℕ → ℕ → ℕ → End
+unfoldable pub hangOf : Area → Pool → List ℕ → ℕ → ℕ → ℕ → ℕ → After Went
 hangOf a p m guest level f i =
     let t = tableOf a p m guest level f i in
-    hung t (t .went .way) f i
+    hung t (t .result .way) f i
 
 -- the table below, hung there if there is none
-unfoldable pub descendOf : Area → Pool → List ℕ → ℕ → ℕ → ℕ → ℕ → End
+unfoldable pub descendOf : Area → Pool → List ℕ → ℕ → ℕ → ℕ → ℕ → After Went
 descendOf a p m guest level f i =
     onWay (hopOf (a .base) (a .size) (entryIn m f i)) (hangOf a p m guest level f i) (end p Bad m) (λ h. end p (To h) m)
 
 -- on with the table that a step leads to; where there is none, though there was room for all, the memory is damaged
-abbrev pub onward : End → (Pool → List ℕ → ℕ → End) → End
+abbrev pub onward : After Went → (Pool → List ℕ → ℕ → After Went) → After Went
 onward t next =
-    onWay (t .went .way) (end (t .went .pool) Bad (t .memory)) (end (t .went .pool) Bad (t .memory)) (next (t .went .pool) (t .memory))
+    onWay (t .result .way) (end (t .result .pool) Bad (t .memory)) (end (t .result .pool) Bad (t .memory)) (next (t .result .pool) (t .memory))
 
 -- in table f of depth d at index i, and then by the indexes that are left; guests are the host frames by depth
-unfoldable pub downOf : Area → List ℕ → Pool → List ℕ → ℕ → ℕ → ℕ → List ℕ → ℕ → End
+unfoldable pub downOf : Area → List ℕ → Pool → List ℕ → ℕ → ℕ → ℕ → List ℕ → ℕ → After Went
 downOf a guests p m d f i [] e = end p (To f) (putOf m f i e)
 downOf a guests p m d f i (j ∷ is) e =
     onward (descendOf a p m (getD guests (d + 1) 0) (a .levels - (d + 1)) f i) (λ q n h. downOf a guests q n (d + 1) h j is e)
 
 -- the tables that are missing are handed out, and the entry put at the end of the path i ∷ is
-unfoldable pub placeOf : Area → List ℕ → Pool → List ℕ → ℕ → List ℕ → ℕ → End
+unfoldable pub placeOf : Area → List ℕ → Pool → List ℕ → ℕ → List ℕ → ℕ → After Went
 placeOf a guests p m i is e = onward (enterOf a p m (getD guests 0 0)) (λ q n f. downOf a guests q n 0 f i is e)
 
 -- the entry of a path is set; Not, and nothing changed, if its tables find no room
-unfoldable pub insertOf : Area → List ℕ → Pool → List ℕ → List ℕ → ℕ → End
+unfoldable pub insertOf : Area → List ℕ → Pool → List ℕ → List ℕ → ℕ → After Went
 insertOf a guests p m [] e = end p Not m
 insertOf a guests p m (i ∷ is) e = onWay (roomOf a p m (i ∷ is)) (end p Not m) (end p Bad m) (λ n. placeOf a guests p m i is e)

@@ -4,9 +4,10 @@ ghost use Prim.Native.Nat.{_+_, _-_, _<_, _≤_};
 ghost use lib.Dec.{leb};
 ghost use Rattle.spec.specs.Entry.{index, indexes};
 ghost use Rattle.area.specs.Header.{entryIn, highOf, putOf, guestOf, levelOf, parentOf, slotOf, headOf, insideOf, bareOf};
-ghost use Rattle.area.specs.Pool.{ends, hopOf, noneOf, freshOf, freedOf, takeOf, giveOf, backOf};
+ghost use Rattle.area.specs.Pool.{hopOf, noneOf, freshOf, freedOf, takeOf, giveOf, backOf};
 ghost use Rattle.area.specs.Tree.{topOf, lookOf, roomOf, tableOf, enterOf, hangOf, descendOf, downOf, placeOf, insertOf};
 ghost use Rattle.area.specs.Remove.{unhangOf, shutOf, releaseOf, lastOf, clearOf, removeOf};
+ghost use Rattle.words.specs.After.{yields};
 
 // The area: its first frame, the number of its frames, the levels of the tree. The top table is the first frame.
 pub struct Area {
@@ -180,7 +181,7 @@ pub fn no_tables() -> Pool
 // The next frame that was never handed out.
 pub fn take_fresh(a: Area, p: Pool, mem: &mut [u64]) -> Went
     requires { ⌜ (a .base + a .size < 1099511627776) × (p .used < a .size) ⌝ }
-    ensures { λ r. ⌜ ends r (now (mem .exit)) ≡ freshOf a p (now (mem .entry)) ⌝ }
+    ensures { λ r. ⌜ yields r (now (mem .exit)) ≡ freshOf a p (now (mem .entry)) ⌝ }
 {
     if p.fresh < a.size {
         let frame = a.base + p.fresh;
@@ -204,7 +205,7 @@ pub fn take_fresh(a: Area, p: Pool, mem: &mut [u64]) -> Went
 // The first of the freed frames.
 pub fn take_freed(p: Pool, mem: &mut [u64], f: u64) -> Went
     requires { ⌜ (f < 1099511627776) × (p .used < 1099511627776) ⌝ }
-    ensures { λ r. ⌜ ends r (now (mem .exit)) ≡ freedOf p (now (mem .entry)) f ⌝ }
+    ensures { λ r. ⌜ yields r (now (mem .exit)) ≡ freedOf p (now (mem .entry)) f ⌝ }
 {
     let next = words::word_in(mem, f, 0);
     words::zero_frame(mem, f);
@@ -221,7 +222,7 @@ pub fn take_freed(p: Pool, mem: &mut [u64], f: u64) -> Went
 // A frame of zeros; Not if all are in use, Bad if the list of freed frames leads out of the area.
 pub fn take_frame(a: Area, p: Pool, mem: &mut [u64]) -> Went
     requires { ⌜ a .base + a .size < 1099511627776 ⌝ }
-    ensures { λ r. ⌜ ends r (now (mem .exit)) ≡ takeOf a p (now (mem .entry)) ⌝ }
+    ensures { λ r. ⌜ yields r (now (mem .exit)) ≡ takeOf a p (now (mem .entry)) ⌝ }
 {
     if p.used < a.size {
         match hop(a.base, a.size, p.free) {
@@ -353,7 +354,7 @@ pub fn new_table(
     slot: u64,
 ) -> Went
     requires { ⌜ a .base + a .size < 1099511627776 ⌝ }
-    ensures { λ r. ⌜ ends r (now (mem .exit)) ≡ tableOf a p (now (mem .entry)) guest level parent slot ⌝ }
+    ensures { λ r. ⌜ yields r (now (mem .exit)) ≡ tableOf a p (now (mem .entry)) guest level parent slot ⌝ }
 {
     let went = take_frame(a, p, mem);
     let way = went.way;
@@ -370,7 +371,7 @@ pub fn new_table(
 // The top table, handed out if there is none.
 pub fn enter(a: Area, p: Pool, mem: &mut [u64], guest: u64) -> Went
     requires { ⌜ a .base + a .size < 1099511627776 ⌝ }
-    ensures { λ r. ⌜ ends r (now (mem .exit)) ≡ enterOf a p (now (mem .entry)) guest ⌝ }
+    ensures { λ r. ⌜ yields r (now (mem .exit)) ≡ enterOf a p (now (mem .entry)) guest ⌝ }
 {
     if p.fresh == 0 {
         new_table(a, p, mem, guest, a.levels, 0, 0)
@@ -385,7 +386,7 @@ pub fn enter(a: Area, p: Pool, mem: &mut [u64], guest: u64) -> Went
 // A table is handed out and its entry put at index i of table f.
 pub fn hang(a: Area, p: Pool, mem: &mut [u64], guest: u64, level: u64, f: u64, i: u64) -> Went
     requires { ⌜ (a .base + a .size < 1099511627776) × (f < 1099511627776) × (i < 512) ⌝ }
-    ensures { λ r. ⌜ ends r (now (mem .exit)) ≡ hangOf a p (now (mem .entry)) guest level f i ⌝ }
+    ensures { λ r. ⌜ yields r (now (mem .exit)) ≡ hangOf a p (now (mem .entry)) guest level f i ⌝ }
 {
     let went = new_table(a, p, mem, guest, level, f, i);
     let way = went.way;
@@ -402,7 +403,7 @@ pub fn hang(a: Area, p: Pool, mem: &mut [u64], guest: u64, level: u64, f: u64, i
 // The table below, hung there if there is none.
 pub fn descend(a: Area, p: Pool, mem: &mut [u64], guest: u64, level: u64, f: u64, i: u64) -> Went
     requires { ⌜ (a .base + a .size < 1099511627776) × (f < 1099511627776) × (i < 512) ⌝ }
-    ensures { λ r. ⌜ ends r (now (mem .exit)) ≡ descendOf a p (now (mem .entry)) guest level f i ⌝ }
+    ensures { λ r. ⌜ yields r (now (mem .exit)) ≡ descendOf a p (now (mem .entry)) guest level f i ⌝ }
 {
     match hop(a.base, a.size, entry_at(mem, f, i)) {
         Way::To(h) => Went {
@@ -429,7 +430,7 @@ pub fn down(
     e: u64,
 ) -> Went
     requires { ⌜ (a .base + a .size < 1099511627776) × (f < 1099511627776) × (1 ≤ k) × (k ≤ 7) × (k ≤ a .levels) ⌝ }
-    ensures { λ r. ⌜ ends r (now (mem .exit)) ≡ downOf a (now (guests .entry)) p (now (mem .entry)) 0 f (index (k - 1) g) (indexes (k - 1) g) e ⌝ }
+    ensures { λ r. ⌜ yields r (now (mem .exit)) ≡ downOf a (now (guests .entry)) p (now (mem .entry)) 0 f (index (k - 1) g) (indexes (k - 1) g) e ⌝ }
 {
     let mut cur = p;
     let mut t = f;
@@ -470,7 +471,7 @@ pub fn down(
 // The top table is handed out if there is none, then the path is filled from it down.
 pub fn place(a: Area, guests: &[u64], p: Pool, mem: &mut [u64], g: u64, k: u64, e: u64) -> Went
     requires { ⌜ (a .base + a .size < 1099511627776) × (1 ≤ k) × (k ≤ 7) × (k ≤ a .levels) ⌝ }
-    ensures { λ r. ⌜ ends r (now (mem .exit)) ≡ placeOf a (now (guests .entry)) p (now (mem .entry)) (index (k - 1) g) (indexes (k - 1) g) e ⌝ }
+    ensures { λ r. ⌜ yields r (now (mem .exit)) ≡ placeOf a (now (guests .entry)) p (now (mem .entry)) (index (k - 1) g) (indexes (k - 1) g) e ⌝ }
 {
     let guest = words::word_at(guests, 0);
     let went = enter(a, p, mem, guest);
@@ -493,7 +494,7 @@ pub fn place(a: Area, guests: &[u64], p: Pool, mem: &mut [u64], g: u64, k: u64, 
 // tables' host frames from the top table down. Not, and nothing changed, if they find no room.
 pub fn insert(a: Area, guests: &[u64], p: Pool, mem: &mut [u64], g: u64, k: u64, e: u64) -> Went
     requires { ⌜ (a .base + a .size < 1099511627776) × (1 ≤ k) × (k ≤ 7) × (k ≤ a .levels) ⌝ }
-    ensures { λ r. ⌜ ends r (now (mem .exit)) ≡ insertOf a (now (guests .entry)) p (now (mem .entry)) (indexes k g) e ⌝ }
+    ensures { λ r. ⌜ yields r (now (mem .exit)) ≡ insertOf a (now (guests .entry)) p (now (mem .entry)) (indexes k g) e ⌝ }
 {
     match room(a, p, mem, g, k) {
         Way::To(n) => place(a, guests, p, mem, g, k, e),
@@ -513,7 +514,7 @@ pub fn insert(a: Area, guests: &[u64], p: Pool, mem: &mut [u64], g: u64, k: u64,
 // An empty table is taken off the table above and given back; Not if it is not empty.
 pub fn unhang(a: Area, p: Pool, mem: &mut [u64], f: u64) -> Went
     requires { ⌜ f < 1099511627776 ⌝ }
-    ensures { λ r. ⌜ ends r (now (mem .exit)) ≡ unhangOf a p (now (mem .entry)) f ⌝ }
+    ensures { λ r. ⌜ yields r (now (mem .exit)) ≡ unhangOf a p (now (mem .entry)) f ⌝ }
 {
     if bare(mem, f) {
         let above = parent(mem, f);
@@ -542,7 +543,7 @@ pub fn unhang(a: Area, p: Pool, mem: &mut [u64], f: u64) -> Went
 // The top table goes too if it is empty, unless it stays; and with it everything.
 pub fn shut(a: Area, stays: bool, p: Pool, mem: &mut [u64]) -> Went
     requires { ⌜ a .base + a .size < 1099511627776 ⌝ }
-    ensures { λ r. ⌜ ends r (now (mem .exit)) ≡ shutOf a stays p (now (mem .entry)) ⌝ }
+    ensures { λ r. ⌜ yields r (now (mem .exit)) ≡ shutOf a stays p (now (mem .entry)) ⌝ }
 {
     if stays {
         return Went {
@@ -567,7 +568,7 @@ pub fn shut(a: Area, stays: bool, p: Pool, mem: &mut [u64]) -> Went
 // Table f, which has k tables above it, and these are given back as far as they are empty.
 pub fn release(a: Area, stays: bool, p: Pool, mem: &mut [u64], k: u64, f: u64) -> Went
     requires { ⌜ (f < 1099511627776) × (a .base + a .size < 1099511627776) ⌝ }
-    ensures { λ r. ⌜ ends r (now (mem .exit)) ≡ releaseOf a stays p (now (mem .entry)) k f ⌝ }
+    ensures { λ r. ⌜ yields r (now (mem .exit)) ≡ releaseOf a stays p (now (mem .entry)) k f ⌝ }
 {
     let mut cur = p;
     let mut t = f;
@@ -625,7 +626,7 @@ pub fn last_table(base: u64, size: u64, e: u64, mem: &[u64], g: u64, k: u64) -> 
 // The entry at index i of table f, which has k tables above it, is cleared; Not if there is none.
 pub fn clear(a: Area, stays: bool, p: Pool, mem: &mut [u64], k: u64, f: u64, i: u64) -> Went
     requires { ⌜ (f < 1099511627776) × (a .base + a .size < 1099511627776) × (i < 512) ⌝ }
-    ensures { λ r. ⌜ ends r (now (mem .exit)) ≡ clearOf a stays p (now (mem .entry)) k f i ⌝ }
+    ensures { λ r. ⌜ yields r (now (mem .exit)) ≡ clearOf a stays p (now (mem .entry)) k f i ⌝ }
 {
     if entry::present(entry_at(mem, f, i)) {
         put_entry(mem, f, i, 0);
@@ -641,7 +642,7 @@ pub fn clear(a: Area, stays: bool, p: Pool, mem: &mut [u64], k: u64, f: u64, i: 
 // The path of the k low indexes of g is removed; Not if there is none, Bad if an entry or a link is damaged.
 pub fn remove(a: Area, stays: bool, p: Pool, mem: &mut [u64], g: u64, k: u64) -> Went
     requires { ⌜ (a .base + a .size < 1099511627776) × (1 ≤ k) × (k ≤ 7) ⌝ }
-    ensures { λ r. ⌜ ends r (now (mem .exit)) ≡ removeOf a stays p (now (mem .entry)) (indexes k g) ⌝ }
+    ensures { λ r. ⌜ yields r (now (mem .exit)) ≡ removeOf a stays p (now (mem .entry)) (indexes k g) ⌝ }
 {
     match last_table(a.base, a.size, top(a.base, p.fresh), mem, g, k) {
         Way::To(f) => clear(a, stays, p, mem, k - 1, f, index_at(g, 0)),

@@ -37,18 +37,18 @@ use Rattle.record.specs.Open.{refusalOf}
 use Rattle.shadow.specs.declared.Cut.the-variants.{Word}
 use Rattle.shadow.specs.Held.{shadowArea}
 use Rattle.shadow.specs.Cut.{watchedOf}
-use Rattle.shadow.specs.Drop.{Outcome, scanOf}
+use Rattle.shadow.specs.Drop.{scanOf}
 use Rattle.drops.proofs.Scan.{Dropped}
 use Rattle.drops.proofs.Held.{leafAt}
 use Rattle.drops.proofs.Watch.{watched-is}
 use Rattle.drops.proofs.Drops.{drop-word}
 use Rattle.drops.proofs.Valid.{entryOf}
-use Rattle.request.specs.Translate.{Out, translation, exitBy, servesOf, foundOf}
+use Rattle.request.specs.Translate.{translation, exitBy, servesOf, foundOf}
 use Rattle.request.specs.Store as put
-use Rattle.request.specs.Store.{Stored, storeOf}
+use Rattle.request.specs.Store.{storeOf}
 use Rattle.request.proofs.Fits.{ArrivedIn}
 use Rattle.request.proofs.Leaves.{translate-leaves, store-leaves}
-use Rattle.unit.specs.Calls.{Ended, ended, refused, withHeld, depthAt, addressOk, translatedOf, loadBy, loadOf, writtenBy, storeBy, storeCall, openCall}
+use Rattle.unit.specs.Calls.{ended, refused, withHeld, depthAt, addressOk, translatedOf, loadBy, loadOf, writtenBy, storeBy, storeCall, openCall}
 use Rattle.claims.specs.Run.{guestArea, unitAfter}
 use Rattle.claims.specs.Counted.{SameWords, SameStore, countedOf, touchedBy, touchedOf, HeldOrPlain, References, Touches, Refuses, SameTables}
 use Rattle.claims.proofs.Invariant.{longer, frames, Inv}
@@ -60,11 +60,16 @@ use Rattle.claims.proofs.Translates.{serves-is}
 use Rattle.claims.proofs.Demands.{after-run}
 use Rattle.claims.proofs.WordsRead as read
 use Rattle.claims.proofs.WordsRead.{Reaches, held, plain, alike, Reads}
+use Rattle.words.specs.After.{After}
+use Rattle.request.specs.declared.Translated.{Translated}
+use Rattle.unit.specs.declared.Reply.{Reply}
+use Rattle.request.specs.declared.Put.{Put}
+use Rattle.shadow.specs.declared.Left.{Left}
 
-written-counts : (r : Record) (top n e : ℕ) (x : Stored) (k : ℕ) → n ≡ k → References k (writtenBy r top n e x .reply .answer)
-written-counts r top n e x k q = go (x .put .ok)
+written-counts : (r : Record) (top n e : ℕ) (x : After Put) (k : ℕ) → n ≡ k → References k (writtenBy r top n e x .result .answer)
+written-counts r top n e x k q = go (x .result .ok)
   where
-    go : (b : Bool) → References k (cond b (ended (withHeld r (x .put .pool) top) (answer.Done n (e + x .put .exits)) (x .memory)) (refused r 11 (x .memory)) .reply .answer)
+    go : (b : Bool) → References k (cond b (ended (withHeld r (x .result .pool) top) (answer.Done n (e + x .result .exits)) (x .memory)) (refused r 11 (x .memory)) .result .answer)
     go true = q
     go false = tt
 
@@ -114,55 +119,55 @@ module _ (s : State) (r : Record) (m : List ℕ) (inv : Inv s r m) (a : ℕ) whe
   same-unit = refl
 
   -- what a load says through such a translation
-  load-says : (n : List ℕ) (x : Walked) → SameWords m n (touchedBy a x) → loadBy r a (read.left r false a x n) x ≡ ended r (loadBy r a (read.left r false a x m) x .reply .answer) n
+  load-says : (n : List ℕ) (x : Walked) → SameWords m n (touchedBy a x) → loadBy r a (read.left r false a x n) x ≡ ended r (loadBy r a (read.left r false a x m) x .result .answer) n
   load-says n (walked.Arrived t w k) h = ap₂ (λ u v. ended u (answer.Value v k 0) n) same-unit (h .0)
   load-says n (walked.Faulted y k) h = ap (λ u. ended u (answer.Faulted y k (exitBy (walked.Faulted y k))) n) same-unit
   load-says n walked.Damaged h = refl
 
   -- a memory of the same length is not refused with 3
   load-fits : (n : List ℕ) → length n ≡ length m
-      → loadOf r n a ≡ cond (addressOk r a) (loadBy r a (translatedOf r n false a) (translatedOf r n false a .translated .walked)) (refused r 4 n)
+      → loadOf r n a ≡ cond (addressOk r a) (loadBy r a (translatedOf r n false a) (translatedOf r n false a .result .walked)) (refused r 4 n)
   unfolding loadOf
-  load-fits n e = ap (λ b. cond b (cond (addressOk r a) (loadBy r a (translatedOf r n false a) (translatedOf r n false a .translated .walked)) (refused r 4 n)) (refused r 3 n)) (ap (fitsOf r) e ∙ inv .fits)
+  load-fits n e = ap (λ b. cond b (cond (addressOk r a) (loadBy r a (translatedOf r n false a) (translatedOf r n false a .result .walked)) (refused r 4 n)) (refused r 3 n)) (ap (fitsOf r) e ∙ inv .fits)
 
   -- "its value or fault, its references and its exits stay the same", whatever memory n of that length holds elsewhere; and the
   -- record and the memory stay as they are
   pub words-counted-load : HeldOrPlain c (s .book) false a → (n : List ℕ) → length n ≡ length m → SameWords m n (countedOf r m false a) → SameWords m n (touchedOf r m false a)
-      → loadOf r n a ≡ ended r (loadOf r m a .reply .answer) n
+      → loadOf r n a ≡ ended r (loadOf r m a .result .answer) n
   unfolding touchedOf
   words-counted-load h n e counted touched =
-      load-fits n e ∙ go (addressOk r a) refl ∙ sym (ap (λ (x : Ended). ended r (x .reply .answer) n) (load-fits m refl))
+      load-fits n e ∙ go (addressOk r a) refl ∙ sym (ap (λ (x : After Reply). ended r (x .result .answer) n) (load-fits m refl))
     where
-      said : List ℕ → Ended
-      said k = loadBy r a (translatedOf r k false a) (translatedOf r k false a .translated .walked)
+      said : List ℕ → After Reply
+      said k = loadBy r a (translatedOf r k false a) (translatedOf r k false a .result .walked)
 
-      go : (b : Bool) → addressOk r a ≡ b → cond b (said n) (refused r 4 n) ≡ ended r (cond b (said m) (refused r 4 m) .reply .answer) n
+      go : (b : Bool) → addressOk r a ≡ b → cond b (said n) (refused r 4 n) ≡ ended r (cond b (said m) (refused r 4 m) .result .answer) n
       go false q = refl
       go true q =
           let l = alike r false a m n (reaches false q h) counted in
-          ap (λ (o : Out). loadBy r a o (o .translated .walked)) (l .altered)
-          ∙ load-says n (l .walked) (subst (λ (o : Out). SameWords m n (touchedBy a (o .translated .walked))) (l .before) touched)
-          ∙ sym (ap (λ (o : Out). ended r (loadBy r a o (o .translated .walked) .reply .answer) n) (l .before))
+          ap (λ (o : After Translated). loadBy r a o (o .result .walked)) (l .altered)
+          ∙ load-says n (l .walked) (subst (λ (o : After Translated). SameWords m n (touchedBy a (o .result .walked))) (l .before) touched)
+          ∙ sym (ap (λ (o : After Translated). ended r (loadBy r a o (o .result .walked) .result .answer) n) (l .before))
 
   -- ---- the words counted are as many as the references
 
-  counts : (st : Bool) → HeldOrPlain c (s .book) st a → (by : Out → Walked → Ended)
-      → ((x : Walked) → Reads (length (countedOf r m st a)) x → References (length (countedOf r m st a)) (by (read.left r st a x m) x .reply .answer))
-      → References (length (countedOf r m st a)) (cond (addressOk r a) (by (translatedOf r m st a) (translatedOf r m st a .translated .walked)) (refused r 4 m) .reply .answer)
+  counts : (st : Bool) → HeldOrPlain c (s .book) st a → (by : After Translated → Walked → After Reply)
+      → ((x : Walked) → Reads (length (countedOf r m st a)) x → References (length (countedOf r m st a)) (by (read.left r st a x m) x .result .answer))
+      → References (length (countedOf r m st a)) (cond (addressOk r a) (by (translatedOf r m st a) (translatedOf r m st a .result .walked)) (refused r 4 m) .result .answer)
   counts st h by said = go (addressOk r a) refl
     where
       go : (b : Bool) → addressOk r a ≡ b
-          → References (length (countedOf r m st a)) (cond b (by (translatedOf r m st a) (translatedOf r m st a .translated .walked)) (refused r 4 m) .reply .answer)
+          → References (length (countedOf r m st a)) (cond b (by (translatedOf r m st a) (translatedOf r m st a .result .walked)) (refused r 4 m) .result .answer)
       go false q = tt
       go true q =
           let l = alike r st a m m (reaches st q h) (all-any _ (countedOf r m st a) (λ x. refl)) in
-          subst (λ (o : Out). References (length (countedOf r m st a)) (by o (o .translated .walked) .reply .answer)) (sym (l .before)) (said (l .walked) (l .count))
+          subst (λ (o : After Translated). References (length (countedOf r m st a)) (by o (o .result .walked) .result .answer)) (sym (l .before)) (said (l .walked) (l .count))
 
-  pub load-counted : HeldOrPlain c (s .book) false a → References (length (countedOf r m false a)) (loadOf r m a .reply .answer)
+  pub load-counted : HeldOrPlain c (s .book) false a → References (length (countedOf r m false a)) (loadOf r m a .result .answer)
   load-counted h =
-      subst (λ (x : Ended). References (length (countedOf r m false a)) (x .reply .answer)) (sym (load-fits m refl)) (counts false h (loadBy r a) said)
+      subst (λ (x : After Reply). References (length (countedOf r m false a)) (x .result .answer)) (sym (load-fits m refl)) (counts false h (loadBy r a) said)
     where
-      said : (x : Walked) → Reads (length (countedOf r m false a)) x → References (length (countedOf r m false a)) (loadBy r a (read.left r false a x m) x .reply .answer)
+      said : (x : Walked) → Reads (length (countedOf r m false a)) x → References (length (countedOf r m false a)) (loadBy r a (read.left r false a x m) x .result .answer)
       said (walked.Arrived t w k) q = q
       said (walked.Faulted y k) q = q
       said walked.Damaged q = tt
@@ -170,64 +175,64 @@ module _ (s : State) (r : Record) (m : List ℕ) (inv : Inv s r m) (a : ℕ) whe
   -- ---- store
   module _ (v : ℕ) where
     store-fits : (n : List ℕ) → length n ≡ length m
-        → storeCall r n a v ≡ cond (addressOk r a) (storeBy r a v (translatedOf r n true a) (translatedOf r n true a .translated .walked)) (refused r 4 n)
+        → storeCall r n a v ≡ cond (addressOk r a) (storeBy r a v (translatedOf r n true a) (translatedOf r n true a .result .walked)) (refused r 4 n)
     unfolding storeCall
-    store-fits n e = ap (λ b. cond b (cond (addressOk r a) (storeBy r a v (translatedOf r n true a) (translatedOf r n true a .translated .walked)) (refused r 4 n)) (refused r 3 n)) (ap (fitsOf r) e ∙ inv .fits)
+    store-fits n e = ap (λ b. cond b (cond (addressOk r a) (storeBy r a v (translatedOf r n true a) (translatedOf r n true a .result .walked)) (refused r 4 n)) (refused r 3 n)) (ap (fitsOf r) e ∙ inv .fits)
 
-    pub store-counted : HeldOrPlain c (s .book) true a → References (length (countedOf r m true a)) (storeCall r m a v .reply .answer)
+    pub store-counted : HeldOrPlain c (s .book) true a → References (length (countedOf r m true a)) (storeCall r m a v .result .answer)
     store-counted h =
-        subst (λ (x : Ended). References (length (countedOf r m true a)) (x .reply .answer)) (sym (store-fits m refl)) (counts true h (storeBy r a v) said)
+        subst (λ (x : After Reply). References (length (countedOf r m true a)) (x .result .answer)) (sym (store-fits m refl)) (counts true h (storeBy r a v) said)
       where
-        said : (x : Walked) → Reads (length (countedOf r m true a)) x → References (length (countedOf r m true a)) (storeBy r a v (read.left r true a x m) x .reply .answer)
+        said : (x : Walked) → Reads (length (countedOf r m true a)) x → References (length (countedOf r m true a)) (storeBy r a v (read.left r true a x m) x .result .answer)
         said (walked.Arrived t w k) q = written-counts r (r .top) k 0 (storeOf c m (r .shadow) (t .0) (wordOf a) v) (length (countedOf r m true a)) q
         said (walked.Faulted y k) q = q
         said walked.Damaged q = tt
 
     -- what a store to word i of the guest frame t leaves on a memory
     module _ (t : ℕ) (there : InGuestArea c t) (k : ℕ) where
-      abbrev putOn : List ℕ → Stored
+      abbrev putOn : List ℕ → After Put
       putOn n = storeOf c n (r .shadow) t (wordOf a) v
 
-      abbrev leftOn : List ℕ → Ended
+      abbrev leftOn : List ℕ → After Reply
       leftOn n = writtenBy r (r .top) k 0 (putOn n)
 
-      put-area : (n : List ℕ) (b : Bool) → putOn n .put .ok ≡ b → guestArea r (leftOn n .memory) ≡ guestArea r (cond b (setIn n t (wordOf a) v) n)
+      put-area : (n : List ℕ) (b : Bool) → putOn n .result .ok ≡ b → guestArea r (leftOn n .memory) ≡ guestArea r (cond b (setIn n t (wordOf a) v) n)
       put-area n b q =
-          ap (λ x. guestArea r (cond x (ended (withHeld r (putOn n .put .pool) (r .top)) (answer.Done k (0 + putOn n .put .exits)) (putOn n .memory)) (refused r 11 (putOn n .memory)) .memory)) q
+          ap (λ x. guestArea r (cond x (ended (withHeld r (putOn n .result .pool) (r .top)) (answer.Done k (0 + putOn n .result .exits)) (putOn n .memory)) (refused r 11 (putOn n .memory)) .memory)) q
           ∙ either b ∙ ap (λ x. guestArea r (cond x (setIn n t (wordOf a) v) n)) q
         where
-          same : guestArea r (putOn n .memory) ≡ guestArea r (cond (putOn n .put .ok) (setIn n t (wordOf a) v) n)
+          same : guestArea r (putOn n .memory) ≡ guestArea r (cond (putOn n .result .ok) (setIn n t (wordOf a) v) n)
           same = shadow-drop c (outside-beside c (store-leaves c n (r .shadow) t (wordOf a) v (found.rules s r m inv .shadow .0) .same))
 
-          either : (x : Bool) → guestArea r (cond x (ended (withHeld r (putOn n .put .pool) (r .top)) (answer.Done k (0 + putOn n .put .exits)) (putOn n .memory)) (refused r 11 (putOn n .memory)) .memory)
-              ≡ guestArea r (cond (putOn n .put .ok) (setIn n t (wordOf a) v) n)
+          either : (x : Bool) → guestArea r (cond x (ended (withHeld r (putOn n .result .pool) (r .top)) (answer.Done k (0 + putOn n .result .exits)) (putOn n .memory)) (refused r 11 (putOn n .memory)) .memory)
+              ≡ guestArea r (cond (putOn n .result .ok) (setIn n t (wordOf a) v) n)
           either true = same
           either false = same
 
-      touches : (n : List ℕ) → putOn n .put .ok ≡ true → Touches r n k (0 + putOn n .put .exits) t (wordOf a) v (leftOn n)
+      touches : (n : List ℕ) → putOn n .result .ok ≡ true → Touches r n k (0 + putOn n .result .exits) t (wordOf a) v (leftOn n)
       touches n q = record {
-        says = ap (λ b. cond b (ended (withHeld r (putOn n .put .pool) (r .top)) (answer.Done k (0 + putOn n .put .exits)) (putOn n .memory)) (refused r 11 (putOn n .memory)) .reply .answer) q;
+        says = ap (λ b. cond b (ended (withHeld r (putOn n .result .pool) (r .top)) (answer.Done k (0 + putOn n .result .exits)) (putOn n .memory)) (refused r 11 (putOn n .memory)) .result .answer) q;
         area = put-area n true q ∙ area-store c n t (wordOf a) v (there .0);
       }
 
-      refuses : (n : List ℕ) → putOn n .put .ok ≡ false → Refuses r n (leftOn n)
+      refuses : (n : List ℕ) → putOn n .result .ok ≡ false → Refuses r n (leftOn n)
       refuses n q = record {
-        says = ap (λ b. cond b (ended (withHeld r (putOn n .put .pool) (r .top)) (answer.Done k (0 + putOn n .put .exits)) (putOn n .memory)) (refused r 11 (putOn n .memory)) .reply .answer) q;
-        unit = ap (λ b. cond b (ended (withHeld r (putOn n .put .pool) (r .top)) (answer.Done k (0 + putOn n .put .exits)) (putOn n .memory)) (refused r 11 (putOn n .memory)) .reply .unit) q;
+        says = ap (λ b. cond b (ended (withHeld r (putOn n .result .pool) (r .top)) (answer.Done k (0 + putOn n .result .exits)) (putOn n .memory)) (refused r 11 (putOn n .memory)) .result .answer) q;
+        unit = ap (λ b. cond b (ended (withHeld r (putOn n .result .pool) (r .top)) (answer.Done k (0 + putOn n .result .exits)) (putOn n .memory)) (refused r 11 (putOn n .memory)) .result .unit) q;
         area = put-area n false q;
       }
 
       either : (n : List ℕ) → ((y : ℕ) × Touches r n k y t (wordOf a) v (leftOn n)) ⊎ Refuses r n (leftOn n)
-      either n = go (putOn n .put .ok) refl
+      either n = go (putOn n .result .ok) refl
         where
-          go : (b : Bool) → putOn n .put .ok ≡ b → ((y : ℕ) × Touches r n k y t (wordOf a) v (leftOn n)) ⊎ Refuses r n (leftOn n)
-          go true q = inl (0 + putOn n .put .exits, touches n q)
+          go : (b : Bool) → putOn n .result .ok ≡ b → ((y : ℕ) × Touches r n k y t (wordOf a) v (leftOn n)) ⊎ Refuses r n (leftOn n)
+          go true q = inl (0 + putOn n .result .exits, touches n q)
           go false q = inr (refuses n q)
 
       -- no shadow word is altered: the tables hold what they held, and no damage is met
-      whole-tables : (n : List ℕ) → length n ≡ length m → SameTables c m n → (putOn n .put .ok ≡ true) × (putOn n .put .exits ≡ one (watched t (longer (s .book .held))))
+      whole-tables : (n : List ℕ) → length n ≡ length m → SameTables c m n → (putOn n .result .ok ≡ true) × (putOn n .result .exits ≡ one (watched t (longer (s .book .held))))
       unfolding storeOf
-      whole-tables n e same = subst (λ b. (putOn n .put .ok ≡ true) × (putOn n .put .exits ≡ one b)) (watched-is tables (found.held-entries s r m inv) t) (go (watchedOf c n (r .shadow .fresh) t))
+      whole-tables n e same = subst (λ b. (putOn n .result .ok ≡ true) × (putOn n .result .exits ≡ one b)) (watched-is tables (found.held-entries s r m inv) t) (go (watchedOf c n (r .shadow .fresh) t))
         where
           tables : Holds (shadowArea c) false (r .shadow) n (leafAt (entryOf c (frames r m)) (longer (s .book .held))) (frames r m)
           tables = holds-memory (inv .shadow) n e (λ f lo hi. same f hi)
@@ -237,64 +242,64 @@ module _ (s : State) (r : Record) (m : List ℕ) (inv : Inv s r m) (a : ℕ) whe
 
           go : (b : Bool)
               → let x = cond b (put.writtenBy (r .shadow) t (wordOf a) v (scanOf c (Word (page t) (wordOf a)) (r .shadow) n)) (put.stored (r .shadow) 0 true (setIn n t (wordOf a) v)) in
-              (x .put .ok ≡ true) × (x .put .exits ≡ one b)
-          go true = subst (λ (o : Outcome). (put.writtenBy (r .shadow) t (wordOf a) v o .put .ok ≡ true) × (put.writtenBy (r .shadow) t (wordOf a) v o .put .exits ≡ 1)) (sym (scanned .done)) (refl, refl)
+              (x .result .ok ≡ true) × (x .result .exits ≡ one b)
+          go true = subst (λ (o : After Left). (put.writtenBy (r .shadow) t (wordOf a) v o .result .ok ≡ true) × (put.writtenBy (r .shadow) t (wordOf a) v o .result .exits ≡ 1)) (sym (scanned .done)) (refl, refl)
           go false = (refl, refl)
 
-      same-touches : (n : List ℕ) → length n ≡ length m → SameTables c m n → Touches r n k (0 + putOn m .put .exits) t (wordOf a) v (leftOn n)
+      same-touches : (n : List ℕ) → length n ≡ length m → SameTables c m n → Touches r n k (0 + putOn m .result .exits) t (wordOf a) v (leftOn n)
       same-touches n e same =
           let there = whole-tables n e same in
           let here = whole-tables m refl (λ f l i q. refl) in
           subst (λ x. Touches r n k (0 + x) t (wordOf a) v (leftOn n)) (there .1 ∙ sym (here .1)) (touches n (there .0))
 
     -- the frame that a granted translation arrives at lies in the guest area
-    arrives : ArrivedIn c (translatedOf r m true a .translated .walked)
+    arrives : ArrivedIn c (translatedOf r m true a .result .walked)
     unfolding translatedOf
     arrives = translate-leaves c (omega (arith, found.rules s r m inv .sizes .shadows)) m true (r .shadow) (found.rules s r m inv .shadow .0) (r .top) (found.rules s r m inv .top) (r .root) a (depthAt r a) .arrived
 
-    pub words-counted-store : HeldOrPlain c (s .book) true a → (k e : ℕ) → storeCall r m a v .reply .answer ≡ answer.Done k e
+    pub words-counted-store : HeldOrPlain c (s .book) true a → (k e : ℕ) → storeCall r m a v .result .answer ≡ answer.Done k e
         → (n : List ℕ) → length n ≡ length m → SameWords m n (countedOf r m true a) → SameStore r m n a v k e
     unfolding touchedOf
     words-counted-store h k e done n long counted = go (addressOk r a) refl
       where
-        said : List ℕ → Ended
-        said x = storeBy r a v (translatedOf r x true a) (translatedOf r x true a .translated .walked)
+        said : List ℕ → After Reply
+        said x = storeBy r a v (translatedOf r x true a) (translatedOf r x true a .result .walked)
 
         by : (x : Walked) → translatedOf r m true a ≡ read.left r true a x m → translatedOf r n true a ≡ read.left r true a x n → ArrivedIn c x
             → storeCall r m a v ≡ storeBy r a v (read.left r true a x m) x → storeCall r n a v ≡ storeBy r a v (read.left r true a x n) x → SameStore r m n a v k e
         by (walked.Faulted y j) p q i f g =
-            let z : answer.Faulted y j (exitBy (walked.Faulted y j)) ≡ answer.Done k e = sym (ap (λ (x : Ended). x .reply .answer) f) ∙ done in
+            let z : answer.Faulted y j (exitBy (walked.Faulted y j)) ≡ answer.Done k e = sym (ap (λ (x : After Reply). x .result .answer) f) ∙ done in
             let x : _≡_ {A = ℕ} 0 1 = cc in absurd (omega arith)
         by walked.Damaged p q i f g =
-            let z : answer.Refused 11 ≡ answer.Done k e = sym (ap (λ (x : Ended). x .reply .answer) f) ∙ done in
+            let z : answer.Refused 11 ≡ answer.Done k e = sym (ap (λ (x : After Reply). x .result .answer) f) ∙ done in
             let x : _≡_ {A = ℕ} 0 1 = cc in absurd (omega arith)
-        by (walked.Arrived t w j) p q i f g = same (putOn (t .0) i j m .put .ok) refl
+        by (walked.Arrived t w j) p q i f g = same (putOn (t .0) i j m .result .ok) refl
           where
-            same : (b : Bool) → putOn (t .0) i j m .put .ok ≡ b → SameStore r m n a v k e
+            same : (b : Bool) → putOn (t .0) i j m .result .ok ≡ b → SameStore r m n a v k e
             same false o =
-                let z : answer.Refused 11 ≡ answer.Done k e = sym (refuses (t .0) i j m o .says) ∙ sym (ap (λ (x : Ended). x .reply .answer) f) ∙ done in
+                let z : answer.Refused 11 ≡ answer.Done k e = sym (refuses (t .0) i j m o .says) ∙ sym (ap (λ (x : After Reply). x .result .answer) f) ∙ done in
                 let x : _≡_ {A = ℕ} 0 1 = cc in absurd (omega arith)
             same true o =
-                let z : answer.Done j (0 + putOn (t .0) i j m .put .exits) ≡ answer.Done k e = sym (touches (t .0) i j m o .says) ∙ sym (ap (λ (x : Ended). x .reply .answer) f) ∙ done in
+                let z : answer.Done j (0 + putOn (t .0) i j m .result .exits) ≡ answer.Done k e = sym (touches (t .0) i j m o .says) ∙ sym (ap (λ (x : After Reply). x .result .answer) f) ∙ done in
                 let x : j ≡ k = cc in
-                let y : 0 + putOn (t .0) i j m .put .exits ≡ e = cc in
+                let y : 0 + putOn (t .0) i j m .result .exits ≡ e = cc in
                 subst (λ l. SameStore r m n a v l e) x (subst (SameStore r m n a v j) y (record {
                   frame = t .0;
-                  touched = ap (λ (u : Out). touchedBy a (u .translated .walked)) p;
-                  before = subst (Touches r m j (0 + putOn (t .0) i j m .put .exits) (t .0) (wordOf a) v) (sym f) (touches (t .0) i j m o);
+                  touched = ap (λ (u : After Translated). touchedBy a (u .result .walked)) p;
+                  before = subst (Touches r m j (0 + putOn (t .0) i j m .result .exits) (t .0) (wordOf a) v) (sym f) (touches (t .0) i j m o);
                   altered = subst (λ u. ((y : ℕ) × Touches r n j y (t .0) (wordOf a) v u) ⊎ Refuses r n u) (sym g) (either (t .0) i j n);
-                  only = λ tables. subst (Touches r n j (0 + putOn (t .0) i j m .put .exits) (t .0) (wordOf a) v) (sym g) (same-touches (t .0) i j n long tables);
+                  only = λ tables. subst (Touches r n j (0 + putOn (t .0) i j m .result .exits) (t .0) (wordOf a) v) (sym g) (same-touches (t .0) i j n long tables);
                 }))
 
         go : (b : Bool) → addressOk r a ≡ b → SameStore r m n a v k e
         go false q =
-            let z : answer.Refused 4 ≡ answer.Done k e = sym (ap (λ (x : Ended). x .reply .answer) (store-fits m refl ∙ ap (λ b. cond b (said m) (refused r 4 m)) q)) ∙ done in
+            let z : answer.Refused 4 ≡ answer.Done k e = sym (ap (λ (x : After Reply). x .result .answer) (store-fits m refl ∙ ap (λ b. cond b (said m) (refused r 4 m)) q)) ∙ done in
             let x : _≡_ {A = ℕ} 0 1 = cc in absurd (omega arith)
         go true q =
             let l = alike r true a m n (reaches true q h) counted in
-            by (l .walked) (l .before) (l .altered) (subst (λ (o : Out). ArrivedIn c (o .translated .walked)) (l .before) arrives)
-            (store-fits m refl ∙ ap (λ b. cond b (said m) (refused r 4 m)) q ∙ ap (λ (o : Out). storeBy r a v o (o .translated .walked)) (l .before))
-            (store-fits n long ∙ ap (λ b. cond b (said n) (refused r 4 n)) q ∙ ap (λ (o : Out). storeBy r a v o (o .translated .walked)) (l .altered))
+            by (l .walked) (l .before) (l .altered) (subst (λ (o : After Translated). ArrivedIn c (o .result .walked)) (l .before) arrives)
+            (store-fits m refl ∙ ap (λ b. cond b (said m) (refused r 4 m)) q ∙ ap (λ (o : After Translated). storeBy r a v o (o .result .walked)) (l .before))
+            (store-fits n long ∙ ap (λ b. cond b (said n) (refused r 4 n)) q ∙ ap (λ (o : After Translated). storeBy r a v o (o .result .walked)) (l .altered))
 
 -- a load through any held path
 pub held-load : (c : Config) (b : Book) (a : ℕ) (h : Held) → find (upper c (depth (b .marks) (addressIndexes c a)) (addressIndexes c a)) (b .held) ≡ some h → HeldOrPlain c b false a
@@ -316,11 +321,11 @@ module _ (m : List ℕ) (h s : ℕ) (xs : List Call) (granted : refusalOf (lengt
   config = after xs (opened (configBy (length m) h s) m) .config
 
   -- the unit's record and memory after it
-  abbrev pub ran : Ended
-  ran = unitAfter xs (openCall m h s .reply .unit) (openCall m h s .memory) (openCall m h s)
+  abbrev pub ran : After Reply
+  ran = unitAfter xs (openCall m h s .result .unit) (openCall m h s .memory) (openCall m h s)
 
   abbrev pub unit : Record
-  unit = ran .reply .unit
+  unit = ran .result .unit
 
   abbrev pub memory : List ℕ
   memory = ran .memory
@@ -335,18 +340,18 @@ module _ (m : List ℕ) (h s : ℕ) (xs : List Call) (granted : refusalOf (lengt
   -- word it loads: its value or fault, its references and its exits stay the same"
   pub run-counted-load : (a : ℕ) → HeldOrPlain config book false a
       → (n : List ℕ) → length n ≡ length memory → SameWords memory n (countedOf unit memory false a) → SameWords memory n (touchedOf unit memory false a)
-      → loadOf unit n a ≡ ended unit (loadOf unit memory a .reply .answer) n
+      → loadOf unit n a ≡ ended unit (loadOf unit memory a .result .answer) n
   run-counted-load a k = words-counted-load (after xs (opened (configBy (length m) h s) m)) unit memory stands a (here false a k)
 
   -- "A store that is granted through a held path or at d = 5 touches, after such a change, the same word or, only if host or
   -- shadow words are among those altered, is refused with 11"
-  pub run-counted-store : (a v k e : ℕ) → HeldOrPlain config book true a → storeCall unit memory a v .reply .answer ≡ answer.Done k e
+  pub run-counted-store : (a v k e : ℕ) → HeldOrPlain config book true a → storeCall unit memory a v .result .answer ≡ answer.Done k e
       → (n : List ℕ) → length n ≡ length memory → SameWords memory n (countedOf unit memory true a) → SameStore unit memory n a v k e
   run-counted-store a v k e q = words-counted-store (after xs (opened (configBy (length m) h s) m)) unit memory stands a v (here true a q) k e
 
   -- those words are as many as the references of the answer
-  pub run-counted-words : (a : ℕ) → (HeldOrPlain config book false a → References (length (countedOf unit memory false a)) (loadOf unit memory a .reply .answer))
-      × ((v : ℕ) → HeldOrPlain config book true a → References (length (countedOf unit memory true a)) (storeCall unit memory a v .reply .answer))
+  pub run-counted-words : (a : ℕ) → (HeldOrPlain config book false a → References (length (countedOf unit memory false a)) (loadOf unit memory a .result .answer))
+      × ((v : ℕ) → HeldOrPlain config book true a → References (length (countedOf unit memory true a)) (storeCall unit memory a v .result .answer))
   run-counted-words a =
       let st = after xs (opened (configBy (length m) h s) m) in
       (λ k. load-counted st unit memory stands a (here false a k), λ v k. store-counted st unit memory stands a v (here true a k))

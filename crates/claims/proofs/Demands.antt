@@ -11,13 +11,15 @@ use Rattle.spec.specs.Run.{State, step, run, after, opened}
 use Rattle.record.specs.declared.Record.{Record}
 use Rattle.record.specs.Record.{configOf, configBy}
 use Rattle.record.specs.Open.{refusalOf, firstOf, grantedOf}
-use Rattle.unit.specs.Calls.{Ended, ended, openCall}
+use Rattle.unit.specs.Calls.{ended, openCall}
 use Rattle.claims.specs.Run.{callOf, unitRun, unitAfter, runOf, machineRun}
 use Rattle.claims.proofs.Invariant.{Inv, Follows, at}
 use Rattle.claims.proofs.Opens.{opened-inv, granted-call}
 use Rattle.claims.proofs.Remaps.{root-follows, map-follows, unmap-follows}
 use Rattle.claims.proofs.Marks.{set-mark-follows, clear-mark-follows}
 use Rattle.claims.proofs.Requests.{load-follows, store-follows, device-follows}
+use Rattle.words.specs.After.{After}
+use Rattle.unit.specs.declared.Reply.{Reply}
 
 -- every call follows the specification's step
 pub follows : (x : Call) (s : State) (r : Record) (m : List ℕ) → Inv s r m → Follows x s r (callOf x r m)
@@ -45,20 +47,20 @@ runs-follow (x ∷ xs) s r m e i =
     let now : step x (at (configOf r) s) ≡ step x s = ap (step x) (at-self (configOf r) s e) in
     ap₂ (λ o os. o ∷ os)
     (ap₂ (λ l g. (l, g)) (f .says ∙ ap (λ o. o .0) now) (f .next .area ∙ ap (λ o. o .1 .machine .area) now))
-    (runs-follow xs ((step x s) .1) (u .reply .unit) (u .memory) (sym (f .config ∙ ap (λ o. o .1 .config) now)) (subst (λ o. Inv (o .1) (u .reply .unit) (u .memory)) now (f .next)))
+    (runs-follow xs ((step x s) .1) (u .result .unit) (u .memory) (sym (f .config ∙ ap (λ o. o .1 .config) now)) (subst (λ o. Inv (o .1) (u .result .unit) (u .memory)) now (f .next)))
 
 -- and the invariant at its end
-pub after-follow : (xs : List Call) (s : State) (r : Record) (m : List ℕ) (d : Ended) → s .config ≡ configOf r → Inv s r m → r ≡ d .reply .unit → m ≡ d .memory
-    → let e = unitAfter xs r m d in ((after xs s) .config ≡ configOf (e .reply .unit)) × Inv (after xs s) (e .reply .unit) (e .memory)
+pub after-follow : (xs : List Call) (s : State) (r : Record) (m : List ℕ) (d : After Reply) → s .config ≡ configOf r → Inv s r m → r ≡ d .result .unit → m ≡ d .memory
+    → let e = unitAfter xs r m d in ((after xs s) .config ≡ configOf (e .result .unit)) × Inv (after xs s) (e .result .unit) (e .memory)
 unfolding unitAfter after
 after-follow [] s r m d k i p q = (k ∙ ap configOf p, subst (λ x. Inv s x (d .memory)) p (subst (Inv s r) q i))
 after-follow (x ∷ xs) s r m d k i p q =
     let f = follows x s r m i in
     let u = callOf x r m in
     let now : step x (at (configOf r) s) ≡ step x s = ap (step x) (at-self (configOf r) s k) in
-    after-follow xs ((step x s) .1) (u .reply .unit) (u .memory) u (sym (f .config ∙ ap (λ o. o .1 .config) now)) (subst (λ o. Inv (o .1) (u .reply .unit) (u .memory)) now (f .next)) refl refl
+    after-follow xs ((step x s) .1) (u .result .unit) (u .memory) u (sym (f .config ∙ ap (λ o. o .1 .config) now)) (subst (λ o. Inv (o .1) (u .result .unit) (u .memory)) now (f .next)) refl refl
 
-pub opened-config : (m : List ℕ) (h s : ℕ) → configOf (grantedOf m h s .unit) ≡ configBy (length m) h s
+pub opened-config : (m : List ℕ) (h s : ℕ) → configOf (grantedOf m h s .result) ≡ configBy (length m) h s
 unfolding grantedOf firstOf
 opened-config m h s = refl
 
@@ -66,23 +68,23 @@ opened-config m h s = refl
 pub after-run : (m : List ℕ) (h s : ℕ) (xs : List Call) → refusalOf (length m) h s ≡ 0
     → let o = openCall m h s in
     let c = configBy (length m) h s in
-    let e = unitAfter xs (o .reply .unit) (o .memory) o in
-    ((after xs (opened c m)) .config ≡ configOf (e .reply .unit)) × Inv (after xs (opened c m)) (e .reply .unit) (e .memory)
+    let e = unitAfter xs (o .result .unit) (o .memory) o in
+    ((after xs (opened c m)) .config ≡ configOf (e .result .unit)) × Inv (after xs (opened c m)) (e .result .unit) (e .memory)
 after-run m h s xs g =
     let o = openCall m h s in
     let c = configBy (length m) h s in
     let q = granted-call m h s g in
-    after-follow xs (opened c m) (o .reply .unit) (o .memory) o (sym (ap (λ (e : Ended). configOf (e .reply .unit)) q ∙ opened-config m h s))
-    (subst (λ (e : Ended). Inv (opened c m) (e .reply .unit) (e .memory)) (sym q) (opened-inv m h s g)) refl refl
+    after-follow xs (opened c m) (o .result .unit) (o .memory) o (sym (ap (λ (e : After Reply). configOf (e .result .unit)) q ∙ opened-config m h s))
+    (subst (λ (e : After Reply). Inv (opened c m) (e .result .unit) (e .memory)) (sym q) (opened-inv m h s g)) refl refl
 
 -- Demand 3. "For every granted opening, on any memory, and every list of calls after it: each value, fault, refusal, count and
 -- the guest words equal those of document 01's machine without shadow and its book"
 pub demand-3 : (m : List ℕ) (h s : ℕ) (xs : List Call) → refusalOf (length m) h s ≡ 0
     → let e = openCall m h s in
     let c = configBy (length m) h s in
-    unitRun xs (e .reply .unit) (e .memory) ≡ machineRun (run xs (opened c m))
+    unitRun xs (e .result .unit) (e .memory) ≡ machineRun (run xs (opened c m))
 demand-3 m h s xs g =
     let c = configBy (length m) h s in
     let k = grantedOf m h s in
-    ap (λ (e : Ended). unitRun xs (e .reply .unit) (e .memory)) (granted-call m h s g)
-    ∙ runs-follow xs (opened c m) (k .unit) (k .memory) (sym (opened-config m h s)) (opened-inv m h s g)
+    ap (λ (e : After Reply). unitRun xs (e .result .unit) (e .memory)) (granted-call m h s g)
+    ∙ runs-follow xs (opened c m) (k .result) (k .memory) (sym (opened-config m h s)) (opened-inv m h s g)

@@ -31,7 +31,8 @@ use Rattle.record.specs.Record.{levels, configOf, fitsOf}
 use Rattle.shadow.specs.Held.{shadowArea}
 use Rattle.drops.proofs.Held.{leafAt}
 use Rattle.drops.proofs.Valid.{framesAt, entryOf}
-use Rattle.unit.specs.Calls.{Ended}
+use Rattle.words.specs.After.{After}
+use Rattle.unit.specs.declared.Reply.{Reply}
 
 -- the held paths that stand in the shadow tables: those with an index; the one of no index stands in the record
 abbrev pub longer : List Held → List Held
@@ -76,7 +77,7 @@ at c s = record { config = c; machine = s .machine; book = s .book }
 -- ---- what a call of the unit does, and that it follows the specification's step
 
 -- the call x, which leaves e, says what the specification's step says, and keeps the invariant
-pub record Follows (x : Call) (s : State) (r : Record) (e : Ended) : Type 0 where
-  pub config : configOf (e .reply .unit) ≡ (step x (at (configOf r) s)) .1 .config
-  pub says : line (e .reply .answer) ≡ (step x (at (configOf r) s)) .0
-  pub next : Inv ((step x (at (configOf r) s)) .1) (e .reply .unit) (e .memory)
+pub record Follows (x : Call) (s : State) (r : Record) (e : After Reply) : Type 0 where
+  pub config : configOf (e .result .unit) ≡ (step x (at (configOf r) s)) .1 .config
+  pub says : line (e .result .answer) ≡ (step x (at (configOf r) s)) .0
+  pub next : Inv ((step x (at (configOf r) s)) .1) (e .result .unit) (e .memory)

@@ -46,14 +46,16 @@ use Rattle.marks.proofs.Book.{keysOf, page-small, marks-fit, may-set, may-clear
 use Rattle.record.specs.declared.Record.{Record}
 use Rattle.record.specs.Record.{levels, configOf, withMarks}
 use Rattle.record.proofs.Rules.{Fits, fits-marks, fits-keys}
-use Rattle.shadow.specs.Drop.{Outcome, dropPrefixOf}
+use Rattle.shadow.specs.Drop.{dropPrefixOf}
 use Rattle.drops.proofs.Scan.{Dropped}
 use Rattle.drops.proofs.Held.{leafAt}
 use Rattle.drops.proofs.Drops.{prefix-all, drop-prefix}
 use Rattle.drops.proofs.Valid.{framesAt, entryOf, valid-entries, stays-same}
 use Rattle.unit.specs.Calls.{refused, withHeld, judged, markedOf, setMarkCall, clearMarkCall}
 use Rattle.claims.proofs.Invariant.{longer, topBy, Inv, Follows, stands}
-use Rattle.claims.proofs.Moves.{Left, dropped-left, after, follows-no, follows-ok, after-fits, first-positive, invariant, inv-fits, inv-stands, inv-root, inv-shadow, inv-top, fits-held, holds-pool, maps-beside, shadow-drop, shadow-on, top-on, longer-keep, all-longer, all-kept, find-keep}
+use Rattle.shadow.specs.declared.Left.{Left}
+use Rattle.claims.proofs.Moves.{Moved, dropped-left, after, follows-no, follows-ok, after-fits, first-positive, invariant, inv-fits, inv-stands, inv-root, inv-shadow, inv-top, fits-held, holds-pool, maps-beside, shadow-drop, shadow-on, top-on, longer-keep, all-longer, all-kept, find-keep}
+use Rattle.words.specs.After.{After}
 
 -- ---- the rule of marks, whatever their order
 and-either : (a b r : Bool) → (a && (b && r)) ≡ (b && (a && r))
@@ -194,7 +196,7 @@ module _ (s : State) (r : Record) (m : List ℕ) (h : Inv s r m) (a n : ℕ) (t 
           let none : p ≡ [] = none-of p (omega (arith, long)) in
           sym (ap (λ q. topBy (F []) (find [] (dropPrefix q held))) none ∙ ap (λ hs. topBy (F []) (find [] hs)) (prefix-all held))
 
-  kept : {o : Outcome} (d : Dropped (configOf r) m (leafAt (entryOf (configOf r) F) (longer left)) F o) → Inv marked (withHeld (withMarks r t) (d .pool) top) (d .memory)
+  kept : {o : After Left} (d : Dropped (configOf r) m (leafAt (entryOf (configOf r) F) (longer left)) F o) → Inv marked (withHeld (withMarks r t) (d .pool) top) (d .memory)
   unfolding withHeld withMarks F held left p
   kept d =
       let c = configOf r in
@@ -210,7 +212,7 @@ module _ (s : State) (r : Record) (m : List ℕ) (h : Inv s r m) (a n : ℕ) (t 
       (shadow-on left (s .machine) (s .machine) m (d .memory) (inv-stands h) now (inv-root h) (inv-root h) (h .maps .few) staying (d .holds))
       (top-is ∙ top-on c left (s .machine) (s .machine) m (d .memory) (inv-stands h) now (inv-root h) (inv-root h) (h .maps .few) staying)
 
-  marked-left : Left marked r (markedOf r m a n t)
+  marked-left : Moved marked r (markedOf r m a n t)
   unfolding markedOf is top withHeld withMarks
   marked-left = dropped-left drops marked r (withMarks r t) top refl (kept drops)
 
@@ -219,7 +221,7 @@ module _ (s : State) (r : Record) (m : List ℕ) (h : Inv s r m) (a n : ℕ) whe
   -- a call on marks, refused as the specification says
   by-refusal : (x : Call) (t : Marks) (o : Option ℕ) → o ≡ refusal (configOf r) x (s .machine) (s .book)
       → All (λ (y : Bool × ℕ). 0 < y .1) (tests (configOf r) x (s .machine) (s .book)) → (machineStep (configOf r) x (s .machine)) .0 ≡ outcome.ok
-      → (refusal (configOf r) x (s .machine) (s .book) ≡ none → Left (after (configOf r) x s) r (markedOf r m a n t))
+      → (refusal (configOf r) x (s .machine) (s .book) ≡ none → Moved (after (configOf r) x s) r (markedOf r m a n t))
       → Follows x s r (judged r m (cond (eqb (number o) 0) (markedOf r m a n t) (refused r (number o) m)))
   unfolding refusal
   by-refusal x t o e positive ok granted = rw (h .fits) (go o (sym e))

@@ -42,12 +42,14 @@ use Rattle.record.specs.declared.Record.{Record}
 use Rattle.record.specs.Record.{levels, configOf}
 use Rattle.record.proofs.Rules.{Fits, PoolFits, fits-layout, fits-true}
 use Rattle.shadow.specs.Held.{shadowArea}
-use Rattle.shadow.specs.Drop as drop
+use Rattle.shadow.specs.declared.Left.{Left}
 use Rattle.drops.proofs.Scan.{Dropped}
 use Rattle.drops.proofs.Held.{leafAt, leaf-none}
 use Rattle.drops.proofs.Valid.{framesAt, entryOf, valid-entry, Stays, holds-on}
-use Rattle.unit.specs.Calls.{Ended, withHeld, withHost, refused, droppedBy}
+use Rattle.unit.specs.Calls.{withHeld, withHost, refused, droppedBy}
 use Rattle.claims.proofs.Invariant.{longer, topBy, frames, Inv, Follows, stands, at}
+use Rattle.words.specs.After.{After}
+use Rattle.unit.specs.declared.Reply.{Reply}
 
 -- ---- the record
 -- an area that holds leaves keeps a pool in its ranges
@@ -253,22 +255,22 @@ unfolding step
 follows-no x {s} n h e = record { config = rw e; says = rw e; next = rw e (at-inv h) }
 
 -- a call that is granted and says no more leaves the invariant on machine and book after it
-pub record Left (t : State) (r : Record) (e : Ended) : Type 0 where
-  pub config : configOf (e .reply .unit) ≡ configOf r
-  pub says : line (e .reply .answer) ≡ say.ok
-  pub next : Inv t (e .reply .unit) (e .memory)
+pub record Moved (t : State) (r : Record) (e : After Reply) : Type 0 where
+  pub config : configOf (e .result .unit) ≡ configOf r
+  pub says : line (e .result .answer) ≡ say.ok
+  pub next : Inv t (e .result .unit) (e .memory)
 
 -- after a drop
-pub dropped-left : {c : Config} {m : List ℕ} {lv guest : List ℕ → ℕ} {t : drop.Outcome} (d : Dropped c m lv guest t) (s : State) (r next : Record) (top : ℕ)
-    → configOf (withHeld next (d .pool) top) ≡ configOf r → Inv s (withHeld next (d .pool) top) (d .memory) → Left s r (droppedBy r next top t)
+pub dropped-left : {c : Config} {m : List ℕ} {lv guest : List ℕ → ℕ} {t : After Left} (d : Dropped c m lv guest t) (s : State) (r next : Record) (top : ℕ)
+    → configOf (withHeld next (d .pool) top) ≡ configOf r → Inv s (withHeld next (d .pool) top) (d .memory) → Moved s r (droppedBy r next top t)
 dropped-left d s r next top e h = rw (d .done) (record { config = e; says = refl; next = h })
 
 -- machine and book after a call that is granted
 abbrev pub after : Config → Call → State → State
 after c x s = record { config = c; machine = (machineStep c x (s .machine)) .1; book = (bookStep c x (s .machine) (s .book)) .book }
 
-pub follows-ok : (x : Call) (s : State) (r : Record) (e : Ended) → refusal (configOf r) x (s .machine) (s .book) ≡ none
-    → (machineStep (configOf r) x (s .machine)) .0 ≡ outcome.ok → Left (after (configOf r) x s) r e → Follows x s r e
+pub follows-ok : (x : Call) (s : State) (r : Record) (e : After Reply) → refusal (configOf r) x (s .machine) (s .book) ≡ none
+    → (machineStep (configOf r) x (s .machine)) .0 ≡ outcome.ok → Moved (after (configOf r) x s) r e → Follows x s r e
 unfolding step
 follows-ok x s r e free ok l = record { config = rw free (l .config); says = rw (free, ok) (l .says); next = rw free (l .next) }
 

@@ -76,7 +76,7 @@ run-covered (x ∷ xs) s = (step-covered x s, run-covered xs ((step x s) .1))
 
 -- and so of the unit
 pub never-3-nor-11 : (m : List ℕ) (h s : ℕ) (xs : List Call) → refusalOf (length m) h s ≡ 0
-    → let e = openCall m h s in All (λ o. Covered (o .0)) (unitRun xs (e .reply .unit) (e .memory))
+    → let e = openCall m h s in All (λ o. Covered (o .0)) (unitRun xs (e .result .unit) (e .memory))
 never-3-nor-11 m h s xs g =
     let c = configBy (length m) h s in
     subst (All (λ o. Covered (o .0))) (sym (demand-3 m h s xs g)) (run-covered xs (opened c m))

@@ -35,21 +35,21 @@ pub refused-call : (m : List ℕ) (h s : ℕ) → refusalOf (length m) h s ≢ 0
 unfolding openCall
 refused-call m h s n = rw (refused-open m h s n, ne-eqb (refusalOf (length m) h s) 0 n)
 
-pub granted-call : (m : List ℕ) (h s : ℕ) → refusalOf (length m) h s ≡ 0 → openCall m h s ≡ ended (grantedOf m h s .unit) answer.Ok (grantedOf m h s .memory)
+pub granted-call : (m : List ℕ) (h s : ℕ) → refusalOf (length m) h s ≡ 0 → openCall m h s ≡ ended (grantedOf m h s .result) answer.Ok (grantedOf m h s .memory)
 unfolding openCall
 granted-call m h s e = rw (granted-open m h s e)
 
 -- whatever the memory and the numbers
-pub open-says : (m : List ℕ) (h s : ℕ) → line (openCall m h s .reply .answer) ≡ (opening (configBy (length m) h s) m) .0
+pub open-says : (m : List ℕ) (h s : ℕ) → line (openCall m h s .result .answer) ≡ (opening (configBy (length m) h s) m) .0
 open-says m h s = go (ℕ-discrete (refusalOf (length m) h s) 0)
   where
-    go : Dec (refusalOf (length m) h s ≡ 0) → line (openCall m h s .reply .answer) ≡ (opening (configBy (length m) h s) m) .0
+    go : Dec (refusalOf (length m) h s ≡ 0) → line (openCall m h s .result .answer) ≡ (opening (configBy (length m) h s) m) .0
     go (yes e) = rw (granted-call m h s e, granted-opening m h s e)
     go (no n) = rw (refused-call m h s n, refused-opening m h s n)
 
 -- "It starts with the opening's H, S and guest area, nothing mapped, root 0"
 module _ (m : List ℕ) (h s : ℕ) (grant : refusalOf (length m) h s ≡ 0) where
-  maps : let k = grantedOf m h s in Maps (configBy (length m) h s) [] (k .unit .host) (k .memory)
+  maps : let k = grantedOf m h s in Maps (configBy (length m) h s) [] (k .result .host) (k .memory)
   maps = record {
     deep = omega arith;
     few = granted-sized (length m) h s grant .frames;
@@ -58,7 +58,7 @@ module _ (m : List ℕ) (h s : ℕ) (grant : refusalOf (length m) h s ≡ 0) whe
     inside = tt;
   }
 
-  pub opened-inv : let k = grantedOf m h s in Inv (opened (configBy (length m) h s) m) (k .unit) (k .memory)
+  pub opened-inv : let k = grantedOf m h s in Inv (opened (configBy (length m) h s) m) (k .result) (k .memory)
   unfolding grantedOf firstOf tableOf
   opened-inv =
       let c = configBy (length m) h s in

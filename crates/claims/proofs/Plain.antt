@@ -33,13 +33,15 @@ use Rattle.marks.proofs.Book.{depth-book}
 use Rattle.record.specs.declared.Record.{Record}
 use Rattle.record.specs.Record.{levels, configOf, configBy}
 use Rattle.record.specs.Open.{refusalOf}
-use Rattle.unit.specs.Calls.{Ended, refused, addressOk, depthAt, loadOf, storeCall}
+use Rattle.unit.specs.Calls.{refused, addressOk, depthAt, loadOf, storeCall}
 use Rattle.claims.specs.Run.{callOf, guestArea, runOf}
 use Rattle.claims.proofs.Invariant.{Inv, at}
 use Rattle.laws.proofs.Indexes.{indexes-all}
 use Rattle.claims.proofs.Found.{memory-stands, root-small}
 use Rattle.claims.proofs.Requests.{page-in, fits-of, load-step, store-step}
 use Rattle.claims.proofs.Demands.{follows, after-run}
+use Rattle.words.specs.After.{After}
+use Rattle.unit.specs.declared.Reply.{Reply}
 
 -- ---- a load, or a store of a value
 abbrev pub isStore : Option ℕ → Bool
@@ -66,21 +68,21 @@ plainWalk r m st a = walkedOf (configOf r) m 0 (walk (configOf r) st (r .root) (
 
 -- e is what a request leaves that is granted at its word of host frame t. "A granted request reads (4 − d) + 5d words": N + N·d with
 -- the depth d of its address, and at most 24 with four levels
-pub record Granted (r : Record) (m : List ℕ) (a : ℕ) (v : Option ℕ) (e : Ended) (t : ℕ) : Type 0 where
+pub record Granted (r : Record) (m : List ℕ) (a : ℕ) (v : Option ℕ) (e : After Reply) (t : ℕ) : Type 0 where
   pub exits : ℕ
-  pub says : line (e .reply .answer) ≡ grantedLine v (words.wordIn m t (wordOf a)) (levels + levels * depthAt r a) exits
+  pub says : line (e .result .answer) ≡ grantedLine v (words.wordIn m t (wordOf a)) (levels + levels * depthAt r a) exits
   pub most : levels + levels * depthAt r a ≤ levels + levels * suc levels
   pub area : guestArea r (e .memory) ≡ touched v (guestArea r m) (place (configOf r) t (wordOf a))
 
 -- and one that meets the fault y
-pub record Faulted (r : Record) (m : List ℕ) (e : Ended) (y : Fault) : Type 0 where
+pub record Faulted (r : Record) (m : List ℕ) (e : After Reply) (y : Fault) : Type 0 where
   pub references : ℕ
   pub exits : ℕ
-  pub says : line (e .reply .answer) ≡ faultLine y references exits
+  pub says : line (e .result .answer) ≡ faultLine y references exits
   pub area : guestArea r (e .memory) ≡ guestArea r m
 
 -- by what the plain walk came to
-abbrev pub AsWalked : Record → List ℕ → ℕ → Option ℕ → Ended → Walked → Type 0
+abbrev pub AsWalked : Record → List ℕ → ℕ → Option ℕ → After Reply → Walked → Type 0
 AsWalked r m a v e (walked.Arrived t w n) = Granted r m a v e (t .0)
 AsWalked r m a v e (walked.Faulted y n) = Faulted r m e y
 AsWalked r m a v e walked.Damaged = ⊥
@@ -141,7 +143,7 @@ module _ (s : State) (r : Record) (m : List ℕ) (inv : Inv s r m) where
 
     -- and what the unit does
     does : (v : Option ℕ) (x : Result Fault Place) → (plain c mach (isStore v) a) .result ≡ x
-        → let e = callOf (requestAt a v) r m in (line (e .reply .answer), guestArea r (e .memory)) ≡ stepBy v x
+        → let e = callOf (requestAt a v) r m in (line (e .result .answer), guestArea r (e .memory)) ≡ stepBy v x
     does v x q =
         let f = follows (requestAt a v) s r m inv in
         let e = callOf (requestAt a v) r m in
@@ -192,22 +194,22 @@ module _ (s : State) (r : Record) (m : List ℕ) (inv : Inv s r m) where
   unfit-refused a none q = rw (inv .fits, q)
   unfit-refused a (some v) q = rw (inv .fits, q)
 
-  pub as-walked : (a : ℕ) (v : Option ℕ) → Unrefused (callOf (requestAt a v) r m .reply .answer) → AsWalked r m a v (callOf (requestAt a v) r m) (plainWalk r m (isStore v) a)
+  pub as-walked : (a : ℕ) (v : Option ℕ) → Unrefused (callOf (requestAt a v) r m .result .answer) → AsWalked r m a v (callOf (requestAt a v) r m) (plainWalk r m (isStore v) a)
   as-walked a v u = go (addressOk r a) refl
     where
       go : (b : Bool) → addressOk r a ≡ b → AsWalked r m a v (callOf (requestAt a v) r m) (plainWalk r m (isStore v) a)
       go true q = fits-walked a q v
-      go false q = absurd (subst (λ (e : Ended). Unrefused (e .reply .answer)) (unfit-refused a v q) u)
+      go false q = absurd (subst (λ (e : After Reply). Unrefused (e .result .answer)) (unfit-refused a v q) u)
 
 -- ---- Demand 2. "While only the unit's own calls touched record and memory since an opening, a load or store that is not refused is
 -- granted exactly when the plain two-level walk grants it, and touches the same word; otherwise its fault is that walk's"
 
 pub demand-2 : (m : List ℕ) (h s : ℕ) (xs : List Call) → refusalOf (length m) h s ≡ 0 → (a : ℕ) (v : Option ℕ)
     → let u = runOf m h s xs in
-    let r = u .reply .unit in
+    let r = u .result .unit in
     let n = u .memory in
     let e = callOf (requestAt a v) r n in
-    Unrefused (e .reply .answer) → AsWalked r n a v e (plainWalk r n (isStore v) a)
+    Unrefused (e .result .answer) → AsWalked r n a v e (plainWalk r n (isStore v) a)
 demand-2 m h s xs g a v =
     let u = runOf m h s xs in
-    as-walked (after xs (opened (configBy (length m) h s) m)) (u .reply .unit) (u .memory) (after-run m h s xs g .1) a v
+    as-walked (after xs (opened (configBy (length m) h s) m)) (u .result .unit) (u .memory) (after-run m h s xs g .1) a v

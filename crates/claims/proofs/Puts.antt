@@ -36,18 +36,20 @@ use Rattle.record.proofs.Rules.{Fits}
 use Rattle.shadow.specs.declared.Cut.the-variants.{Word}
 use Rattle.shadow.specs.Held.{shadowArea}
 use Rattle.shadow.specs.Cut.{watchedOf}
-use Rattle.shadow.specs.Drop.{Outcome, outcome, scanOf}
+use Rattle.shadow.specs.Drop.{outcome, scanOf}
 use Rattle.drops.proofs.Scan.{Dropped}
 use Rattle.drops.proofs.Held.{leafAt, HeldEntry}
 use Rattle.drops.proofs.Watch.{watched-is}
 use Rattle.drops.proofs.Drops.{drop-word, empty-word, empty-frame}
 use Rattle.drops.proofs.Valid.{framesAt, entryOf, valid-entry, Stays, stays-store}
 use Rattle.request.specs.Store as put
-use Rattle.request.specs.Store.{Stored, storeOf, writtenBy}
+use Rattle.request.specs.Store.{storeOf, writtenBy}
 use Rattle.unit.specs.Calls.{withHeld}
 use Rattle.claims.proofs.Invariant.{longer, topBy, frames, Inv, stands}
 use Rattle.claims.proofs.Moves.{holds-pool, fits-held, maps-beside, shadow-drop, invariant, shadow-on, longer-keep, all-kept, find-keep, inv-shadow, inv-top, frame-root}
 use Rattle.claims.proofs.Found as found
+use Rattle.words.specs.After.{After}
+use Rattle.request.specs.declared.Put.{Put}
 
 -- ---- memory after a guest word is stored
 
@@ -114,7 +116,7 @@ watched-longer t (h ∷ hs) a = go (ltb 0 (length (h .path))) refl (watched-long
 
 -- ---- the store
 
-pub record Puts (s : State) (r : Record) (t i v : ℕ) (x : Stored) : Type 0 where
+pub record Puts (s : State) (r : Record) (t i v : ℕ) (x : After Put) : Type 0 where
   pub pool : Pool
   pub memory : List ℕ
   pub done : x ≡ put.stored pool (one (watched t (s .book .held))) true memory

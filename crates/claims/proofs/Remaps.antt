@@ -41,7 +41,7 @@ use Rattle.tree.proofs.Stores.{Beside, beside-refl, beside-place}
 use Rattle.tree.proofs.Whole.{Holds, holds-beside}
 use Rattle.tree.proofs.Hosts.{host-full, host-absent}
 use Rattle.host.specs.Walk.{hostWalkOf}
-use Rattle.host.specs.Map.{hostArea, Changed, changed, changedBy, mapOf, unmapOf, maps, unmaps, mappingOnly, noBook, numberBy, mappingBy}
+use Rattle.host.specs.Map.{hostArea, changed, changedBy, mapOf, unmapOf, maps, unmaps, mappingOnly, noBook, numberBy, mappingBy}
 use Rattle.host.proofs.Laws.{InGuestArea}
 use Rattle.host.proofs.Mapping.{Maps, Step, answerBy, answerOf, walk-is, map-is, unmap-is, unmapped-lookup}
 use Rattle.walk.proofs.Stands.{Stands}
@@ -50,21 +50,25 @@ use Rattle.record.specs.Record.{configOf, withRoot}
 use Rattle.record.proofs.Rules.{Fits, fits-root}
 use Rattle.shadow.specs.declared.Cut.the-variants.{Names}
 use Rattle.shadow.specs.Held.{shadowArea}
-use Rattle.shadow.specs.Drop.{Outcome, scanOf}
+use Rattle.shadow.specs.Drop.{scanOf}
 use Rattle.drops.proofs.Scan.{Dropped}
 use Rattle.drops.proofs.Held.{leafAt, HeldEntry, HeldEntries}
 use Rattle.drops.proofs.Drops.{namedIn, guestFrame, mapping-all, drop-mapping, empty-mapping}
 use Rattle.drops.proofs.Valid.{framesAt, entryOf, valid-entries, Stays, stays-mapping}
-use Rattle.unit.specs.Calls.{Ended, ended, refused, withHeld, withHost, droppedBy, unmappedOf, mappedBy, rootCall, mapCall, unmapCall}
+use Rattle.unit.specs.Calls.{ended, refused, withHeld, withHost, droppedBy, unmappedOf, mappedBy, rootCall, mapCall, unmapCall}
 use Rattle.claims.proofs.Invariant.{longer, topBy, Inv, Follows, stands}
-use Rattle.claims.proofs.Moves.{Left, dropped-left, after, follows-no, follows-ok, after-fits, first-positive, invariant, inv-fits, inv-stands, inv-root, inv-shadow, inv-top, fits-held, fits-host, holds-pool, maps-beside, shadow-drop, host-drop, shadow-none, shadow-on, top-on, keep-all, longer-keep, all-longer, find-keep}
+use Rattle.shadow.specs.declared.Left.{Left}
+use Rattle.claims.proofs.Moves.{Moved, dropped-left, after, follows-no, follows-ok, after-fits, first-positive, invariant, inv-fits, inv-stands, inv-root, inv-shadow, inv-top, fits-held, fits-host, holds-pool, maps-beside, shadow-drop, host-drop, shadow-none, shadow-on, top-on, keep-all, longer-keep, all-longer, find-keep}
+use Rattle.words.specs.After.{After}
+use Rattle.unit.specs.declared.Reply.{Reply}
+use Rattle.host.specs.declared.Change.{Change}
 
 no-place : {r : Place} → none ≡ some r → ⊥
 no-place e = let z : _≡_ {A = ℕ} 0 1 = cc in omega arith
 
 -- ---- root
 root-left : (s : State) (r : Record) (m : List ℕ) → Inv s r m → (g : ℕ) → frameFits (configOf r) g ≡ true
-    → Left (after (configOf r) (root g) s) r (ended (withRoot (withHeld r noneOf 0) g) answer.Ok m)
+    → Moved (after (configOf r) (root g) s) r (ended (withRoot (withHeld r noneOf 0) g) answer.Ok m)
 unfolding withHeld withRoot machineStep bookStep refusal tests
 root-left s r m h g e =
     let f = inv-fits h in
@@ -222,22 +226,22 @@ module _ (s : State) (r : Record) (m : List ℕ) (h : Inv s r m) (g : ℕ) (ys :
 
   -- the paths that used the mapping go, and no other
   scan-left : g ≢ s .machine .root
-      → Left changedState r (droppedBy r (withHost r p) (r .top) (scanOf (configOf r) (Names (guestFrame g)) (r .shadow) n))
+      → Moved changedState r (droppedBy r (withHost r p) (r .top) (scanOf (configOf r) (Names (guestFrame g)) (r .shadow) n))
   unfolding withHeld withHost left held
   scan-left other = go (drop-mapping shadow-stays entries-after g other)
     where
-      go : {t : Outcome} → Dropped (configOf r) n (leafAt (entryOf (configOf r) F) (dropMapping g (longer held))) F t → Left changedState r (droppedBy r (withHost r p) (r .top) t)
+      go : {t : After Left} → Dropped (configOf r) n (leafAt (entryOf (configOf r) F) (dropMapping g (longer held))) F t → Moved changedState r (droppedBy r (withHost r p) (r .top) t)
       go d = dropped-left d changedState r (withHost r p) (r .top) refl
           (moved (d .pool) (r .top) (d .memory) (d .beside) (inv-fits h .top)
           (subst (λ hs. Holds (shadowArea (configOf r)) false (d .pool) (d .memory) (leafAt (entryOf (configOf r) F) hs) F) (sym (longer-keep (λ x. not (usesMapping g x)) held)) (d .holds))
           (top-stays other))
 
-  unmapped-left : Left changedState r (unmappedOf r (withHost r p) n g)
+  unmapped-left : Moved changedState r (unmappedOf r (withHost r p) n g)
   unfolding unmappedOf withHeld withHost
   unmapped-left = go (eqb g (r .root)) refl
     where
       go : (b : Bool) → eqb g (r .root) ≡ b
-          → Left changedState r (cond b (ended (withHeld (withHost r p) noneOf 0) answer.Ok n) (droppedBy r (withHost r p) (r .top) (scanOf (configOf r) (Names (guestFrame g)) (r .shadow) n)))
+          → Moved changedState r (cond b (ended (withHeld (withHost r p) noneOf 0) answer.Ok n) (droppedBy r (withHost r p) (r .top) (scanOf (configOf r) (Names (guestFrame g)) (r .shadow) n)))
       go true e = record { config = refl; says = refl; next = all-left (eqb-true g (r .root) e ∙ h .root) }
       go false e = scan-left (λ k. eqb-false g (r .root) e (k ∙ sym (h .root)))
 
@@ -280,7 +284,7 @@ module _ (s : State) (r : Record) (m : List ℕ) (h : Inv s r m) (g : ℕ) where
   module _ (f : ℕ) (w : Bool) where
     mapped-left : (p : Pool) (n : List ℕ) → Maps (configOf r) (with g f w (s .machine .mappings)) p n → Beside (hostArea (configOf r)) m n
         → refusal (configOf r) (map g f w) (s .machine) (s .book) ≡ none
-        → Left (after (configOf r) (map g f w) s) r (mappedBy r p n g (answerOf (configOf r) (s .machine .mappings) g))
+        → Moved (after (configOf r) (map g f w) s) r (mappedBy r p n g (answerOf (configOf r) (s .machine .mappings) g))
     unfolding machineStep bookStep withHost
     mapped-left p n hosts beside e = go (lookup g (s .machine .mappings)) refl
       where
@@ -288,7 +292,7 @@ module _ (s : State) (r : Record) (m : List ℕ) (h : Inv s r m) (g : ℕ) where
         others y k = lookup-with g y f w (s .machine .mappings) k
 
         go : (o : Option Place) → lookup g (s .machine .mappings) ≡ o
-            → Left (after (configOf r) (map g f w) s) r (mappedBy r p n g (answerBy (hostCost (configOf r) (s .machine .mappings) g) o))
+            → Moved (after (configOf r) (map g f w) s) r (mappedBy r p n g (answerBy (hostCost (configOf r) (s .machine .mappings) g) o))
         go none q = record {
           config = refl;
           says = refl;
@@ -300,8 +304,8 @@ module _ (s : State) (r : Record) (m : List ℕ) (h : Inv s r m) (g : ℕ) where
     unfolding mapCall refusal tests machineStep
     map-follows = rw (h .fits) (go (refusal (configOf r) (map g f w) (s .machine) (s .book)) refl)
       where
-        over : Changed → Ended
-        over t = cond (eqb (t .change .refusal) 0) (mappedBy r (t .change .pool) (t .memory) g (hostWalkOf (configOf r) m g)) (refused r (t .change .refusal) (t .memory))
+        over : After Change → After Reply
+        over t = cond (eqb (t .result .refusal) 0) (mappedBy r (t .result .pool) (t .memory) g (hostWalkOf (configOf r) m g)) (refused r (t .result .refusal) (t .memory))
 
         go : (o : Option ℕ) → refusal (configOf r) (map g f w) (s .machine) (s .book) ≡ o → Follows (map g f w) s r (over (mapOf (configOf r) (r .host) m g f w))
         go (some n) e =
@@ -317,7 +321,7 @@ module _ (s : State) (r : Record) (m : List ℕ) (h : Inv s r m) (g : ℕ) where
 
   unmapped-all : (p : Pool) (n : List ℕ) → Maps (configOf r) (without g (s .machine .mappings)) p n → Beside (hostArea (configOf r)) m n
       → refusal (configOf r) (unmap g) (s .machine) (s .book) ≡ none → (o : Option Place) → lookup g (s .machine .mappings) ≡ o
-      → Left (after (configOf r) (unmap g) s) r (mappedBy r p n g (answerBy (hostCost (configOf r) (s .machine .mappings) g) o))
+      → Moved (after (configOf r) (unmap g) s) r (mappedBy r p n g (answerBy (hostCost (configOf r) (s .machine .mappings) g) o))
   unfolding machineStep bookStep withHost
   unmapped-all p n hosts beside e none q = record {
     config = refl;
@@ -331,8 +335,8 @@ module _ (s : State) (r : Record) (m : List ℕ) (h : Inv s r m) (g : ℕ) where
   unfolding unmapCall refusal tests machineStep bookStep
   unmap-follows = rw (h .fits) (go (refusal (configOf r) (unmap g) (s .machine) (s .book)) refl)
     where
-      over : Changed → Ended
-      over t = cond (eqb (t .change .refusal) 0) (mappedBy r (t .change .pool) (t .memory) g (hostWalkOf (configOf r) m g)) (refused r (t .change .refusal) (t .memory))
+      over : After Change → After Reply
+      over t = cond (eqb (t .result .refusal) 0) (mappedBy r (t .result .pool) (t .memory) g (hostWalkOf (configOf r) m g)) (refused r (t .result .refusal) (t .memory))
 
       go : (o : Option ℕ) → refusal (configOf r) (unmap g) (s .machine) (s .book) ≡ o → Follows (unmap g) s r (over (unmapOf (configOf r) (r .host) m g))
       go (some n) e =

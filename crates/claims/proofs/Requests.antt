@@ -38,11 +38,11 @@ use Rattle.walk.specs.Memory.{walkedOf}
 use Rattle.walk.proofs.Stands.{Stands, plainWalked, same-word, stands-walked}
 use Rattle.record.specs.declared.Record.{Record}
 use Rattle.record.specs.Record.{configOf, fitsOf}
-use Rattle.request.specs.Translate.{Out, outs, translation, exitBy}
+use Rattle.request.specs.Translate.{translation, exitBy}
 use Rattle.request.proofs.Device.{deviceScript, device-script}
 use Rattle.request.specs.Store as put
-use Rattle.request.specs.Store.{Stored, storeOf}
-use Rattle.unit.specs.Calls.{Ended, ended, refused, judged, withHeld, addressOk, deviceOk, translatedOf, heldAfter, loadBy, loadOf, writtenBy, storeBy, storeCall, deviceBy, deviceCall}
+use Rattle.request.specs.Store.{storeOf}
+use Rattle.unit.specs.Calls.{ended, refused, judged, withHeld, addressOk, deviceOk, translatedOf, heldAfter, loadBy, loadOf, writtenBy, storeBy, storeCall, deviceBy, deviceCall}
 use Rattle.claims.proofs.Invariant.{Inv, Follows, stands, at}
 use Rattle.claims.proofs.Paths.{exit-is}
 use Rattle.laws.proofs.Indexes.{indexes-all}
@@ -50,6 +50,9 @@ use Rattle.claims.proofs.Found as found
 use Rattle.claims.proofs.Moves.{at-inv}
 use Rattle.claims.proofs.Translates.{Translates, translates}
 use Rattle.claims.proofs.Puts.{Puts, puts}
+use Rattle.words.specs.After.{After, yields}
+use Rattle.request.specs.declared.Translated.{Translated}
+use Rattle.unit.specs.declared.Reply.{Reply}
 
 -- a call that says l and leaves the record q, the memory n and the state t
 pub follows-by : (x : Call) (s t : State) (r q : Record) (a : Answer) (l : Line) (n : List ℕ) → step x (at (configOf r) s) ≡ (l, t) → configOf q ≡ t .config → line a ≡ l
@@ -58,7 +61,7 @@ follows-by x s t r q a l n e k i v =
     record { config = k ∙ sym (ap (λ y. y .1 .config) e); says = i ∙ sym (ap (λ y. y .0) e); next = subst (λ y. Inv y q n) (sym (ap (λ y. y .1) e)) v }
 
 -- a call that meets the invariant is not refused with 3
-pub judged-by : (x : Call) (s : State) (r : Record) (m : List ℕ) (e : Ended) → Inv s r m → Follows x s r e → Follows x s r (judged r m e)
+pub judged-by : (x : Call) (s : State) (r : Record) (m : List ℕ) (e : After Reply) → Inv s r m → Follows x s r e → Follows x s r (judged r m e)
 judged-by x s r m e inv f = subst (λ b. Follows x s r (cond b e (refused r 3 m))) (sym (inv .fits)) f
 
 module _ (s : State) (r : Record) (m : List ℕ) (inv : Inv s r m) where
@@ -69,7 +72,7 @@ module _ (s : State) (r : Record) (m : List ℕ) (inv : Inv s r m) where
   mach = s .machine
 
   -- a call with one test, which fails with 4
-  tested : (x : Call) (b : Bool) (y : Ended) → refusal c x mach (s .book) ≡ firstFailed ((b, 4) ∷ []) → (b ≡ true → Follows x s r y) → Follows x s r (cond b y (refused r 4 m))
+  tested : (x : Call) (b : Bool) (y : After Reply) → refusal c x mach (s .book) ≡ firstFailed ((b, 4) ∷ []) → (b ≡ true → Follows x s r y) → Follows x s r (cond b y (refused r 4 m))
   unfolding step
   tested x true y e f = f refl
   tested x false y e f = follows-by x s (at c s) r r (answer.Refused 4) (say.no 4) m (ap (answered x (at c s)) e) refl refl (at-inv inv)
@@ -85,7 +88,7 @@ module _ (s : State) (r : Record) (m : List ℕ) (inv : Inv s r m) where
   fits-of a ok = is-true (addressFits c a) (and-left (addressFits c a) (wordAligned a) (subst T (sym ok) tt))
 
   -- what memory a translation leaves stands for the machine still
-  after-stands : (st : Bool) (a : ℕ) (k : Counted) (o : Out) (t : Translates s r m st a k o) → Stands c mach (t .memory)
+  after-stands : (st : Bool) (a : ℕ) (k : Counted) (o : After Translated) (t : Translates s r m st a k o) → Stands c mach (t .memory)
   unfolding withHeld
   after-stands st a k o t = stands c mach (r .host) (t .memory) (t .next .maps) (t .next .area)
 
@@ -101,10 +104,10 @@ module _ (s : State) (r : Record) (m : List ℕ) (inv : Inv s r m) where
     load-step ok = ap (λ b. answered (load a) (at c s) (firstFailed ((b, 4) ∷ []))) ok
 
     loaded : addressOk r a ≡ true → (x : Result Fault Place) → (plain c mach false a) .result ≡ x
-        → Follows (load a) s r (loadBy r a (translatedOf r m false a) (translatedOf r m false a .translated .walked))
+        → Follows (load a) s r (loadBy r a (translatedOf r m false a) (translatedOf r m false a .result .walked))
     unfolding access withHeld
     loaded ok x e =
-        subst (Follows (load a) s r) (sym (ap (λ (o : Out). loadBy r a o (o .translated .walked)) (t .done) ∙ ap (λ y. loadBy r a (left y) (plainWalked y (k .references))) e)) (by x e)
+        subst (Follows (load a) s r) (sym (ap (λ (o : After Translated). loadBy r a o (o .result .walked)) (t .done) ∙ ap (λ y. loadBy r a (left y) (plainWalked y (k .references))) e)) (by x e)
       where
         k : Counted
         k = costs false
@@ -112,8 +115,8 @@ module _ (s : State) (r : Record) (m : List ℕ) (inv : Inv s r m) where
         t : Translates s r m false a (costs false) (translatedOf r m false a)
         t = translates s r m inv false a (fits-of a ok)
 
-        left : Result Fault Place → Out
-        left y = outs (translation (t .pool) (t .top) (k .exits) (plainWalked y (k .references))) (t .memory)
+        left : Result Fault Place → After Translated
+        left y = yields (translation (t .pool) (t .top) (k .exits) (plainWalked y (k .references))) (t .memory)
 
         by : (y : Result Fault Place) → (plain c mach false a) .result ≡ y → Follows (load a) s r (loadBy r a (left y) (plainWalked y (k .references)))
         by (failed y) q =
@@ -141,10 +144,10 @@ module _ (s : State) (r : Record) (m : List ℕ) (inv : Inv s r m) where
       store-step ok = ap (λ b. answered (store a v) (at c s) (firstFailed ((b, 4) ∷ []))) ok
 
       stored-is : addressOk r a ≡ true → (x : Result Fault Place) → (plain c mach true a) .result ≡ x
-          → Follows (store a v) s r (storeBy r a v (translatedOf r m true a) (translatedOf r m true a .translated .walked))
+          → Follows (store a v) s r (storeBy r a v (translatedOf r m true a) (translatedOf r m true a .result .walked))
       unfolding access withHeld storing
       stored-is ok x e =
-          subst (Follows (store a v) s r) (sym (ap (λ (o : Out). storeBy r a v o (o .translated .walked)) (t .done) ∙ ap (λ y. storeBy r a v (left y) (plainWalked y (k .references))) e)) (by x e)
+          subst (Follows (store a v) s r) (sym (ap (λ (o : After Translated). storeBy r a v o (o .result .walked)) (t .done) ∙ ap (λ y. storeBy r a v (left y) (plainWalked y (k .references))) e)) (by x e)
         where
           k : Counted
           k = costs true
@@ -152,8 +155,8 @@ module _ (s : State) (r : Record) (m : List ℕ) (inv : Inv s r m) where
           t : Translates s r m true a (costs true) (translatedOf r m true a)
           t = translates s r m inv true a (fits-of a ok)
 
-          left : Result Fault Place → Out
-          left y = outs (translation (t .pool) (t .top) (k .exits) (plainWalked y (k .references))) (t .memory)
+          left : Result Fault Place → After Translated
+          left y = yields (translation (t .pool) (t .top) (k .exits) (plainWalked y (k .references))) (t .memory)
 
           by : (y : Result Fault Place) → (plain c mach true a) .result ≡ y → Follows (store a v) s r (storeBy r a v (left y) (plainWalked y (k .references)))
           by (failed y) q =

@@ -30,7 +30,7 @@ use Rattle.area.specs.declared.Way.{Way}
 use Rattle.area.specs.declared.Way.the-variants.{To, Not, Bad}
 use Rattle.words.specs.Words.{at, setIn}
 use Rattle.area.specs.Header.{entryIn, putOf, bareOf}
-use Rattle.area.specs.Pool.{onWay, End, end, noneOf}
+use Rattle.area.specs.Pool.{onWay, end, noneOf}
 use Rattle.area.specs.Tree.{roomOf, topOf, enterOf, descendOf, downOf, placeOf, insertOf}
 use Rattle.area.specs.Remove.{unhangOf, shutOf, releaseOf, lastOf, lastIndex, clearOf, removeOf}
 use Rattle.area.specs.Outside.{SameOutside}
@@ -40,7 +40,7 @@ use Rattle.tree.proofs.Change.{some-inj, not-some}
 use Rattle.host.specs.declared.HostWalk.{HostWalk}
 use Rattle.host.specs.declared.HostWalk.the-variants as host
 use Rattle.host.specs.Walk.{hostWalkOf}
-use Rattle.host.specs.Map.{hostArea, Changed, changes, changed, changeBy, changedBy, mapOf, unmapOf}
+use Rattle.host.specs.Map.{hostArea, changed, changeBy, changedBy, mapOf, unmapOf}
 use Rattle.host.proofs.Laws.{InGuestArea}
 use Rattle.walk.specs.declared.Walked.{Walked}
 use Rattle.walk.specs.declared.Walked.the-variants as walked
@@ -54,31 +54,37 @@ use Rattle.record.specs.Open.{refusalOf}
 use Rattle.record.proofs.Rules.{Fits, fits-layout}
 use Rattle.record.proofs.Opening.{granted-long, granted-guest}
 use Rattle.shadow.specs.declared.Cut.the-variants.{Names}
-use Rattle.shadow.specs.Drop.{Outcome, scanOf, dropPrefixOf}
+use Rattle.shadow.specs.Drop.{scanOf, dropPrefixOf}
 use Rattle.shadow.proofs.Outside.{scan-out, prefix-out}
-use Rattle.request.specs.Translate.{Out}
-use Rattle.request.specs.Store.{Stored, storeOf}
+use Rattle.request.specs.Store.{storeOf}
 use Rattle.request.proofs.Fits.{ArrivedIn}
 use Rattle.request.proofs.Leaves.{store-leaves}
 use Rattle.request.proofs.Device.{device-in}
-use Rattle.unit.specs.Calls.{Ended, ended, refused, judged, withHeld, withHost, addressOk, deviceOk, translatedOf, loadBy, loadOf, writtenBy, storeBy, storeCall, deviceBy, deviceCall, rootCall, droppedBy, unmappedOf, mappedBy, mapCall, unmapCall, topAfter, markedOf, keysOf, setMarkCall, clearMarkCall, openCall}
+use Rattle.unit.specs.Calls.{ended, refused, judged, withHeld, withHost, addressOk, deviceOk, translatedOf, loadBy, loadOf, writtenBy, storeBy, storeCall, deviceBy, deviceCall, rootCall, droppedBy, unmappedOf, mappedBy, mapCall, unmapCall, topAfter, markedOf, keysOf, setMarkCall, clearMarkCall, openCall}
 use Rattle.unit.proofs.Ranges.{leaves}
 use Rattle.claims.specs.Run.{callOf, guestArea}
 use Rattle.claims.proofs.Puts.{area-store}
 use Rattle.claims.proofs.Opens.{granted-call, refused-call}
+use Rattle.words.specs.After.{After, yields}
+use Rattle.area.specs.declared.Went.{Went}
+use Rattle.unit.specs.declared.Reply.{Reply}
+use Rattle.request.specs.declared.Put.{Put}
+use Rattle.shadow.specs.declared.Left.{Left}
+use Rattle.request.specs.declared.Translated.{Translated}
+use Rattle.host.specs.declared.Change.{Change}
 
 -- ---- what a call may change, by its answer
 
 -- no guest word: the memory is as long as m and has its guest area, so that only host and shadow frames differ; the record
 -- places the areas as before
-pub record GuestKept (r : Record) (m : List ℕ) (e : Ended) : Type 0 where
-  pub layout : configOf (e .reply .unit) ≡ configOf r
+pub record GuestKept (r : Record) (m : List ℕ) (e : After Reply) : Type 0 where
+  pub layout : configOf (e .result .unit) ≡ configOf r
   pub long : length (e .memory) ≡ length m
   pub area : guestArea r (e .memory) ≡ guestArea r m
 
 -- one guest word
-pub record OneWord (r : Record) (m : List ℕ) (e : Ended) : Type 0 where
-  pub layout : configOf (e .reply .unit) ≡ configOf r
+pub record OneWord (r : Record) (m : List ℕ) (e : After Reply) : Type 0 where
+  pub layout : configOf (e .result .unit) ≡ configOf r
   pub long : length (e .memory) ≡ length m
   pub place : ℕ
   pub word : ℕ
@@ -90,22 +96,22 @@ abbrev pub Numbered : ℕ → Type 0
 Numbered n = (3 ≤ n) × (n ≤ 12)
 
 -- "A refusal changes nothing, but for the tables of a memory found damaged": that is 11
-pub record RefusalKept (r : Record) (m : List ℕ) (e : Ended) (n : ℕ) : Type 0 where
+pub record RefusalKept (r : Record) (m : List ℕ) (e : After Reply) (n : ℕ) : Type 0 where
   pub numbered : Numbered n
-  pub unit : e .reply .unit ≡ r
+  pub unit : e .result .unit ≡ r
   pub guest : GuestKept r m e
   pub whole : n ≢ 11 → e .memory ≡ m
 
 -- "A fault changes no guest word"; nor does a load or a call that yields no number. A store changes one
-abbrev pub Keeps : Record → List ℕ → Ended → Answer → Type 0
+abbrev pub Keeps : Record → List ℕ → After Reply → Answer → Type 0
 Keeps r m e answer.Ok = GuestKept r m e
 Keeps r m e (answer.Value v n x) = GuestKept r m e
 Keeps r m e (answer.Done n x) = OneWord r m e
 Keeps r m e (answer.Faulted y n x) = GuestKept r m e
 Keeps r m e (answer.Refused n) = RefusalKept r m e n
 
-abbrev Kept : Record → List ℕ → Ended → Type 0
-Kept r m e = Keeps r m e (e .reply .answer)
+abbrev Kept : Record → List ℕ → After Reply → Type 0
+Kept r m e = Keeps r m e (e .result .answer)
 
 -- ---- host and shadow frames
 abbrev Tables : Record → List ℕ → List ℕ → Type 0
@@ -163,14 +169,14 @@ module _ (r : Record) (m : List ℕ) where
   refusal-kept n l = record { numbered = l; unit = refl; guest = guest-kept refl none-changed; whole = λ e. refl }
 
   -- the test with 3, and one with its own number
-  judged-kept : (e : Ended) → (fitsOf r (length m) ≡ true → Kept r m e) → Kept r m (judged r m e)
+  judged-kept : (e : After Reply) → (fitsOf r (length m) ≡ true → Kept r m e) → Kept r m (judged r m e)
   judged-kept e f = go (fitsOf r (length m)) refl
     where
       go : (b : Bool) → fitsOf r (length m) ≡ b → Kept r m (cond b e (refused r 3 m))
       go true q = f q
       go false q = refusal-kept 3 (omega arith, omega arith)
 
-  tested-kept : (b : Bool) (e : Ended) (n : ℕ) → Numbered n → Kept r m e → Kept r m (cond b e (refused r n m))
+  tested-kept : (b : Bool) (e : After Reply) (n : ℕ) → Numbered n → Kept r m e → Kept r m (cond b e (refused r n m))
   tested-kept true e n l k = k
   tested-kept false e n l k = refusal-kept n l
 
@@ -185,8 +191,8 @@ NotLeaves m n (To f) = Unit {0}
 NotLeaves m n Not = n ≡ m
 NotLeaves m n Bad = Unit {0}
 
-abbrev Refuses : List ℕ → End → Type 0
-Refuses m t = NotLeaves m (t .memory) (t .went .way)
+abbrev Refuses : List ℕ → After Went → Type 0
+Refuses m t = NotLeaves m (t .memory) (t .result .way)
 
 sure-leaves : (m n : List ℕ) (w : Way) → Sure w → NotLeaves m n w
 sure-leaves m n (To f) s = tt
@@ -195,30 +201,30 @@ sure-leaves m n Bad s = tt
 
 module _ (a : Area) where
   -- once a frame is handed out, no room is damage
-  down-sure : (is guests : List ℕ) (p : Pool) (m : List ℕ) (d f i e : ℕ) → Sure (downOf a guests p m d f i is e .went .way)
+  down-sure : (is guests : List ℕ) (p : Pool) (m : List ℕ) (d f i e : ℕ) → Sure (downOf a guests p m d f i is e .result .way)
   unfolding downOf
   down-sure [] guests p m d f i e = tt
-  down-sure (j ∷ is) guests p m d f i e = go (t .went .way) (λ h. down-sure is guests (t .went .pool) (t .memory) (d + 1) h j e)
+  down-sure (j ∷ is) guests p m d f i e = go (t .result .way) (λ h. down-sure is guests (t .result .pool) (t .memory) (d + 1) h j e)
     where
-      t : End
+      t : After Went
       t = descendOf a p m (getD guests (d + 1) 0) (a .levels - (d + 1)) f i
 
-      go : (w : Way) → ((h : ℕ) → Sure (downOf a guests (t .went .pool) (t .memory) (d + 1) h j is e .went .way))
-          → Sure (onWay w (end (t .went .pool) Bad (t .memory)) (end (t .went .pool) Bad (t .memory)) (λ h. downOf a guests (t .went .pool) (t .memory) (d + 1) h j is e) .went .way)
+      go : (w : Way) → ((h : ℕ) → Sure (downOf a guests (t .result .pool) (t .memory) (d + 1) h j is e .result .way))
+          → Sure (onWay w (end (t .result .pool) Bad (t .memory)) (end (t .result .pool) Bad (t .memory)) (λ h. downOf a guests (t .result .pool) (t .memory) (d + 1) h j is e) .result .way)
       go (To h) k = k h
       go Not k = tt
       go Bad k = tt
 
-  place-sure : (guests : List ℕ) (p : Pool) (m : List ℕ) (i : ℕ) (is : List ℕ) (e : ℕ) → Sure (placeOf a guests p m i is e .went .way)
+  place-sure : (guests : List ℕ) (p : Pool) (m : List ℕ) (i : ℕ) (is : List ℕ) (e : ℕ) → Sure (placeOf a guests p m i is e .result .way)
   unfolding placeOf
-  place-sure guests p m i is e = go (t .went .way)
+  place-sure guests p m i is e = go (t .result .way)
     where
-      t : End
+      t : After Went
       t = enterOf a p m (getD guests 0 0)
 
       go : (w : Way)
-          → Sure (onWay w (end (t .went .pool) Bad (t .memory)) (end (t .went .pool) Bad (t .memory)) (λ f. downOf a guests (t .went .pool) (t .memory) 0 f i is e) .went .way)
-      go (To f) = down-sure is guests (t .went .pool) (t .memory) 0 f i e
+          → Sure (onWay w (end (t .result .pool) Bad (t .memory)) (end (t .result .pool) Bad (t .memory)) (λ f. downOf a guests (t .result .pool) (t .memory) 0 f i is e) .result .way)
+      go (To f) = down-sure is guests (t .result .pool) (t .memory) 0 f i e
       go Not = tt
       go Bad = tt
 
@@ -228,29 +234,29 @@ module _ (a : Area) where
   insert-refuses guests p m (i ∷ is) e = go (roomOf a p m (i ∷ is))
     where
       go : (w : Way) → Refuses m (onWay w (end p Not m) (end p Bad m) (λ n. placeOf a guests p m i is e))
-      go (To n) = let t = placeOf a guests p m i is e in sure-leaves m (t .memory) (t .went .way) (place-sure guests p m i is e)
+      go (To n) = let t = placeOf a guests p m i is e in sure-leaves m (t .memory) (t .result .way) (place-sure guests p m i is e)
       go Not = refl
       go Bad = tt
 
-  shut-sure : (stays : Bool) (p : Pool) (m : List ℕ) → Sure (shutOf a stays p m .went .way)
+  shut-sure : (stays : Bool) (p : Pool) (m : List ℕ) → Sure (shutOf a stays p m .result .way)
   unfolding shutOf
   shut-sure true p m = tt
   shut-sure false p m = go (bareOf m (a .base) 512)
     where
-      go : (b : Bool) → Sure (cond b (end noneOf (To (a .base)) (setIn m (a .base) 1 0)) (end p (To (a .base)) m) .went .way)
+      go : (b : Bool) → Sure (cond b (end noneOf (To (a .base)) (setIn m (a .base) 1 0)) (end p (To (a .base)) m) .result .way)
       go true = tt
       go false = tt
 
-  release-sure : (k : ℕ) (stays : Bool) (p : Pool) (m : List ℕ) (f : ℕ) → Sure (releaseOf a stays p m k f .went .way)
+  release-sure : (k : ℕ) (stays : Bool) (p : Pool) (m : List ℕ) (f : ℕ) → Sure (releaseOf a stays p m k f .result .way)
   unfolding releaseOf
   release-sure zero stays p m f = shut-sure stays p m
-  release-sure (suc k) stays p m f = go (t .went .way) (λ h. release-sure k stays (t .went .pool) (t .memory) h)
+  release-sure (suc k) stays p m f = go (t .result .way) (λ h. release-sure k stays (t .result .pool) (t .memory) h)
     where
-      t : End
+      t : After Went
       t = unhangOf a p m f
 
-      go : (w : Way) → ((h : ℕ) → Sure (releaseOf a stays (t .went .pool) (t .memory) k h .went .way))
-          → Sure (onWay w (end (t .went .pool) (To f) (t .memory)) (end (t .went .pool) Bad (t .memory)) (λ h. releaseOf a stays (t .went .pool) (t .memory) k h) .went .way)
+      go : (w : Way) → ((h : ℕ) → Sure (releaseOf a stays (t .result .pool) (t .memory) k h .result .way))
+          → Sure (onWay w (end (t .result .pool) (To f) (t .memory)) (end (t .result .pool) Bad (t .memory)) (λ h. releaseOf a stays (t .result .pool) (t .memory) k h) .result .way)
       go (To h) g = g h
       go Not g = tt
       go Bad g = tt
@@ -262,7 +268,7 @@ module _ (a : Area) where
       go : (b : Bool) → Refuses m (cond b (releaseOf a stays p (putOf m f i 0) k f) (end p Not m))
       go true =
           let t = releaseOf a stays p (putOf m f i 0) k f in
-          sure-leaves m (t .memory) (t .went .way) (release-sure k stays p (putOf m f i 0) f)
+          sure-leaves m (t .memory) (t .result .way) (release-sure k stays p (putOf m f i 0) f)
       go false = refl
 
   remove-refuses : (stays : Bool) (p : Pool) (m is : List ℕ) → Refuses m (removeOf a stays p m is)
@@ -276,19 +282,19 @@ module _ (a : Area) where
       go Bad = tt
 
 -- ---- a change of the mapping
-record ChangeKept (c : Config) (m : List ℕ) (t : Changed) : Type 0 where
+record ChangeKept (c : Config) (m : List ℕ) (t : After Change) : Type 0 where
   same : SameOutside 0 (c .hosts) m (t .memory)
-  numbered : t .change .refusal ≢ 0 → Numbered (t .change .refusal)
-  whole : t .change .refusal ≢ 0 → t .change .refusal ≢ 11 → t .memory ≡ m
+  numbered : t .result .refusal ≢ 0 → Numbered (t .result .refusal)
+  whole : t .result .refusal ≢ 0 → t .result .refusal ≢ 11 → t .memory ≡ m
 
 module _ (c : Config) (p : Pool) (m : List ℕ) where
   stay-kept : (n : ℕ) → Numbered n → ChangeKept c m (changed p n m)
   stay-kept n l = record { same = out-refl 0 (c .hosts) m; numbered = λ z. l; whole = λ z e. refl }
 
-  change-kept : (n : ℕ) (t : End) → Numbered n → SameOutside 0 (c .hosts) m (t .memory) → Refuses m t → ChangeKept c m (changedBy p n t)
-  change-kept n t l x f = go (t .went .way) f
+  change-kept : (n : ℕ) (t : After Went) → Numbered n → SameOutside 0 (c .hosts) m (t .memory) → Refuses m t → ChangeKept c m (changedBy p n t)
+  change-kept n t l x f = go (t .result .way) f
     where
-      go : (w : Way) → NotLeaves m (t .memory) w → ChangeKept c m (changes (changeBy p (t .went .pool) n w) (t .memory))
+      go : (w : Way) → NotLeaves m (t .memory) w → ChangeKept c m (yields (changeBy p (t .result .pool) n w) (t .memory))
       go (To g) k = record { same = x; numbered = λ z. absurd (z refl); whole = λ z e. absurd (z refl) }
       go Not k = record { same = x; numbered = λ z. l; whole = λ z e. k }
       go Bad k = record { same = x; numbered = λ z. (omega arith, omega arith); whole = λ z e. absurd (e refl) }
@@ -297,7 +303,7 @@ module _ (c : Config) (p : Pool) (m : List ℕ) where
   unfolding mapOf
   map-kept room g f w = go (frameFits c g) (inGuestArea c f)
     where
-      t : End
+      t : After Went
       t = insertOf (hostArea c) [] p m (indexes (c .levels) g) (hostEntry f w)
 
       go : (a b : Bool) → ChangeKept c m (cond a (cond b (changedBy p 10 t) (changed p 9 m)) (changed p 8 m))
@@ -311,7 +317,7 @@ module _ (c : Config) (p : Pool) (m : List ℕ) where
   unfolding unmapOf
   unmap-kept room g = go (frameFits c g)
     where
-      t : End
+      t : After Went
       t = removeOf (hostArea c) true p m (indexes (c .levels) g)
 
       go : (a : Bool) → ChangeKept c m (cond a (changedBy p 12 t) (changed p 8 m))
@@ -339,20 +345,20 @@ number-in P xs a = go (firstFailed xs) refl
 
 module _ (r : Record) (m : List ℕ) where
   -- held paths are dropped, after the host tables may have changed
-  dropped-kept : (q : Record) (top : ℕ) (n : List ℕ) (o : Outcome) → configOf q ≡ configOf r → Tables r m n → SameOutside (r .hosts) (r .shadows) n (o .memory) → Kept r m (droppedBy r q top o)
-  dropped-kept q top n o k x y = go (o .left .ok)
+  dropped-kept : (q : Record) (top : ℕ) (n : List ℕ) (o : After Left) → configOf q ≡ configOf r → Tables r m n → SameOutside (r .hosts) (r .shadows) n (o .memory) → Kept r m (droppedBy r q top o)
+  dropped-kept q top n o k x y = go (o .result .ok)
     where
       all : Tables r m (o .memory)
       all = out-trans 0 (guestBase (configOf r)) m n (o .memory) (shadow-tables r n (o .memory) y) x
 
-      go : (b : Bool) → Kept r m (cond b (ended (withHeld q (o .left .pool) top) answer.Ok (o .memory)) (refused r 11 (o .memory)))
-      go true = guest-kept (held-layout q (o .left .pool) top ∙ k) all
+      go : (b : Bool) → Kept r m (cond b (ended (withHeld q (o .result .pool) top) answer.Ok (o .memory)) (refused r 11 (o .memory)))
+      go true = guest-kept (held-layout q (o .result .pool) top ∙ k) all
       go false = damage-kept r m (o .memory) all
 
   -- ---- load, store, device store
-  loaded-kept : (a : ℕ) (o : Out) → Tables r m (o .memory) → (w : Walked) → Kept r m (loadBy r a o w)
-  loaded-kept a o x (walked.Arrived t w n) = guest-kept (held-layout r (o .translated .pool) (o .translated .top)) x
-  loaded-kept a o x (walked.Faulted y n) = guest-kept (held-layout r (o .translated .pool) (o .translated .top)) x
+  loaded-kept : (a : ℕ) (o : After Translated) → Tables r m (o .memory) → (w : Walked) → Kept r m (loadBy r a o w)
+  loaded-kept a o x (walked.Arrived t w n) = guest-kept (held-layout r (o .result .pool) (o .result .top)) x
+  loaded-kept a o x (walked.Faulted y n) = guest-kept (held-layout r (o .result .pool) (o .result .top)) x
   loaded-kept a o x walked.Damaged = damage-kept r m (o .memory) x
 
   load-kept : (a : ℕ) → Kept r m (loadOf r m a)
@@ -360,17 +366,17 @@ module _ (r : Record) (m : List ℕ) where
   load-kept a =
       let o = translatedOf r m false a in
       judged-kept r m _ (λ f. tested-kept r m (addressOk r a) _ 4 (omega arith, omega arith)
-      (loaded-kept a o (shadow-tables r m (o .memory) (leaves r (length m) f m false a o refl .same)) (o .translated .walked)))
+      (loaded-kept a o (shadow-tables r m (o .memory) (leaves r (length m) f m false a o refl .same)) (o .result .walked)))
 
   -- a store that came to word i of host frame t; n is the memory after its translation
   written-kept : Fits r (length m) → (top k x : ℕ) (n : List ℕ) (p : Pool) (t i v : ℕ) → Tables r m n → p .fresh ≤ r .shadows → InGuestArea (configOf r) t → i < 512
       → Kept r m (writtenBy r top k x (storeOf (configOf r) n p t i v))
-  written-kept f top k x n p t i v y h g l = go (s .put .ok) (store-leaves (configOf r) n p t i v h .same)
+  written-kept f top k x n p t i v y h g l = go (s .result .ok) (store-leaves (configOf r) n p t i v h .same)
     where
       c : Config
       c = configOf r
 
-      s : Stored
+      s : After Put
       s = storeOf c n p t i v
 
       inside : place c t i < length (guestArea r m)
@@ -379,9 +385,9 @@ module _ (r : Record) (m : List ℕ) where
           omega (arith, e, g .0, g .1, f .long, f .sizes .whole)
 
       go : (b : Bool) → SameOutside (r .hosts) (r .shadows) (cond b (setIn n t i v) n) (s .memory)
-          → Kept r m (cond b (ended (withHeld r (s .put .pool) top) (answer.Done k (x + s .put .exits)) (s .memory)) (refused r 11 (s .memory)))
+          → Kept r m (cond b (ended (withHeld r (s .result .pool) top) (answer.Done k (x + s .result .exits)) (s .memory)) (refused r 11 (s .memory)))
       go true z = record {
-        layout = held-layout r (s .put .pool) top;
+        layout = held-layout r (s .result .pool) top;
         long = z .long ∙ length-set n (at t i) v ∙ y .long;
         place = place c t i;
         word = v;
@@ -391,10 +397,10 @@ module _ (r : Record) (m : List ℕ) where
       }
       go false z = damage-kept r m (s .memory) (out-trans 0 (guestBase c) m n (s .memory) (shadow-tables r n (s .memory) z) y)
 
-  stored-kept : Fits r (length m) → (a v : ℕ) (o : Out) → Tables r m (o .memory) → o .translated .pool .fresh ≤ r .shadows → (w : Walked) → ArrivedIn (configOf r) w → Kept r m (storeBy r a v o w)
+  stored-kept : Fits r (length m) → (a v : ℕ) (o : After Translated) → Tables r m (o .memory) → o .result .pool .fresh ≤ r .shadows → (w : Walked) → ArrivedIn (configOf r) w → Kept r m (storeBy r a v o w)
   stored-kept f a v o x h (walked.Arrived t w n) g =
-      written-kept f (o .translated .top) n (o .translated .exits) (o .memory) (o .translated .pool) (t .0) (wordOf a) v x h g (word-fits a)
-  stored-kept f a v o x h (walked.Faulted y n) g = guest-kept (held-layout r (o .translated .pool) (o .translated .top)) x
+      written-kept f (o .result .top) n (o .result .exits) (o .memory) (o .result .pool) (t .0) (wordOf a) v x h g (word-fits a)
+  stored-kept f a v o x h (walked.Faulted y n) g = guest-kept (held-layout r (o .result .pool) (o .result .top)) x
   stored-kept f a v o x h walked.Damaged g = damage-kept r m (o .memory) x
 
   store-kept : (a v : ℕ) → Kept r m (storeCall r m a v)
@@ -403,7 +409,7 @@ module _ (r : Record) (m : List ℕ) where
       let o = translatedOf r m true a in
       judged-kept r m _ (λ f. tested-kept r m (addressOk r a) _ 4 (omega arith, omega arith)
       (let l = leaves r (length m) f m true a o refl in
-      stored-kept (fits-layout r (length m) f) a v o (shadow-tables r m (o .memory) (l .same)) (l .fresh) (o .translated .walked) (l .arrived)))
+      stored-kept (fits-layout r (length m) f) a v o (shadow-tables r m (o .memory) (l .same)) (l .fresh) (o .result .walked) (l .arrived)))
 
   device-kept : (a v : ℕ) → Kept r m (deviceCall r m a v)
   unfolding deviceCall
@@ -427,7 +433,7 @@ module _ (r : Record) (m : List ℕ) where
   unfolding unmappedOf
   unmapped-kept q n g k h x = go (eqb g (r .root))
     where
-      o : Outcome
+      o : After Left
       o = scanOf (configOf r) (Names (record { 0 = g })) (r .shadow) n
 
       go : (b : Bool) → Kept r m (cond b (ended (withHeld q noneOf 0) answer.Ok n) (droppedBy r q (r .top) o))
@@ -440,16 +446,16 @@ module _ (r : Record) (m : List ℕ) where
   mapped-kept p n g h x host.Damaged = damage-kept r m n x
 
   -- the mapping changed, or the refusal of the change
-  changed-kept : (t : Changed) (e : Ended) → ChangeKept (configOf r) m t → (Tables r m (t .memory) → Kept r m e) → Kept r m (cond (eqb (t .change .refusal) 0) e (refused r (t .change .refusal) (t .memory)))
-  changed-kept t e k f = go (eqb (t .change .refusal) 0) refl
+  changed-kept : (t : After Change) (e : After Reply) → ChangeKept (configOf r) m t → (Tables r m (t .memory) → Kept r m e) → Kept r m (cond (eqb (t .result .refusal) 0) e (refused r (t .result .refusal) (t .memory)))
+  changed-kept t e k f = go (eqb (t .result .refusal) 0) refl
     where
       all : Tables r m (t .memory)
       all = host-tables r m (t .memory) (k .same)
 
-      go : (b : Bool) → eqb (t .change .refusal) 0 ≡ b → Kept r m (cond b e (refused r (t .change .refusal) (t .memory)))
+      go : (b : Bool) → eqb (t .result .refusal) 0 ≡ b → Kept r m (cond b e (refused r (t .result .refusal) (t .memory)))
       go true q = f all
       go false q =
-          let z = eqb-false (t .change .refusal) 0 q in
+          let z = eqb-false (t .result .refusal) 0 q in
           record { numbered = k .numbered z; unit = refl; guest = guest-kept refl all; whole = k .whole z }
 
   map-call-kept : (g f : ℕ) (w : Bool) → Kept r m (mapCall r m g f w)
@@ -458,7 +464,7 @@ module _ (r : Record) (m : List ℕ) where
       let t = mapOf (configOf r) (r .host) m g f w in
       judged-kept r m _ (λ e. let z = fits-layout r (length m) e in
       changed-kept t _ (map-kept (configOf r) (r .host) m (omega (arith, z .sizes .hosts)) g f w)
-      (λ x. mapped-kept (t .change .pool) (t .memory) g (z .shadow .0) x (hostWalkOf (configOf r) m g)))
+      (λ x. mapped-kept (t .result .pool) (t .memory) g (z .shadow .0) x (hostWalkOf (configOf r) m g)))
 
   unmap-call-kept : (g : ℕ) → Kept r m (unmapCall r m g)
   unfolding unmapCall
@@ -466,7 +472,7 @@ module _ (r : Record) (m : List ℕ) where
       let t = unmapOf (configOf r) (r .host) m g in
       judged-kept r m _ (λ e. let z = fits-layout r (length m) e in
       changed-kept t _ (unmap-kept (configOf r) (r .host) m (omega (arith, z .sizes .hosts)) g)
-      (λ x. mapped-kept (t .change .pool) (t .memory) g (z .shadow .0) x (hostWalkOf (configOf r) m g)))
+      (λ x. mapped-kept (t .result .pool) (t .memory) g (z .shadow .0) x (hostWalkOf (configOf r) m g)))
 
   -- ---- marks
   marked-kept : (x a n : ℕ) (t : Marks) → (x ≢ 0 → Numbered x) → Kept r m (judged r m (cond (eqb x 0) (markedOf r m a n t) (refused r x m)))
@@ -497,7 +503,7 @@ module _ (r : Record) (m : List ℕ) where
 -- ---- Demand 1. "Any request, with numbers, record and memory sound or spoiled, ends inside the memory lent with an answer, a named
 -- fault or a numbered refusal. A fault changes no guest word. A refusal changes nothing, but for the tables of a memory found
 -- damaged"
-pub demand-1 : (x : Call) (r : Record) (m : List ℕ) → Keeps r m (callOf x r m) (callOf x r m .reply .answer)
+pub demand-1 : (x : Call) (r : Record) (m : List ℕ) → Keeps r m (callOf x r m) (callOf x r m .result .answer)
 unfolding callOf
 demand-1 (root g) r m = root-kept r m g
 demand-1 (map g f w) r m = map-call-kept r m g f w
@@ -509,21 +515,21 @@ demand-1 (store a v) r m = store-kept r m a v
 demand-1 (device a v) r m = device-kept r m a v
 
 -- an opening: granted, it keeps the guest words; refused, it returns a record of zeros and leaves the memory
-abbrev pub OpenKeeps : List ℕ → ℕ → ℕ → Ended → Answer → Type 0
+abbrev pub OpenKeeps : List ℕ → ℕ → ℕ → After Reply → Answer → Type 0
 OpenKeeps m h s e answer.Ok = (length (e .memory) ≡ length m) × (drop (512 * (h + s)) (e .memory) ≡ drop (512 * (h + s)) m)
 OpenKeeps m h s e (answer.Value v n x) = ⊥
 OpenKeeps m h s e (answer.Done n x) = ⊥
 OpenKeeps m h s e (answer.Faulted y n x) = ⊥
-OpenKeeps m h s e (answer.Refused n) = ((n ≡ 1) ⊎ (n ≡ 2)) × (e .reply .unit ≡ zeros) × (e .memory ≡ m)
+OpenKeeps m h s e (answer.Refused n) = ((n ≡ 1) ⊎ (n ≡ 2)) × (e .result .unit ≡ zeros) × (e .memory ≡ m)
 
 open-numbers : (words h s : ℕ) → refusalOf words h s ≢ 0 → (refusalOf words h s ≡ 1) ⊎ (refusalOf words h s ≡ 2)
 unfolding refusalOf openRefusal
 open-numbers words h s = number-in (λ n. (n ≡ 1) ⊎ (n ≡ 2)) ((wordsFit words, 1) ∷ (areasFit (configBy words h s), 2) ∷ []) (inl refl, (inr refl, tt))
 
-pub demand-1-open : (m : List ℕ) (h s : ℕ) → OpenKeeps m h s (openCall m h s) (openCall m h s .reply .answer)
+pub demand-1-open : (m : List ℕ) (h s : ℕ) → OpenKeeps m h s (openCall m h s) (openCall m h s .result .answer)
 demand-1-open m h s = go (ℕ-discrete (refusalOf (length m) h s) 0)
   where
-    go : Dec (refusalOf (length m) h s ≡ 0) → OpenKeeps m h s (openCall m h s) (openCall m h s .reply .answer)
+    go : Dec (refusalOf (length m) h s ≡ 0) → OpenKeeps m h s (openCall m h s) (openCall m h s .result .answer)
     go (yes e) = rw (granted-call m h s e) (granted-long m h s e, granted-guest m h s e)
     go (no n) = rw (refused-call m h s n) (open-numbers (length m) h s n, refl, refl)
 
@@ -531,7 +537,7 @@ demand-1-open m h s = go (ℕ-discrete (refusalOf (length m) h s) 0)
 
 -- the memory that a call leaves is as long as the one lent
 pub same-length : (x : Call) (r : Record) (m : List ℕ) → length (callOf x r m .memory) ≡ length m
-same-length x r m = go (callOf x r m .reply .answer) (demand-1 x r m)
+same-length x r m = go (callOf x r m .result .answer) (demand-1 x r m)
   where
     go : (a : Answer) → Keeps r m (callOf x r m) a → length (callOf x r m .memory) ≡ length m
     go answer.Ok k = k .long
@@ -541,7 +547,7 @@ same-length x r m = go (callOf x r m .reply .answer) (demand-1 x r m)
     go (answer.Refused n) k = k .guest .long
 
 pub same-length-open : (m : List ℕ) (h s : ℕ) → length (openCall m h s .memory) ≡ length m
-same-length-open m h s = go (openCall m h s .reply .answer) (demand-1-open m h s)
+same-length-open m h s = go (openCall m h s .result .answer) (demand-1-open m h s)
   where
     go : (a : Answer) → OpenKeeps m h s (openCall m h s) a → length (openCall m h s .memory) ≡ length m
     go answer.Ok k = k .0
@@ -552,18 +558,18 @@ same-length-open m h s = go (openCall m h s .reply .answer) (demand-1-open m h s
 
 module _ (x : Call) (r : Record) (m : List ℕ) where
   -- "A fault changes no guest word"
-  pub fault-keeps : (y : Fault) (n k : ℕ) → callOf x r m .reply .answer ≡ answer.Faulted y n k → guestArea r (callOf x r m .memory) ≡ guestArea r m
+  pub fault-keeps : (y : Fault) (n k : ℕ) → callOf x r m .result .answer ≡ answer.Faulted y n k → guestArea r (callOf x r m .memory) ≡ guestArea r m
   fault-keeps y n k e = subst (Keeps r m (callOf x r m)) e (demand-1 x r m) .area
 
   -- "A refusal changes nothing"
-  pub refusal-keeps : (n : ℕ) → callOf x r m .reply .answer ≡ answer.Refused n → n ≢ 11 → callOf x r m ≡ refused r n m
+  pub refusal-keeps : (n : ℕ) → callOf x r m .result .answer ≡ answer.Refused n → n ≢ 11 → callOf x r m ≡ refused r n m
   refusal-keeps n e z =
       let k : RefusalKept r m (callOf x r m) n = subst (Keeps r m (callOf x r m)) e (demand-1 x r m) in
       let u = callOf x r m in
-      ap (λ q. ended q (u .reply .answer) (u .memory)) (k .unit) ∙ ap (λ q. ended r q (u .memory)) e ∙ ap (refused r n) (k .whole z)
+      ap (λ q. ended q (u .result .answer) (u .memory)) (k .unit) ∙ ap (λ q. ended r q (u .memory)) e ∙ ap (refused r n) (k .whole z)
 
   -- "but for the tables of a memory found damaged"
-  pub damage-keeps : callOf x r m .reply .answer ≡ answer.Refused 11 → (callOf x r m .reply .unit ≡ r) × GuestKept r m (callOf x r m)
+  pub damage-keeps : callOf x r m .result .answer ≡ answer.Refused 11 → (callOf x r m .result .unit ≡ r) × GuestKept r m (callOf x r m)
   damage-keeps e =
       let k : RefusalKept r m (callOf x r m) 11 = subst (Keeps r m (callOf x r m)) e (demand-1 x r m) in
       (k .unit, k .guest)

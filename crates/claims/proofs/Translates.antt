@@ -33,7 +33,6 @@ use Rattle.laws.proofs.Keeps.{Valid, again, fill-valid}
 use Rattle.laws.proofs.Runs.{BookFits, fill-keeps}
 use Rattle.tree.proofs.Paths.{onto}
 use Rattle.tree.proofs.Whole.{Holds, Next}
-use Rattle.area.specs.Pool.{End}
 use Rattle.area.specs.declared.Pool.{Pool}
 use Rattle.host.specs.declared.HostWalk.{HostWalk}
 use Rattle.host.specs.declared.HostWalk.the-variants as host
@@ -55,19 +54,22 @@ use Rattle.drops.proofs.Held.{leafAt}
 use Rattle.drops.proofs.Find.{find-all}
 use Rattle.drops.proofs.Fill.{fill-is}
 use Rattle.drops.proofs.Valid.{framesAt, entryOf, entry-thin, valid-frame, inside-area, Stays, stays-same}
-use Rattle.request.specs.Translate.{Out, outs, translation, exitBy, pathIndexes, directOf, servedOf, servesOf, foundOf, foundBy, missedOf, missedBy, filledOf, fillBy, plainOf, translateOf}
+use Rattle.request.specs.Translate.{translation, exitBy, pathIndexes, directOf, servedOf, servesOf, foundOf, foundBy, missedOf, missedBy, filledOf, fillBy, plainOf, translateOf}
 use Rattle.unit.specs.Calls.{withHeld, depthAt, translatedOf}
 use Rattle.claims.proofs.Invariant.{longer, topBy, frames, Inv, stands}
 use Rattle.claims.proofs.Moves.{holds-pool, fits-held, maps-beside, shadow-drop, invariant, shadow-on, at-inv}
 use Rattle.claims.proofs.Paths.{path-upper, path-lower, walk-above, exit-is}
 use Rattle.claims.proofs.Found as found
+use Rattle.words.specs.After.{After, yields}
+use Rattle.area.specs.declared.Went.{Went}
+use Rattle.request.specs.declared.Translated.{Translated}
 
 -- what a translation on s leaves: the plain walk's result, the book's references and exits, and the book's next state
-pub record Translates (s : State) (r : Record) (m : List ℕ) (st : Bool) (a : ℕ) (k : Counted) (o : Out) : Type 0 where
+pub record Translates (s : State) (r : Record) (m : List ℕ) (st : Bool) (a : ℕ) (k : Counted) (o : After Translated) : Type 0 where
   pub pool : Pool
   pub top : ℕ
   pub memory : List ℕ
-  pub done : o ≡ outs (translation pool top (k .exits) (plainWalked ((plain (configOf r) (s .machine) st a) .result) (k .references))) memory
+  pub done : o ≡ yields (translation pool top (k .exits) (plainWalked ((plain (configOf r) (s .machine) st a) .result) (k .references))) memory
   pub next : Inv (record { config = configOf r; machine = s .machine; book = k .book }) (withHeld r pool top) memory
 
 -- ---- lists of held paths
@@ -201,17 +203,17 @@ module _ (s : State) (r : Record) (m : List ℕ) (inv : Inv s r m) (st : Bool) (
       go true k = stored deep refl k
 
   served-path : (h : Held) → deep ≤ c .levels → find path (s .book .held) ≡ some h → servesOf st deep (h .right) ≡ true
-      → Translates s r m st a (request c mach (s .book) st a deep) (outs (servedOf c m (r .shadow) (r .top) st a deep (frames r m (onto [] path)) (h .right) 0) m)
+      → Translates s r m st a (request c mach (s .book) st a deep) (yields (servedOf c m (r .shadow) (r .top) st a deep (frames r m (onto [] path)) (h .right) 0) m)
   served-path h low e sv =
       let g = held-granted h low e sv in
       let t = frames r m (onto [] path) in
       let d = trace w (directPart c st deep (t, h .right) (addressIndexes c a)) in
       let q = request-is low ∙ ap₂ (λ b x. shadowed c mach (s .book) st deep (addressIndexes c a) path b part x) (ap (serves st deep) e ∙ serves-is deep h ∙ sv) (g .0) in
-      subst (λ k. Translates s r m st a k (outs (servedOf c m (r .shadow) (r .top) st a deep t (h .right) 0) m)) (sym q) (record {
+      subst (λ k. Translates s r m st a k (yields (servedOf c m (r .shadow) (r .top) st a deep t (h .right) 0) m)) (sym q) (record {
         pool = r .shadow;
         top = r .top;
         memory = m;
-        done = ap (λ x. outs x m) (served-is m (found.memory-stands s r m inv) t (h .right) (r .shadow) (r .top) 0 low (g .1) (g .0));
+        done = ap (λ x. yields x m) (served-is m (found.memory-stands s r m inv) t (h .right) (r .shadow) (r .top) 0 low (g .1) (g .0));
         next = same-inv;
       })
 
@@ -234,7 +236,7 @@ module _ (s : State) (r : Record) (m : List ℕ) (inv : Inv s r m) (st : Bool) (
         top = r .top;
         memory = m;
         done = ap (missedBy c m (r .shadow) (r .top) (r .root) st a deep) (walked-is low ∙ ap (λ y. plainWalked y (part .count)) e)
-            ∙ ap (λ y. outs (translation (r .shadow) (r .top) 1 (plainWalked y (part .count))) m) (sym (f .0));
+            ∙ ap (λ y. yields (translation (r .shadow) (r .top) 1 (plainWalked y (part .count))) m) (sym (f .0));
         next = same-inv;
       })
 
@@ -365,16 +367,16 @@ module _ (s : State) (r : Record) (m : List ℕ) (inv : Inv s r m) (st : Bool) (
     unfolding filledOf
     filled-path sv =
         let l : deep ≤ c .levels = omega arith in
-        let f : End = fillOf c (r .shadow) m (r .root) path (entryFor t (ltb 0 deep) right) in
-        let way : fillBy c (r .shadow) (r .top) st a deep t right f (f .went .way) ≡ outs (servedOf c (placed .memory) (placed .pool) (r .top) st a deep t right 1) (placed .memory) =
-        ap (λ (x : End). fillBy c (r .shadow) (r .top) st a deep t right x (x .went .way)) (placed .done) in
-        subst (λ k. Translates s r m st a k (cond (ltb deep (c .levels)) (fillBy c (r .shadow) (r .top) st a deep t right f (f .went .way)) (outs (servedOf c m (r .shadow) t st a deep t right 1) m))) (sym (filled-count t right l sv e))
+        let f : After Went = fillOf c (r .shadow) m (r .root) path (entryFor t (ltb 0 deep) right) in
+        let way : fillBy c (r .shadow) (r .top) st a deep t right f (f .result .way) ≡ yields (servedOf c (placed .memory) (placed .pool) (r .top) st a deep t right 1) (placed .memory) =
+        ap (λ (x : After Went). fillBy c (r .shadow) (r .top) st a deep t right x (x .result .way)) (placed .done) in
+        subst (λ k. Translates s r m st a k (cond (ltb deep (c .levels)) (fillBy c (r .shadow) (r .top) st a deep t right f (f .result .way)) (yields (servedOf c m (r .shadow) t st a deep t right 1) m))) (sym (filled-count t right l sv e))
         (record {
           pool = placed .pool;
           top = r .top;
           memory = placed .memory;
-          done = ap (λ b. cond b (fillBy c (r .shadow) (r .top) st a deep t right f (f .went .way)) (outs (servedOf c m (r .shadow) t st a deep t right 1) m)) (lt-ltb deep (c .levels) low)
-              ∙ way ∙ ap (λ x. outs x (placed .memory)) (served-is (placed .memory) memory-stands t right (placed .pool) (r .top) 1 l (new-here t right e .1) e);
+          done = ap (λ b. cond b (fillBy c (r .shadow) (r .top) st a deep t right f (f .result .way)) (yields (servedOf c m (r .shadow) t st a deep t right 1) m)) (lt-ltb deep (c .levels) low)
+              ∙ way ∙ ap (λ x. yields x (placed .memory)) (served-is (placed .memory) memory-stands t right (placed .pool) (r .top) 1 l (new-here t right e .1) e);
           next = filled-next;
         })
 
@@ -422,14 +424,14 @@ module _ (s : State) (r : Record) (m : List ℕ) (inv : Inv s r m) (st : Bool) (
         → Translates s r m st a (request c mach (s .book) st a deep) (filledOf c m (r .shadow) (r .top) (r .root) st a deep t right)
     unfolding filledOf
     top-path sv =
-        let f : End = fillOf c (r .shadow) m (r .root) path (entryFor t (ltb 0 deep) right) in
-        subst (λ k. Translates s r m st a k (cond (ltb deep (c .levels)) (fillBy c (r .shadow) (r .top) st a deep t right f (f .went .way)) (outs (servedOf c m (r .shadow) t st a deep t right 1) m))) (sym (filled-count t right low sv e))
+        let f : After Went = fillOf c (r .shadow) m (r .root) path (entryFor t (ltb 0 deep) right) in
+        subst (λ k. Translates s r m st a k (cond (ltb deep (c .levels)) (fillBy c (r .shadow) (r .top) st a deep t right f (f .result .way)) (yields (servedOf c m (r .shadow) t st a deep t right 1) m))) (sym (filled-count t right low sv e))
         (record {
           pool = r .shadow;
           top = t;
           memory = m;
-          done = ap (λ b. cond b (fillBy c (r .shadow) (r .top) st a deep t right f (f .went .way)) (outs (servedOf c m (r .shadow) t st a deep t right 1) m)) (le-ltb deep (c .levels) high)
-              ∙ ap (λ x. outs x m) (served-is m (found.memory-stands s r m inv) t right (r .shadow) t 1 low (new-here t right e .1) e);
+          done = ap (λ b. cond b (fillBy c (r .shadow) (r .top) st a deep t right f (f .result .way)) (yields (servedOf c m (r .shadow) t st a deep t right 1) m)) (le-ltb deep (c .levels) high)
+              ∙ ap (λ x. yields x m) (served-is m (found.memory-stands s r m inv) t right (r .shadow) t 1 low (new-here t right e .1) e);
           next = top-next;
         })
 
@@ -481,15 +483,15 @@ module _ (s : State) (r : Record) (m : List ℕ) (inv : Inv s r m) (st : Bool) (
         where
           by : (b : Bool) → servesOf st deep (h .right) ≡ b
               → Translates s r m st a (request c mach (s .book) st a deep)
-              (cond (servesOf st deep (h .right)) (outs (servedOf c m (r .shadow) (r .top) st a deep (frames r m (onto [] path)) (h .right) 0) m) (missedOf c m (r .shadow) (r .top) (r .root) st a deep))
+              (cond (servesOf st deep (h .right)) (yields (servedOf c m (r .shadow) (r .top) st a deep (frames r m (onto [] path)) (h .right) 0) m) (missedOf c m (r .shadow) (r .top) (r .root) st a deep))
           by true q = subst (λ b. Translates s r m st a (request c mach (s .book) st a deep)
-              (cond b (outs (servedOf c m (r .shadow) (r .top) st a deep (frames r m (onto [] path)) (h .right) 0) m) (missedOf c m (r .shadow) (r .top) (r .root) st a deep))) (sym q) (served-path h low e q)
+              (cond b (yields (servedOf c m (r .shadow) (r .top) st a deep (frames r m (onto [] path)) (h .right) 0) m) (missedOf c m (r .shadow) (r .top) (r .root) st a deep))) (sym q) (served-path h low e q)
           by false q = subst (λ b. Translates s r m st a (request c mach (s .book) st a deep)
-              (cond b (outs (servedOf c m (r .shadow) (r .top) st a deep (frames r m (onto [] path)) (h .right) 0) m) (missedOf c m (r .shadow) (r .top) (r .root) st a deep))) (sym q)
+              (cond b (yields (servedOf c m (r .shadow) (r .top) st a deep (frames r m (onto [] path)) (h .right) 0) m) (missedOf c m (r .shadow) (r .top) (r .root) st a deep))) (sym q)
               (missed-path low (ap (serves st deep) e ∙ serves-is deep h ∙ q))
 
   -- at depth N + 1 "nothing is shadowed"
-  plain-translates : c .levels < deep → Translates s r m st a (request c mach (s .book) st a deep) (outs (plainOf c m (r .shadow) (r .top) (r .root) st a) m)
+  plain-translates : c .levels < deep → Translates s r m st a (request c mach (s .book) st a deep) (yields (plainOf c m (r .shadow) (r .top) (r .root) st a) m)
   unfolding plainOf request plain
   plain-translates high =
       let p = trace w (walk c st (mach .root) (addressIndexes c a)) in
@@ -498,15 +500,15 @@ module _ (s : State) (r : Record) (m : List ℕ) (inv : Inv s r m) (st : Bool) (
       ∙ root-walked c mach m (found.memory-stands s r m inv) st (mach .root) (addressIndexes c a) (found.root-small s r m inv) (indexes-all (c .levels) (pageOf a)) in
       let b : leb deep (c .levels) ≡ false = is-false (leb deep (c .levels)) (λ z. let k = leb→le deep (c .levels) z in omega arith) in
       let is = addressIndexes c a in
-      subst (λ k. Translates s r m st a k (outs (plainOf c m (r .shadow) (r .top) (r .root) st a) m))
+      subst (λ k. Translates s r m st a k (yields (plainOf c m (r .shadow) (r .top) (r .root) st a) m))
       (sym (ap (λ t. cond t (shadowed c mach (s .book) st deep is (upper c deep is) (serves st deep (find (upper c deep is) (s .book .held)))
       (trace w (walk c st (mach .root) (upper c deep is))) ((trace w (walk c st (mach .root) (upper c deep is))) .result)) (unshadowed (s .book) p)) b))
       (record {
         pool = r .shadow;
         top = r .top;
         memory = m;
-        done = ap (λ x. outs (translation (r .shadow) (r .top) (exitBy x) x) m) q
-            ∙ ap (λ x. outs (translation (r .shadow) (r .top) x (plainWalked (p .result) (p .count))) m) (exit-is (p .result) (p .count));
+        done = ap (λ x. yields (translation (r .shadow) (r .top) (exitBy x) x) m) q
+            ∙ ap (λ x. yields (translation (r .shadow) (r .top) x (plainWalked (p .result) (p .count))) m) (exit-is (p .result) (p .count));
         next = same-inv;
       })
 
@@ -519,10 +521,10 @@ module _ (s : State) (r : Record) (m : List ℕ) (inv : Inv s r m) (st : Bool) (
     where
       go : (b : Bool) → leb deep (c .levels) ≡ b
           → Translates s r m st a (request c mach (s .book) st a deep)
-          (cond (leb deep (c .levels)) (foundBy c m (r .shadow) (r .top) (r .root) st a deep (foundOf c m (r .shadow .fresh) (r .top) a deep)) (outs (plainOf c m (r .shadow) (r .top) (r .root) st a) m))
+          (cond (leb deep (c .levels)) (foundBy c m (r .shadow) (r .top) (r .root) st a deep (foundOf c m (r .shadow .fresh) (r .top) a deep)) (yields (plainOf c m (r .shadow) (r .top) (r .root) st a) m))
       go true q = subst (λ b. Translates s r m st a (request c mach (s .book) st a deep)
-          (cond b (foundBy c m (r .shadow) (r .top) (r .root) st a deep (foundOf c m (r .shadow .fresh) (r .top) a deep)) (outs (plainOf c m (r .shadow) (r .top) (r .root) st a) m))) (sym q)
+          (cond b (foundBy c m (r .shadow) (r .top) (r .root) st a deep (foundOf c m (r .shadow .fresh) (r .top) a deep)) (yields (plainOf c m (r .shadow) (r .top) (r .root) st a) m))) (sym q)
           (path-translates (leb→le deep (c .levels) (subst T (sym q) tt)))
       go false q = subst (λ b. Translates s r m st a (request c mach (s .book) st a deep)
-          (cond b (foundBy c m (r .shadow) (r .top) (r .root) st a deep (foundOf c m (r .shadow .fresh) (r .top) a deep)) (outs (plainOf c m (r .shadow) (r .top) (r .root) st a) m))) (sym q)
+          (cond b (foundBy c m (r .shadow) (r .top) (r .root) st a deep (foundOf c m (r .shadow .fresh) (r .top) a deep)) (yields (plainOf c m (r .shadow) (r .top) (r .root) st a) m))) (sym q)
           (plain-translates (nleb→lt deep (c .levels) (subst (λ b. T (not b)) (sym q) tt)))

@@ -41,9 +41,11 @@ use Rattle.walk.proofs.Laws.{walked-done}
 use Rattle.record.specs.declared.Record.{Record}
 use Rattle.record.specs.Record.{configOf}
 use Rattle.shadow.specs.Held.{heldOf}
-use Rattle.request.specs.Translate.{Out, outs, translation, exitBy, pathIndexes, directOf, servedOf, servesOf, foundOf, foundBy, missedOf, plainOf, translateOf}
+use Rattle.request.specs.Translate.{translation, exitBy, pathIndexes, directOf, servedOf, servesOf, foundOf, foundBy, missedOf, plainOf, translateOf}
 use Rattle.unit.specs.Calls.{depthAt, translatedOf}
 use Rattle.claims.specs.Counted.{Word, SameWords, hostWords, walkWords, pathWords, directWords, countedOf}
+use Rattle.words.specs.After.{After, yields}
+use Rattle.request.specs.declared.Translated.{Translated}
 
 -- ---- lists of words
 
@@ -301,18 +303,18 @@ module _ (r : Record) (st : Bool) (a : ℕ) where
       go false q = refl
 
   -- what it leaves on a memory
-  abbrev pub left : Walked → List ℕ → Out
-  left x m = outs (translation (r .shadow) (r .top) (exitBy x) x) m
+  abbrev pub left : Walked → List ℕ → After Translated
+  left x m = yields (translation (r .shadow) (r .top) (exitBy x) x) m
 
   held-is : (m : List ℕ) (t : HostPhysical) (w : Bool) → d ≤ c .levels → foundIn m ≡ hosts.Found t w → servesOf st d w ≡ true
       → translatedOf r m st a ≡ left (walkedOf c m (c .levels - d) (direct (t .0) w)) m
   unfolding translatedOf translateOf servedOf directOf
   held-is m t w l f s =
-      ap (λ b. cond b (foundBy c m (r .shadow) (r .top) (r .root) st a d (foundIn m)) (outs (plainOf c m (r .shadow) (r .top) (r .root) st a) m)) (is-true (leb d (c .levels)) (le→leb d (c .levels) l))
+      ap (λ b. cond b (foundBy c m (r .shadow) (r .top) (r .root) st a d (foundIn m)) (yields (plainOf c m (r .shadow) (r .top) (r .root) st a) m)) (is-true (leb d (c .levels)) (le→leb d (c .levels) l))
       ∙ ap (foundBy c m (r .shadow) (r .top) (r .root) st a d) f
-      ∙ ap (λ b. cond b (outs (servedOf c m (r .shadow) (r .top) st a d (t .0) w 0) m) (missedOf c m (r .shadow) (r .top) (r .root) st a d)) s
-      ∙ ap (λ k. outs (translation (r .shadow) (r .top) (0 + exitBy (on k)) (on k)) m) (zero-add d)
-      ∙ ap (λ e. outs (translation (r .shadow) (r .top) e (on d)) m) (zero-add (exitBy (on d)))
+      ∙ ap (λ b. cond b (yields (servedOf c m (r .shadow) (r .top) st a d (t .0) w 0) m) (missedOf c m (r .shadow) (r .top) (r .root) st a d)) s
+      ∙ ap (λ k. yields (translation (r .shadow) (r .top) (0 + exitBy (on k)) (on k)) m) (zero-add d)
+      ∙ ap (λ e. yields (translation (r .shadow) (r .top) e (on d)) m) (zero-add (exitBy (on d)))
     where
       on : ℕ → Walked
       on k = walkedOf c m (c .levels - d) (levels c st k (t .0) w (indexes d (pageOf a)))
@@ -320,7 +322,7 @@ module _ (r : Record) (st : Bool) (a : ℕ) where
   plain-is : (m : List ℕ) → c .levels < d → translatedOf r m st a ≡ left (walkedOf c m 0 whole) m
   unfolding translatedOf translateOf plainOf
   plain-is m l =
-      ap (λ b. cond b (foundBy c m (r .shadow) (r .top) (r .root) st a d (foundIn m)) (outs (plainOf c m (r .shadow) (r .top) (r .root) st a) m))
+      ap (λ b. cond b (foundBy c m (r .shadow) (r .top) (r .root) st a d (foundIn m)) (yields (plainOf c m (r .shadow) (r .top) (r .root) st a) m))
       (is-false (leb d (c .levels)) (λ z. let k = leb→le d (c .levels) z in omega arith))
 
   -- the words that it counts

@@ -33,8 +33,10 @@ use Rattle.walk.specs.Memory.{placeOf}
 use Rattle.record.specs.declared.Record.{Record}
 use Rattle.record.specs.Record.{configOf}
 use Rattle.request.specs.Translate.{pathIndexes, foundOf}
-use Rattle.unit.specs.Calls.{Ended, depthAt, translatedOf, storeCall}
+use Rattle.unit.specs.Calls.{depthAt, translatedOf, storeCall}
 use Rattle.claims.specs.Run.{guestArea}
+use Rattle.words.specs.After.{After}
+use Rattle.unit.specs.declared.Reply.{Reply}
 
 -- a word: its host frame and its index
 abbrev pub Word : Type 0
@@ -84,7 +86,7 @@ touchedBy a walked.Damaged = []
 
 -- the word that a load loads or a store stores, if it is granted
 unfoldable pub touchedOf : Record → List ℕ → Bool → ℕ → List Word
-touchedOf r m st a = touchedBy a (translatedOf r m st a .translated .walked)
+touchedOf r m st a = touchedBy a (translatedOf r m st a .result .walked)
 
 -- "whose path is held or whose d is 5", on the book; a store's held path must not forbid the store
 unfoldable pub HeldOrPlain : Config → Book → Bool → ℕ → Type 0
@@ -103,14 +105,14 @@ References x (answer.Refused n) = Unit {0}
 
 -- a call on memory m is granted with k references and x exits and touches word i of host frame t: v stands there, and no other
 -- word of the guest area changes
-pub record Touches (r : Record) (m : List ℕ) (k x t i v : ℕ) (e : Ended) : Type 0 where
-  pub says : e .reply .answer ≡ answer.Done k x
+pub record Touches (r : Record) (m : List ℕ) (k x t i v : ℕ) (e : After Reply) : Type 0 where
+  pub says : e .result .answer ≡ answer.Done k x
   pub area : guestArea r (e .memory) ≡ set (guestArea r m) (place (configOf r) t i) v
 
 -- a call on memory m is refused with 11, and no word of the guest area changes
-pub record Refuses (r : Record) (m : List ℕ) (e : Ended) : Type 0 where
-  pub says : e .reply .answer ≡ answer.Refused 11
-  pub unit : e .reply .unit ≡ r
+pub record Refuses (r : Record) (m : List ℕ) (e : After Reply) : Type 0 where
+  pub says : e .result .answer ≡ answer.Refused 11
+  pub unit : e .result .unit ≡ r
   pub area : guestArea r (e .memory) ≡ guestArea r m
 
 -- no host or shadow word is altered

@@ -9,9 +9,11 @@ use Rattle.spec.specs.Call.{Call, root, map, unmap, setMark, clearMark, load, s
 use Rattle.spec.specs.Run.{State}
 use Rattle.record.specs.declared.Record.{Record}
 use Rattle.record.specs.Record.{configOf}
-use Rattle.unit.specs.Calls.{Ended, openCall, loadOf, storeCall, deviceCall, rootCall, mapCall, unmapCall, setMarkCall, clearMarkCall}
+use Rattle.unit.specs.Calls.{openCall, loadOf, storeCall, deviceCall, rootCall, mapCall, unmapCall, setMarkCall, clearMarkCall}
+use Rattle.words.specs.After.{After}
+use Rattle.unit.specs.declared.Reply.{Reply}
 
-unfoldable pub callOf : Call → Record → List ℕ → Ended
+unfoldable pub callOf : Call → Record → List ℕ → After Reply
 callOf (root g) r m = rootCall r m g
 callOf (map g f w) r m = mapCall r m g f w
 callOf (unmap g) r m = unmapCall r m g
@@ -29,17 +31,17 @@ guestArea r m = drop (512 * guestBase (configOf r)) m
 unfoldable pub unitRun : List Call → Record → List ℕ → List (Line × List ℕ)
 unitRun [] r m = []
 unitRun (x ∷ xs) r m =
-    let e : Ended = callOf x r m in
-    (line (e .reply .answer), guestArea (e .reply .unit) (e .memory)) ∷ unitRun xs (e .reply .unit) (e .memory)
+    let e : After Reply = callOf x r m in
+    (line (e .result .answer), guestArea (e .result .unit) (e .memory)) ∷ unitRun xs (e .result .unit) (e .memory)
 
 -- the record and the memory after a list of calls
-unfoldable pub unitAfter : List Call → Record → List ℕ → Ended → Ended
+unfoldable pub unitAfter : List Call → Record → List ℕ → After Reply → After Reply
 unitAfter [] r m e = e
-unitAfter (x ∷ xs) r m e = unitAfter xs (callOf x r m .reply .unit) (callOf x r m .memory) (callOf x r m)
+unitAfter (x ∷ xs) r m e = unitAfter xs (callOf x r m .result .unit) (callOf x r m .memory) (callOf x r m)
 
 -- after an opening and a list of calls
-abbrev pub runOf : List ℕ → ℕ → ℕ → List Call → Ended
-runOf m h s xs = let e : Ended = openCall m h s in unitAfter xs (e .reply .unit) (e .memory) e
+abbrev pub runOf : List ℕ → ℕ → ℕ → List Call → After Reply
+runOf m h s xs = let e : After Reply = openCall m h s in unitAfter xs (e .result .unit) (e .memory) e
 
 -- the specification's run as it is compared: each line with the machine's guest area after it
 abbrev pub machineRun : List (Line × State) → List (Line × List ℕ)

@@ -39,10 +39,12 @@ use Rattle.shadow.specs.declared.Cut.{Cut}
 use Rattle.shadow.specs.declared.Cut.the-variants.{Word, Names, Slot}
 use Rattle.shadow.specs.Held.{shadowArea}
 use Rattle.shadow.specs.Cut.{cutOf, kindOf}
-use Rattle.shadow.specs.Drop.{Outcome, outcome, scanOf, tableBy, tableNamed, holderFrom, dropPrefixOf}
+use Rattle.shadow.specs.Drop.{outcome, scanOf, tableBy, tableNamed, holderFrom, dropPrefixOf}
 use Rattle.drops.proofs.Scan.{under, kindAt, slot-kind, Cuts, Dropped, scan-drops}
 use Rattle.drops.proofs.Held.{leafAt, leaf-none, HeldEntries, leaves-are, cutWord, cutNames, cutPrefix, under-prefix, word-drop, names-drop, prefix-drop}
 use Rattle.drops.proofs.Watch.{guest-inside}
+use Rattle.words.specs.After.{After}
+use Rattle.shadow.specs.declared.Left.{Left}
 
 -- the guest frame that the guest entry at the end of a prefix names, by the words of memory
 unfoldable pub namedIn : List ℕ → (List ℕ → ℕ) → List ℕ → ℕ
@@ -52,7 +54,7 @@ namedIn m F (i ∷ q) = frameOf (wordIn m (F q) i)
 abbrev pub guestFrame : ℕ → GuestPhysical
 guestFrame g = record { 0 = g }
 
-pub dropped-leaves : {c : Config} {m : List ℕ} {lv guest : List ℕ → ℕ} {t : Outcome} (lw : List ℕ → ℕ) → ((y : List ℕ) → lv y ≡ lw y)
+pub dropped-leaves : {c : Config} {m : List ℕ} {lv guest : List ℕ → ℕ} {t : After Left} (lw : List ℕ → ℕ) → ((y : List ℕ) → lv y ≡ lw y)
     → Dropped c m lv guest t → Dropped c m lw guest t
 dropped-leaves {c = c} {m = m} {guest = guest} {t = t} lw e d = subst (λ l. Dropped c m l guest t) (λ i y. e y i) d
 

@@ -31,9 +31,10 @@ use Rattle.shadow.specs.declared.Cut.the-variants.{Word, Names, Slot}
 use Rattle.shadow.specs.declared.Above.the-variants.{Met, To}
 use Rattle.shadow.specs.Held.{shadowArea}
 use Rattle.shadow.specs.Cut.{isLeaf, kindOf, cutOf, lowOf, endOf, touchOf, aboveOf, upBy, upFrom}
-use Rattle.shadow.specs.Drop as drop
-use Rattle.shadow.specs.Drop.{Outcome, cleared, outcome, clearBy, goesOf, clearOne, clearFrom, settleOf, sweepOf, visitBy, visitOf, scanFrom, scanOf}
+use Rattle.shadow.specs.Drop.{outcome, clearBy, goesOf, clearOne, clearFrom, settledBy, settleOf, sweepOf, visitBy, visitOf, scanFrom, scanOf}
 use Rattle.shadow.proofs.Laws.{range-fits}
+use Rattle.words.specs.After.{After, yields}
+use Rattle.shadow.specs.declared.Left.{Left}
 
 -- is the entry at a path, or one above it, cut?
 abbrev pub under : (List ℕ → Bool) → List ℕ → Bool
@@ -170,10 +171,10 @@ module _ (c : Config) (x : Cut) (C : List ℕ → Bool) (guest : List ℕ → �
         go false h = h
 
   -- ---- leaves of the table of y are cleared: those from lo on, below hi, that are cut, or all
-  record Swept (p : Pool) (ts : List ℕ → Option ℕ) (lv : List ℕ → ℕ) (fl : List ℕ) (ps : List (List ℕ)) (y : List ℕ) (all : Bool) (lo hi : ℕ) (t : drop.Cleared) : Type 0 where
+  record Swept (p : Pool) (ts : List ℕ → Option ℕ) (lv : List ℕ → ℕ) (fl : List ℕ) (ps : List (List ℕ)) (y : List ℕ) (all : Bool) (lo hi : ℕ) (t : After Bool) : Type 0 where
     pub left : List ℕ → ℕ
     pub memory : List ℕ
-    pub done : t ≡ cleared true memory
+    pub done : t ≡ yields true memory
     pub now : Now p ts left fl ps memory
     pub but : ButAbove ts left y
     pub still : (z : List ℕ) → lv z ≡ 0 → left z ≡ 0
@@ -187,7 +188,7 @@ module _ (c : Config) (x : Cut) (C : List ℕ → Bool) (guest : List ℕ → �
     one-is {lv = lv} {m = m} s but i l =
         rw (kind-is (s .tables) (leaves-now s) y f i n t e l) (go (ts (i ∷ y)) refl (lv (i ∷ y)) refl)
       where
-        stay : (lv (i ∷ y) ≡ 0) ⊎ ((all ≡ false) × (C (i ∷ y) ≡ false)) → Swept p ts lv fl ps y all i (i + 1) (cleared true m)
+        stay : (lv (i ∷ y) ≡ 0) ⊎ ((all ≡ false) × (C (i ∷ y) ≡ false)) → Swept p ts lv fl ps y all i (i + 1) (yields true m)
         stay h = record {
           left = lv;
           memory = m;
@@ -204,7 +205,7 @@ module _ (c : Config) (x : Cut) (C : List ℕ → Bool) (guest : List ℕ → �
               | inr z ↦ elim q [ inl w ↦ differ (sym w ∙ z .0) | inr w ↦ differ (sym w ∙ z .1) ]
             ]
 
-        clear : ts (i ∷ y) ≡ none → under C (i ∷ y) ≡ true → Swept p ts lv fl ps y all i (i + 1) (cleared true (putOf m f i 0))
+        clear : ts (i ∷ y) ≡ none → under C (i ∷ y) ≡ true → Swept p ts lv fl ps y all i (i + 1) (yields true (putOf m f i 0))
         clear bare u = record {
           left = upd lv (i ∷ y) 0;
           memory = putOf m f i 0;
@@ -230,7 +231,7 @@ module _ (c : Config) (x : Cut) (C : List ℕ → Bool) (guest : List ℕ → �
             zero-still z q (yes k) = upd-on lv (i ∷ y) 0 z k
             zero-still z q (no k) = upd-other lv (i ∷ y) 0 z k ∙ q
 
-        leaf : ts (i ∷ y) ≡ none → (b d : Bool) → all ≡ b → C (i ∷ y) ≡ d → Swept p ts lv fl ps y all i (i + 1) (cleared true (cond (cond b true d) (putOf m f i 0) m))
+        leaf : ts (i ∷ y) ≡ none → (b d : Bool) → all ≡ b → C (i ∷ y) ≡ d → Swept p ts lv fl ps y all i (i + 1) (yields true (cond (cond b true d) (putOf m f i 0) m))
         leaf bare true d q k = clear bare (under-above C i y (a q))
         leaf bare false true q k = clear bare (under-here C i y k)
         leaf bare false false q k = stay (inr (q, k))
@@ -272,7 +273,7 @@ module _ (c : Config) (x : Cut) (C : List ℕ → Bool) (guest : List ℕ → �
         both j lo hi q lw g lx st h (no u) = h j (omega (arith, u)) (omega arith) q
 
   -- ---- what is left after some frames were visited
-  record Visited (p : Pool) (ts : List ℕ → Option ℕ) (lv : List ℕ → ℕ) (f : ℕ) (t : Outcome) : Type 0 where
+  record Visited (p : Pool) (ts : List ℕ → Option ℕ) (lv : List ℕ → ℕ) (f : ℕ) (t : After Left) : Type 0 where
     pub pool : Pool
     pub tabs : List ℕ → Option ℕ
     pub left : List ℕ → ℕ
@@ -322,7 +323,7 @@ module _ (c : Config) (x : Cut) (C : List ℕ → Bool) (guest : List ℕ → �
         go w = let u : c .levels - n ≡ length y = omega arith in rw (w .done, u) (next (release-is (w .now .tables) false y f t (w .but)))
           where
             next : (r : Released (shadowArea c) false p (w .memory) ts (w .left) guest (releaseOf (shadowArea c) false p (w .memory) (length y) f))
-                → Visited p ts lv f (let t = releaseOf (shadowArea c) false p (w .memory) (length y) f in drop.settledBy (t .went .way) (t .went .pool) (t .memory))
+                → Visited p ts lv f (let t = releaseOf (shadowArea c) false p (w .memory) (length y) f in settledBy (t .result .way) (t .result .pool) (t .memory))
             next r = rw (r .done) record {
               pool = r .pool;
               tabs = r .tabs;
@@ -396,7 +397,7 @@ module _ (c : Config) (x : Cut) (C : List ℕ → Bool) (guest : List ℕ → �
                         differ (sym (range j (index j z lv (s .tables .narrow) h) (subst (λ z. under C (j ∷ z) ≡ true) o v) .touched) ∙ q)
 
   -- ---- all frames
-  record Scanned (t : Outcome) : Type 0 where
+  record Scanned (t : After Left) : Type 0 where
     pub pool : Pool
     pub tabs : List ℕ → Option ℕ
     pub left : List ℕ → ℕ
@@ -438,7 +439,7 @@ module _ (c : Config) (x : Cut) (C : List ℕ → Bool) (guest : List ℕ → �
           seen y f j t l h (no q) = clean y f j (w .fewer y f t) (omega (arith, q)) (λ z. h (w .still (j ∷ y) z))
 
 -- ---- what a drop leaves, and what it does not touch
-pub record Dropped (c : Config) (m : List ℕ) (lv guest : List ℕ → ℕ) (t : Outcome) : Type 0 where
+pub record Dropped (c : Config) (m : List ℕ) (lv guest : List ℕ → ℕ) (t : After Left) : Type 0 where
   pub pool : Pool
   pub memory : List ℕ
   pub done : t ≡ outcome pool true memory

@@ -9,11 +9,11 @@ use Rattle.spec.specs.Answer.{letter, level, frame}
 use Rattle.area.specs.declared.Pool.{Pool}
 use Rattle.record.specs.declared.Record.{Record}
 use Rattle.unit.specs.declared.Reply.{Reply}
-use Rattle.unit.specs.Calls.{Ended}
 use Rattle.export.specs.declared.FlatPool.{FlatPool}
 use Rattle.export.specs.declared.FlatRecord.{FlatRecord}
 use Rattle.export.specs.declared.FlatAnswer.{FlatAnswer}
 use Rattle.export.specs.declared.FlatReply.{FlatReply}
+use Rattle.words.specs.After.{After, yields}
 
 -- what an area keeps, and back
 abbrev pub poolOf : FlatPool → Pool
@@ -63,13 +63,6 @@ answerOf (answer.Refused n) = said 4 n 0 0 0 0 0
 abbrev pub replyOf : Reply → FlatReply
 replyOf r = record { unit = flatOf (r .unit); answer = answerOf (r .answer) }
 
--- everything that an exported call leaves
-pub record Left : Type 0 where
-  pub reply : FlatReply
-  pub memory : List ℕ
-
-abbrev pub leaves : FlatReply → List ℕ → Left
-leaves r m = record { reply = r; memory = m }
-
-abbrev pub leftOf : Ended → Left
-leftOf e = leaves (replyOf (e .reply)) (e .memory)
+-- what an exported call leaves
+abbrev pub leftOf : After Reply → After FlatReply
+leftOf e = yields (replyOf (e .result)) (e .memory)

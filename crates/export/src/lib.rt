@@ -2,13 +2,14 @@
 // Nothing is asked of the caller but a memory of that many words at that place.
 ghost use mathlib.Core.Path.{_≡_};
 ghost use Rattle.unit.specs.Calls.{openCall, loadOf, storeCall, deviceCall, rootCall, mapCall, unmapCall, setMarkCall, clearMarkCall};
-ghost use Rattle.export.specs.Flat.{recordOf, flatOf, answerOf, replyOf, leaves, leftOf};
+ghost use Rattle.export.specs.Flat.{recordOf, flatOf, answerOf, replyOf, leftOf};
 use area::Pool;
 use marks::Marks;
 use record::Record;
 use spec::Answer;
 use spec::Fault;
 use unit::Reply;
+ghost use Rattle.words.specs.After.{yields};
 
 // What an area of tables keeps.
 #[repr(C)]
@@ -177,7 +178,7 @@ fn reply_of(r: Reply) -> FlatReply
 // Opens the memory: 1, 2.
 #[no_mangle]
 pub extern "C" fn cangrieb_open(mem: &mut [u64], hosts: u64, shadows: u64) -> FlatReply
-    ensures { λ r. ⌜ leaves r (now (mem .exit)) ≡ leftOf (openCall (now (mem .entry)) hosts shadows) ⌝ }
+    ensures { λ r. ⌜ yields r (now (mem .exit)) ≡ leftOf (openCall (now (mem .entry)) hosts shadows) ⌝ }
 {
     reply_of(unit::open(mem, hosts, shadows))
 }
@@ -185,7 +186,7 @@ pub extern "C" fn cangrieb_open(mem: &mut [u64], hosts: u64, shadows: u64) -> Fl
 // Loads a word: 3, 4, 11.
 #[no_mangle]
 pub extern "C" fn cangrieb_load(unit: FlatRecord, mem: &mut [u64], address: u64) -> FlatReply
-    ensures { λ r. ⌜ leaves r (now (mem .exit)) ≡ leftOf (loadOf (recordOf unit) (now (mem .entry)) address) ⌝ }
+    ensures { λ r. ⌜ yields r (now (mem .exit)) ≡ leftOf (loadOf (recordOf unit) (now (mem .entry)) address) ⌝ }
 {
     reply_of(unit::load(record_of(unit), mem, address))
 }
@@ -198,7 +199,7 @@ pub extern "C" fn cangrieb_store(
     address: u64,
     value: u64,
 ) -> FlatReply
-    ensures { λ r. ⌜ leaves r (now (mem .exit)) ≡ leftOf (storeCall (recordOf unit) (now (mem .entry)) address value) ⌝ }
+    ensures { λ r. ⌜ yields r (now (mem .exit)) ≡ leftOf (storeCall (recordOf unit) (now (mem .entry)) address value) ⌝ }
 {
     reply_of(unit::store(record_of(unit), mem, address, value))
 }
@@ -211,7 +212,7 @@ pub extern "C" fn cangrieb_device_store(
     address: u64,
     value: u64,
 ) -> FlatReply
-    ensures { λ r. ⌜ leaves r (now (mem .exit)) ≡ leftOf (deviceCall (recordOf unit) (now (mem .entry)) address value) ⌝ }
+    ensures { λ r. ⌜ yields r (now (mem .exit)) ≡ leftOf (deviceCall (recordOf unit) (now (mem .entry)) address value) ⌝ }
 {
     reply_of(unit::device_store(record_of(unit), mem, address, value))
 }
@@ -219,7 +220,7 @@ pub extern "C" fn cangrieb_device_store(
 // Another root; all held paths are dropped: 3, 8.
 #[no_mangle]
 pub extern "C" fn cangrieb_root(unit: FlatRecord, mem: &mut [u64], guest: u64) -> FlatReply
-    ensures { λ r. ⌜ leaves r (now (mem .exit)) ≡ leftOf (rootCall (recordOf unit) (now (mem .entry)) guest) ⌝ }
+    ensures { λ r. ⌜ yields r (now (mem .exit)) ≡ leftOf (rootCall (recordOf unit) (now (mem .entry)) guest) ⌝ }
 {
     reply_of(unit::load_root(record_of(unit), mem, guest))
 }
@@ -233,7 +234,7 @@ pub extern "C" fn cangrieb_map(
     frame: u64,
     writable: bool,
 ) -> FlatReply
-    ensures { λ r. ⌜ leaves r (now (mem .exit)) ≡ leftOf (mapCall (recordOf unit) (now (mem .entry)) guest frame writable) ⌝ }
+    ensures { λ r. ⌜ yields r (now (mem .exit)) ≡ leftOf (mapCall (recordOf unit) (now (mem .entry)) guest frame writable) ⌝ }
 {
     reply_of(unit::map(record_of(unit), mem, guest, frame, writable))
 }
@@ -241,7 +242,7 @@ pub extern "C" fn cangrieb_map(
 // Unmaps a guest frame: 3, 8, 12, 11.
 #[no_mangle]
 pub extern "C" fn cangrieb_unmap(unit: FlatRecord, mem: &mut [u64], guest: u64) -> FlatReply
-    ensures { λ r. ⌜ leaves r (now (mem .exit)) ≡ leftOf (unmapCall (recordOf unit) (now (mem .entry)) guest) ⌝ }
+    ensures { λ r. ⌜ yields r (now (mem .exit)) ≡ leftOf (unmapCall (recordOf unit) (now (mem .entry)) guest) ⌝ }
 {
     reply_of(unit::unmap(record_of(unit), mem, guest))
 }
@@ -254,7 +255,7 @@ pub extern "C" fn cangrieb_set_mark(
     address: u64,
     level: u64,
 ) -> FlatReply
-    ensures { λ r. ⌜ leaves r (now (mem .exit)) ≡ leftOf (setMarkCall (recordOf unit) (now (mem .entry)) address level) ⌝ }
+    ensures { λ r. ⌜ yields r (now (mem .exit)) ≡ leftOf (setMarkCall (recordOf unit) (now (mem .entry)) address level) ⌝ }
 {
     reply_of(unit::set_mark(record_of(unit), mem, address, level))
 }
@@ -267,7 +268,7 @@ pub extern "C" fn cangrieb_clear_mark(
     address: u64,
     level: u64,
 ) -> FlatReply
-    ensures { λ r. ⌜ leaves r (now (mem .exit)) ≡ leftOf (clearMarkCall (recordOf unit) (now (mem .entry)) address level) ⌝ }
+    ensures { λ r. ⌜ yields r (now (mem .exit)) ≡ leftOf (clearMarkCall (recordOf unit) (now (mem .entry)) address level) ⌝ }
 {
     reply_of(unit::clear_mark(record_of(unit), mem, address, level))
 }

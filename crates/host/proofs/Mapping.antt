@@ -20,7 +20,7 @@ use Rattle.laws.proofs.Lists.{All, is-true, is-false, both}
 use Rattle.area.specs.declared.Pool.{Pool}
 use Rattle.area.specs.declared.Way.the-variants.{To, Not, Bad}
 use Rattle.area.specs.declared.Look.the-variants.{Seen}
-use Rattle.area.specs.Pool.{link, End, end, noneOf}
+use Rattle.area.specs.Pool.{link, end, noneOf}
 use Rattle.area.specs.Tree.{lookOf, enterOf, insertOf}
 use Rattle.area.specs.Remove.{removeOf}
 use Rattle.tree.specs.Host.{hostEntry, entryBy, hostMap}
@@ -33,8 +33,11 @@ use Rattle.tree.proofs.Hosts.{Frames, entry-present, entry-writable, entry-fram
 use Rattle.host.specs.declared.HostWalk.{HostWalk}
 use Rattle.host.specs.declared.HostWalk.the-variants.{Found, Absent, Damaged}
 use Rattle.host.specs.Walk.{page, leafOf, hostBy, hostWalkOf}
-use Rattle.host.specs.Map.{hostArea, Changed, changes, changed, changeBy, changedBy, mapOf, unmapOf, Remap, maps, unmaps, remapOf, Remapped, remapsOf, asCall, mappedBy, mappingOnly, noBook, numberBy, mappingBy, Mapped, mapsOf}
+use Rattle.host.specs.Map.{hostArea, changed, changeBy, changedBy, mapOf, unmapOf, Remap, maps, unmaps, remapOf, Remapped, remapsOf, asCall, mappedBy, mappingOnly, noBook, numberBy, mappingBy, Mapped, mapsOf}
 use Rattle.host.proofs.Laws.{InGuestArea, in-guest-area}
+use Rattle.words.specs.After.{After, yields}
+use Rattle.area.specs.declared.Went.{Went}
+use Rattle.host.specs.declared.Change.{Change}
 
 -- what the mapping says of a guest frame, as the code has it; n: the words read where there is none
 abbrev pub answerBy : ℕ → Option Place → HostWalk
@@ -85,7 +88,7 @@ module _ (c : Config) (xs : List Mapping) (p : Pool) (m : List ℕ) (h : Maps c 
 -- ---- one change of the mapping
 
 -- what it leaves: n is the refusal, or 0
-pub record Step (c : Config) (ms : List Mapping) (p : Pool) (m : List ℕ) (n : ℕ) (t : Changed) : Type 0 where
+pub record Step (c : Config) (ms : List Mapping) (p : Pool) (m : List ℕ) (n : ℕ) (t : After Change) : Type 0 where
   pub pool : Pool
   pub memory : List ℕ
   pub done : t ≡ changed pool n memory
@@ -149,7 +152,7 @@ module _ (c : Config) (xs : List Mapping) (p : Pool) (m : List ℕ) (h : Maps c 
       room : ℕ
       room = hostTables c (with g f w xs)
 
-      t : Changed
+      t : After Change
       t = changedBy p 10 (insertOf (hostArea c) [] p m (indexes (c .levels) g) (hostEntry f w))
 
       out : Bool → Bool → Bool → Option ℕ
@@ -179,7 +182,7 @@ module _ (c : Config) (xs : List Mapping) (p : Pool) (m : List ℕ) (h : Maps c 
   unfolding unmapOf refusal tests
   unmap-is g = fits (frameFits c g) refl
     where
-      t : Changed
+      t : After Change
       t = changedBy p 12 (removeOf (hostArea c) true p m (indexes (c .levels) g))
 
       out : Bool → Bool → Option ℕ
@@ -230,12 +233,12 @@ remaps-are c ms p m (x ∷ xs) h =
     let n = refusal c (asCall x) (mappingOnly ms) noBook in
     let s = remap-is c ms p m h x in
     let t = remapOf c p m x in
-    let pool : s .pool ≡ t .change .pool = sym (ap (λ (y : Changed). y .change .pool) (s .done)) in
-    let memory : s .memory ≡ t .memory = sym (ap (λ (y : Changed). y .memory) (s .done)) in
-    let stands : Maps c (mappingBy n x ms) (t .change .pool) (t .memory) = subst (λ q. Maps c (mappingBy n x ms) q (t .memory)) pool (subst (Maps c (mappingBy n x ms) (s .pool)) memory (s .stands)) in
-    let ih = remaps-are c (mappingBy n x ms) (t .change .pool) (t .memory) xs stands in
+    let pool : s .pool ≡ t .result .pool = sym (ap (λ (y : After Change). y .result .pool) (s .done)) in
+    let memory : s .memory ≡ t .memory = sym (ap (λ (y : After Change). y .memory) (s .done)) in
+    let stands : Maps c (mappingBy n x ms) (t .result .pool) (t .memory) = subst (λ q. Maps c (mappingBy n x ms) q (t .memory)) pool (subst (Maps c (mappingBy n x ms) (s .pool)) memory (s .stands)) in
+    let ih = remaps-are c (mappingBy n x ms) (t .result .pool) (t .memory) xs stands in
     record {
-      refusals = ap₂ (λ a b. a ∷ b) (ap (λ (y : Changed). y .change .refusal) (s .done)) (ih .refusals);
+      refusals = ap₂ (λ a b. a ∷ b) (ap (λ (y : After Change). y .result .refusal) (s .done)) (ih .refusals);
       stands = ih .stands;
       beside = beside-trans (subst (Beside (hostArea c) m) memory (s .beside)) (ih .beside);
     }
@@ -259,11 +262,11 @@ unfolding hostMap get
 no-leaves c y = refl
 
 pub enter-maps : (c : Config) (m : List ℕ) → 0 < c .levels → c .levels < 8 → 0 < c .hosts → c .hosts ≤ 65536 → c .frames ≤ 65536 → c .hosts * 512 ≤ length m
-    → let t = enterOf (hostArea c) noneOf m 0 in Maps c [] (t .went .pool) (t .memory) × Beside (hostArea c) m (t .memory)
+    → let t = enterOf (hostArea c) noneOf m 0 in Maps c [] (t .result .pool) (t .memory) × Beside (hostArea c) m (t .memory)
 enter-maps c m deep flat one small few long =
     let o = holds-top (hostArea c) (λ y. 0) m (omega arith) flat (omega arith) deep one (omega arith) in
     let t = enterOf (hostArea c) noneOf m 0 in
-    let pool : o .pool ≡ t .went .pool = sym (ap (λ (y : End). y .went .pool) (o .done)) in
-    let memory : o .memory ≡ t .memory = sym (ap (λ (y : End). y .memory) (o .done)) in
+    let pool : o .pool ≡ t .result .pool = sym (ap (λ (y : After Went). y .result .pool) (o .done)) in
+    let memory : o .memory ≡ t .memory = sym (ap (λ (y : After Went). y .memory) (o .done)) in
     let h : Maps c [] (o .pool) (o .memory) = record { deep = deep; few = few; holds = holds-leaves (o .holds) (leaves (hostMap c [])) (no-leaves c); frames = tt; inside = tt } in
     (subst (λ q. Maps c [] q (t .memory)) pool (subst (Maps c [] (o .pool)) memory h), subst (Beside (hostArea c) m) memory (o .beside))

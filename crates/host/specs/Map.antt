@@ -14,25 +14,19 @@ use Rattle.area.specs.declared.Area.{Area}
 use Rattle.area.specs.declared.Pool.{Pool}
 use Rattle.area.specs.declared.Way.{Way}
 use Rattle.area.specs.declared.Way.the-variants.{To, Not, Bad}
-use Rattle.area.specs.Pool.{End}
 use Rattle.area.specs.Tree.{insertOf}
 use Rattle.area.specs.Remove.{removeOf}
 use Rattle.tree.specs.Host.{hostEntry}
 use Rattle.host.specs.declared.Change.{Change}
+use Rattle.words.specs.After.{After, yields}
+use Rattle.area.specs.declared.Went.{Went}
 
 -- the host tables: frames 0 to H, the top table in frame 0
 abbrev pub hostArea : Config → Area
 hostArea c = record { base = 0; size = c .hosts; levels = c .levels }
 
-pub record Changed : Type 0 where
-  pub change : Change
-  pub memory : List ℕ
-
-abbrev pub changes : Change → List ℕ → Changed
-changes r m = record { change = r; memory = m }
-
-abbrev pub changed : Pool → ℕ → List ℕ → Changed
-changed p n m = changes (record { pool = p; refusal = n }) m
+abbrev pub changed : Pool → ℕ → List ℕ → After Change
+changed p n m = yields (record { pool = p; refusal = n }) m
 
 -- what a step in the area came to; n: the refusal where it found nothing. A refusal leaves the pool
 abbrev pub changeBy : Pool → Pool → ℕ → Way → Change
@@ -40,11 +34,11 @@ changeBy before after n (To f) = record { pool = after; refusal = 0 }
 changeBy before after n Not = record { pool = before; refusal = n }
 changeBy before after n Bad = record { pool = before; refusal = 11 }
 
-abbrev pub changedBy : Pool → ℕ → End → Changed
-changedBy p n t = changes (changeBy p (t .went .pool) n (t .went .way)) (t .memory)
+abbrev pub changedBy : Pool → ℕ → After Went → After Change
+changedBy p n t = yields (changeBy p (t .result .pool) n (t .result .way)) (t .memory)
 
 -- "8; then 9 if the host frame is outside the guest area; then 10"
-unfoldable pub mapOf : Config → Pool → List ℕ → ℕ → ℕ → Bool → Changed
+unfoldable pub mapOf : Config → Pool → List ℕ → ℕ → ℕ → Bool → After Change
 mapOf c p m g f w =
     cond (frameFits c g)
     (cond (inGuestArea c f)
@@ -53,7 +47,7 @@ mapOf c p m g f w =
     (changed p 8 m)
 
 -- "8; then 12 if not mapped. Emptied host tables can be used again"
-unfoldable pub unmapOf : Config → Pool → List ℕ → ℕ → Changed
+unfoldable pub unmapOf : Config → Pool → List ℕ → ℕ → After Change
 unmapOf c p m g = cond (frameFits c g) (changedBy p 12 (removeOf (hostArea c) true p m (indexes (c .levels) g))) (changed p 8 m)
 
 -- ---- a list of maps and unmaps
@@ -62,7 +56,7 @@ pub data Remap : Type 0 where
   maps : ℕ → ℕ → Bool → Remap  -- guest frame, host frame, writable
   unmaps : ℕ → Remap
 
-unfoldable pub remapOf : Config → Pool → List ℕ → Remap → Changed
+unfoldable pub remapOf : Config → Pool → List ℕ → Remap → After Change
 remapOf c p m (maps g f w) = mapOf c p m g f w
 remapOf c p m (unmaps g) = unmapOf c p m g
 
@@ -75,9 +69,9 @@ pub record Remapped : Type 0 where
 unfoldable pub remapsOf : Config → Pool → List ℕ → List Remap → Remapped
 remapsOf c p m [] = record { refusals = []; pool = p; memory = m }
 remapsOf c p m (x ∷ xs) =
-    let t : Changed = remapOf c p m x in
-    let r : Remapped = remapsOf c (t .change .pool) (t .memory) xs in
-    record { refusals = t .change .refusal ∷ r .refusals; pool = r .pool; memory = r .memory }
+    let t : After Change = remapOf c p m x in
+    let r : Remapped = remapsOf c (t .result .pool) (t .memory) xs in
+    record { refusals = t .result .refusal ∷ r .refusals; pool = r .pool; memory = r .memory }
 
 -- the same on the specification's mapping, by its own tests
 abbrev pub asCall : Remap → Call

@@ -5,13 +5,14 @@ ghost use Rattle.spec.specs.Refusal.{inGuestArea};
 ghost use Rattle.spec.specs.Refusal.{frameFits};
 ghost use Rattle.tree.specs.Host.{hostEntry};
 ghost use Rattle.host.specs.Walk.{LayoutFits, config, leafOf, hostWalkOf};
-ghost use Rattle.host.specs.Map.{hostArea, changeBy, changes, mapOf, unmapOf};
+ghost use Rattle.host.specs.Map.{hostArea, changeBy, mapOf, unmapOf};
 use area::Area;
 use area::Look;
 use area::Pool;
 use area::Way;
 use entry::GuestPhysical;
 use entry::HostPhysical;
+ghost use Rattle.words.specs.After.{yields};
 
 // How the lent memory is laid out: levels of tables, host frames, shadow frames, frames in all.
 pub struct Layout {
@@ -140,7 +141,7 @@ pub fn map(
     writable: bool,
 ) -> Change
     requires { ⌜ (LayoutFits l) × (1 ≤ l .levels) ⌝ }
-    ensures { λ r. ⌜ changes r (now (mem .exit)) ≡ mapOf (config l) pool (now (mem .entry)) (g .0) (f .0) writable ⌝ }
+    ensures { λ r. ⌜ yields r (now (mem .exit)) ≡ mapOf (config l) pool (now (mem .entry)) (g .0) (f .0) writable ⌝ }
 {
     if frame_fits(l, g) {
         if in_guest_area(l, f.0) {
@@ -168,7 +169,7 @@ pub fn map(
 // A guest frame is unmapped, and emptied host tables can be used again: 8, 12, 11.
 pub fn unmap(mem: &mut [u64], l: Layout, pool: Pool, g: GuestPhysical) -> Change
     requires { ⌜ (LayoutFits l) × (1 ≤ l .levels) ⌝ }
-    ensures { λ r. ⌜ changes r (now (mem .exit)) ≡ unmapOf (config l) pool (now (mem .entry)) (g .0) ⌝ }
+    ensures { λ r. ⌜ yields r (now (mem .exit)) ≡ unmapOf (config l) pool (now (mem .entry)) (g .0) ⌝ }
 {
     if frame_fits(l, g) {
         let went = area::remove(tables(l), true, pool, mem, g.0, l.levels);

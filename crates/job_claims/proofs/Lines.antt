@@ -21,7 +21,7 @@ use Rattle.records.specs.declared.Call.the-variants as call
 use Rattle.records.specs.declared.Job.{Job}
 use Rattle.records.specs.declared.Job.the-variants as job
 use Rattle.jobs.specs.Run as jobs
-use Rattle.jobs.specs.Run.{After, runOf}
+use Rattle.jobs.specs.Run.{runOf}
 use Rattle.lines.specs.Text.{decimal, lineOf}
 use Rattle.claims.specs.Run as claims
 use Rattle.claims.proofs.Invariant.{Inv, at}
@@ -50,8 +50,8 @@ Stands (some k) o r m = (o ≡ true) × (k .config ≡ configOf r) × Inv k r m
 
 -- what the unit says to a record is what is said, and both go on alike
 record Alike (j : Job) (k : Option State) (o : Bool) (r : Record) (m : List ℕ) : Type 0 where
-  says : line (runOf o r m j .ran .answer) ≡ (said j m k) .0
-  stands : let a = runOf o r m j in Stands ((said j m k) .1) (a .ran .opened) (a .ran .unit) (a .memory)
+  says : line (runOf o r m j .result .answer) ≡ (said j m k) .0
+  stands : let a = runOf o r m j in Stands ((said j m k) .1) (a .result .opened) (a .result .unit) (a .memory)
 
 opens-alike : (h s : ℕ) (k : Option State) (o : Bool) (r : Record) (m : List ℕ) → Stands k o r m → Alike (job.Open h s) k o r m
 unfolding runOf
@@ -78,7 +78,7 @@ calls-alike x (some k) o r m i =
       stands = rw (i .0, same-call x r m) (
         refl,
         sym (f .config ∙ ap (λ u. u .1 .config) now),
-        subst (λ u. Inv (u .1) (claims.callOf (callFor x) r m .reply .unit) (claims.callOf (callFor x) r m .memory)) now (f .next),
+        subst (λ u. Inv (u .1) (claims.callOf (callFor x) r m .result .unit) (claims.callOf (callFor x) r m .memory)) now (f .next),
       );
     }
 
@@ -97,8 +97,8 @@ lines (j ∷ js) k o r m i =
     let a = runOf o r m j in
     let h = alike j k o r m i in
     ap₂ (λ x xs. x ∷ xs) (h .says)
-    (more (a .ran .more) (answers js (a .ran .opened) (a .ran .unit) (a .memory)) (saidAll js ((said j m k) .1) (a .ran .opened) (a .ran .unit) (a .memory))
-    (lines js ((said j m k) .1) (a .ran .opened) (a .ran .unit) (a .memory) (h .stands)))
+    (more (a .result .more) (answers js (a .result .opened) (a .result .unit) (a .memory)) (saidAll js ((said j m k) .1) (a .result .opened) (a .result .unit) (a .memory))
+    (lines js ((said j m k) .1) (a .result .opened) (a .result .unit) (a .memory) (h .stands)))
   where
     more : (b : Bool) (xs : List Answer) (ls : List Line) → map line xs ≡ ls → map line (cond b xs []) ≡ cond b ls []
     more true xs ls e = e

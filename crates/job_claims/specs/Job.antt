@@ -16,8 +16,10 @@ use Rattle.records.specs.declared.Call.{Call}
 use Rattle.records.specs.declared.Call.the-variants as call
 use Rattle.records.specs.declared.Job.{Job}
 use Rattle.records.specs.declared.Job.the-variants as job
-use Rattle.jobs.specs.Run.{After, runOf}
+use Rattle.jobs.specs.Run.{runOf}
 use Rattle.lines.specs.Text.{decimal, hexadecimal, number, pair, okText, valueText, doneText, faultText, noText, lineOf}
+use Rattle.words.specs.After.{After}
+use Rattle.jobs.specs.declared.Ran.{Ran}
 
 -- ---- the unit
 
@@ -25,8 +27,8 @@ use Rattle.lines.specs.Text.{decimal, hexadecimal, number, pair, okText, valueT
 unfoldable pub answers : List Job → Bool → Record → List ℕ → List Answer
 answers [] o r m = []
 answers (j ∷ js) o r m =
-    let a : After = runOf o r m j in
-    a .ran .answer ∷ cond (a .ran .more) (answers js (a .ran .opened) (a .ran .unit) (a .memory)) []
+    let a : After Ran = runOf o r m j in
+    a .result .answer ∷ cond (a .result .more) (answers js (a .result .opened) (a .result .unit) (a .memory)) []
 
 -- ---- machine and book
 
@@ -66,9 +68,9 @@ said job.Bad m o = (say.no 13, o)
 unfoldable pub saidAll : List Job → Option State → Bool → Record → List ℕ → List Line
 saidAll [] k o r m = []
 saidAll (j ∷ js) k o r m =
-    let a : After = runOf o r m j in
+    let a : After Ran = runOf o r m j in
     let u : Line × Option State = said j m k in
-    u .0 ∷ cond (a .ran .more) (saidAll js (u .1) (a .ran .opened) (a .ran .unit) (a .memory)) []
+    u .0 ∷ cond (a .result .more) (saidAll js (u .1) (a .result .opened) (a .result .unit) (a .memory)) []
 
 -- ---- bytes
 

@@ -6,25 +6,20 @@ use mathlib.Core.List.{List}
 use Rattle.spec.specs.declared.Answer.{Answer}
 use Rattle.spec.specs.declared.Answer.the-variants as answer
 use Rattle.record.specs.declared.Record.{Record}
-use Rattle.unit.specs.Calls.{Ended, openCall, loadOf, storeCall, deviceCall, rootCall, mapCall, unmapCall, setMarkCall, clearMarkCall}
+use Rattle.unit.specs.Calls.{openCall, loadOf, storeCall, deviceCall, rootCall, mapCall, unmapCall, setMarkCall, clearMarkCall}
 use Rattle.records.specs.declared.Call.{Call}
 use Rattle.records.specs.declared.Call.the-variants as call
 use Rattle.records.specs.declared.Job.{Job}
 use Rattle.records.specs.declared.Job.the-variants as job
 use Rattle.jobs.specs.declared.Ran.{Ran}
+use Rattle.words.specs.After.{After, yields}
+use Rattle.unit.specs.declared.Reply.{Reply}
 
--- everything that a record leaves
-pub record After : Type 0 where
-  pub ran : Ran
-  pub memory : List ℕ
+-- what a record leaves
+abbrev pub ran : Bool → Record → Answer → Bool → List ℕ → After Ran
+ran o r x more m = yields (record { opened = o; unit = r; answer = x; more = more }) m
 
-abbrev pub runs : Ran → List ℕ → After
-runs r m = record { ran = r; memory = m }
-
-abbrev pub leaves : Bool → Record → Answer → Bool → List ℕ → After
-leaves o r x more m = runs (record { opened = o; unit = r; answer = x; more = more }) m
-
-unfoldable pub callOf : Record → List ℕ → Call → Ended
+unfoldable pub callOf : Record → List ℕ → Call → After Reply
 callOf r m (call.Root g) = rootCall r m g
 callOf r m (call.Map g f w) = mapCall r m g f w
 callOf r m (call.Unmap g) = unmapCall r m g
@@ -42,16 +37,16 @@ isOk (answer.Faulted x r e) = false
 isOk (answer.Refused n) = false
 
 -- "A refused open keeps the unit's earlier record in use"
-abbrev pub openedBy : Bool → Record → Ended → After
+abbrev pub openedBy : Bool → Record → After Reply → After Ran
 openedBy o r e =
-    cond (isOk (e .reply .answer)) (leaves true (e .reply .unit) (e .reply .answer) true (e .memory))
-    (leaves o r (e .reply .answer) true (e .memory))
+    cond (isOk (e .result .answer)) (ran true (e .result .unit) (e .result .answer) true (e .memory))
+    (ran o r (e .result .answer) true (e .memory))
 
-abbrev pub calledBy : Ended → After
-calledBy e = leaves true (e .reply .unit) (e .reply .answer) true (e .memory)
+abbrev pub calledBy : After Reply → After Ran
+calledBy e = ran true (e .result .unit) (e .result .answer) true (e .memory)
 
 -- "13 and the end"; "Checked next: 3 for any kind but 1 before a granted open"
-unfoldable pub runOf : Bool → Record → List ℕ → Job → After
+unfoldable pub runOf : Bool → Record → List ℕ → Job → After Ran
 runOf o r m (job.Open h s) = openedBy o r (openCall m h s)
-runOf o r m (job.Call x) = cond o (calledBy (callOf r m x)) (leaves false r (answer.Refused 3) true m)
-runOf o r m job.Bad = leaves o r (answer.Refused 13) false m
+runOf o r m (job.Call x) = cond o (calledBy (callOf r m x)) (ran false r (answer.Refused 3) true m)
+runOf o r m job.Bad = ran o r (answer.Refused 13) false m

@@ -1,12 +1,13 @@
 // What a record of a job does to the unit.
 ghost use mathlib.Core.Path.{_≡_};
-ghost use Rattle.unit.specs.Calls.{ends, openCall};
-ghost use Rattle.jobs.specs.Run.{isOk, callOf, openedBy, runs, runOf};
+ghost use Rattle.unit.specs.Calls.{openCall};
+ghost use Rattle.jobs.specs.Run.{isOk, callOf, openedBy, runOf};
 use record::Record;
 use records::Call;
 use records::Job;
 use spec::Answer;
 use unit::Reply;
+ghost use Rattle.words.specs.After.{yields};
 
 // What a record leaves: whether an open was granted so far, the record in use, the answer, and whether the job goes on.
 pub struct Ran {
@@ -18,7 +19,7 @@ pub struct Ran {
 
 // The unit's call.
 fn run_call(unit: Record, mem: &mut [u64], call: Call) -> Reply
-    ensures { λ r. ⌜ ends r (now (mem .exit)) ≡ callOf unit (now (mem .entry)) call ⌝ }
+    ensures { λ r. ⌜ yields r (now (mem .exit)) ≡ callOf unit (now (mem .entry)) call ⌝ }
 {
     match call {
         Call::Root(g) => unit::load_root(unit, mem, g),
@@ -59,7 +60,7 @@ fn granted(answer: Answer) -> bool
 
 // Opens the memory; a refused open keeps the earlier record in use.
 fn run_open(opened: bool, unit: Record, mem: &mut [u64], hosts: u64, shadows: u64) -> Ran
-    ensures { λ r. ⌜ runs r (now (mem .exit)) ≡ openedBy opened unit (openCall (now (mem .entry)) hosts shadows) ⌝ }
+    ensures { λ r. ⌜ yields r (now (mem .exit)) ≡ openedBy opened unit (openCall (now (mem .entry)) hosts shadows) ⌝ }
 {
     let reply = unit::open(mem, hosts, shadows);
     let answer = reply.answer;
@@ -83,7 +84,7 @@ fn run_open(opened: bool, unit: Record, mem: &mut [u64], hosts: u64, shadows: u6
 
 // Runs one record: 13 and the end for a bad one, 3 for any kind but an open before a granted open, else the unit's call.
 pub fn run_job(opened: bool, unit: Record, mem: &mut [u64], job: Job) -> Ran
-    ensures { λ r. ⌜ runs r (now (mem .exit)) ≡ runOf opened unit (now (mem .entry)) job ⌝ }
+    ensures { λ r. ⌜ yields r (now (mem .exit)) ≡ runOf opened unit (now (mem .entry)) job ⌝ }
 {
     match job {
         Job::Open { hosts, shadows } => run_open(opened, unit, mem, hosts, shadows),

@@ -28,8 +28,9 @@ use Rattle.marks.specs.Reading.{marksOf}
 use Rattle.marks.proofs.Book.{keysOf, no-marks, none-ascend}
 use Rattle.record.specs.declared.Record.{Record}
 use Rattle.record.specs.Record.{levels, configBy, fitsOf, zeros}
-use Rattle.record.specs.Open.{refusalOf, clearedOf, enteredOf, firstOf, grantedOf, opens, granted, openOf}
+use Rattle.record.specs.Open.{refusalOf, clearedOf, enteredOf, firstOf, grantedOf, granted, openOf}
 use Rattle.record.proofs.Rules.{Sized, Fits, sized-layout, granted-tests, granted-sized, fits-true, zeros-refused}
+use Rattle.words.specs.After.{yields}
 
 -- ---- the refusal
 pub open-refusal : (words h s : ℕ) → refusalOf words h s ≢ 0 → openRefusal (configBy words h s) words ≡ some (refusalOf words h s)
@@ -47,11 +48,11 @@ module _ (m : List ℕ) (h s : ℕ) (refused : refusalOf (length m) h s ≢ 0) w
   unfolding opening
   refused-opening = rw (open-refusal (length m) h s refused)
 
-  pub refused-open : openOf m h s ≡ opens (record { unit = zeros; refusal = refusalOf (length m) h s }) m
+  pub refused-open : openOf m h s ≡ yields (record { unit = zeros; refusal = refusalOf (length m) h s }) m
   unfolding openOf
   refused-open = rw (ne-eqb _ _ refused)
 
-  pub refused-record : (len : ℕ) → fitsOf (openOf m h s .opened .unit) len ≡ false
+  pub refused-record : (len : ℕ) → fitsOf (openOf m h s .result .unit) len ≡ false
   refused-record len = rw refused-open (zeros-refused len)
 
 -- ---- clearing
@@ -72,7 +73,7 @@ module _ (m : List ℕ) (h s : ℕ) (grant : refusalOf (length m) h s ≡ 0) whe
   c = configBy (length m) h s
 
   abbrev unit : Record
-  unit = grantedOf m h s .unit
+  unit = grantedOf m h s .result
 
   abbrev memory : List ℕ
   memory = grantedOf m h s .memory

@@ -8,13 +8,15 @@ use lib.ListN.{length}
 use Rattle.spec.specs.Refusal.{openRefusal}
 use Rattle.words.specs.Words.{zeroed}
 use Rattle.area.specs.declared.Pool.{Pool}
-use Rattle.area.specs.Pool.{End, noneOf}
+use Rattle.area.specs.Pool.{noneOf}
 use Rattle.area.specs.Tree.{enterOf}
 use Rattle.host.specs.Map.{hostArea}
 use Rattle.marks.specs.Table.{tableOf, number}
 use Rattle.record.specs.declared.Record.{Record}
 use Rattle.record.specs.declared.Opened.{Opened}
 use Rattle.record.specs.Record.{configBy, zeros}
+use Rattle.words.specs.After.{After, yields}
+use Rattle.area.specs.declared.Went.{Went}
 
 -- the number with which an opening on that many words is refused, or 0
 unfoldable pub refusalOf : ℕ → ℕ → ℕ → ℕ
@@ -25,7 +27,7 @@ unfoldable pub clearedOf : List ℕ → ℕ → List ℕ
 clearedOf m n = zeroed m 0 (n * 512)
 
 -- the host tables' top table is handed out from the first host frame
-unfoldable pub enteredOf : List ℕ → ℕ → ℕ → End
+unfoldable pub enteredOf : List ℕ → ℕ → ℕ → After Went
 enteredOf m h s = enterOf (hostArea (configBy (length m) h s)) noneOf (clearedOf m (h + s)) 0
 
 -- "root 0, no marks"; no path is held
@@ -42,30 +44,16 @@ firstOf words h s p = record {
 }
 
 -- a record and the memory beside it
-pub record Kept : Type 0 where
-  pub unit : Record
-  pub memory : List ℕ
-
-abbrev pub kept : Record → List ℕ → Kept
-kept r m = record { unit = r; memory = m }
+-- what a granted opening leaves
+unfoldable pub grantedOf : List ℕ → ℕ → ℕ → After Record
+grantedOf m h s = let t = enteredOf m h s in yields (firstOf (length m) h s (t .result .pool)) (t .memory)
 
 -- what a granted opening leaves
-unfoldable pub grantedOf : List ℕ → ℕ → ℕ → Kept
-grantedOf m h s = let t = enteredOf m h s in kept (firstOf (length m) h s (t .went .pool)) (t .memory)
-
--- everything that an opening leaves
-pub record Opening : Type 0 where
-  pub opened : Opened
-  pub memory : List ℕ
-
-abbrev pub opens : Opened → List ℕ → Opening
-opens o m = record { opened = o; memory = m }
-
-abbrev pub granted : Kept → Opening
-granted k = opens (record { unit = k .unit; refusal = 0 }) (k .memory)
+abbrev pub granted : After Record → After Opened
+granted k = yields (record { unit = k .result; refusal = 0 }) (k .memory)
 
 -- "a refused one returns one of zeros"; it leaves every word
-unfoldable pub openOf : List ℕ → ℕ → ℕ → Opening
+unfoldable pub openOf : List ℕ → ℕ → ℕ → After Opened
 openOf m h s =
     let n = refusalOf (length m) h s in
-    cond (eqb n 0) (granted (grantedOf m h s)) (opens (record { unit = zeros; refusal = n }) m)
+    cond (eqb n 0) (granted (grantedOf m h s)) (yields (record { unit = zeros; refusal = n }) m)

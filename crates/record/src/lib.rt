@@ -12,7 +12,8 @@ ghost use Rattle.host.specs.Walk.{LayoutFits, config};
 ghost use Rattle.marks.specs.Key.{depthOf};
 ghost use Rattle.marks.specs.Table.{keys};
 ghost use Rattle.record.specs.Record.{layoutOf, configBy, heldTop, poolFits, sizesFit, tablesFit, recordOf, fitsOf, zeros, withRoot, withMarks};
-ghost use Rattle.record.specs.Open.{refusalOf, clearedOf, firstOf, kept, grantedOf, opens, openOf};
+ghost use Rattle.record.specs.Open.{refusalOf, clearedOf, firstOf, grantedOf, openOf};
+ghost use Rattle.words.specs.After.{yields};
 
 // Levels of the guest's tables and of the host's.
 pub const LEVELS: u64 = 4;
@@ -264,7 +265,7 @@ fn first(words: u64, hosts: u64, shadows: u64, host: Pool) -> Record
 // Host and shadow frames are cleared, and the top host table handed out.
 fn open_granted(mem: &mut [u64], hosts: u64, shadows: u64) -> Record
     requires { ⌜ hosts + shadows ≤ 65536 ⌝ }
-    ensures { λ r. ⌜ kept r (now (mem .exit)) ≡ grantedOf (now (mem .entry)) hosts shadows ⌝ }
+    ensures { λ r. ⌜ yields r (now (mem .exit)) ≡ grantedOf (now (mem .entry)) hosts shadows ⌝ }
 {
     let words = mem.len() as u64;
     clear_frames(mem, hosts + shadows);
@@ -280,7 +281,7 @@ fn open_granted(mem: &mut [u64], hosts: u64, shadows: u64) -> Record
 
 // The opening: 1, 2.
 pub fn open(mem: &mut [u64], hosts: u64, shadows: u64) -> Opened
-    ensures { λ r. ⌜ opens r (now (mem .exit)) ≡ openOf (now (mem .entry)) hosts shadows ⌝ }
+    ensures { λ r. ⌜ yields r (now (mem .exit)) ≡ openOf (now (mem .entry)) hosts shadows ⌝ }
 {
     let refusal = open_refusal(mem.len() as u64, hosts, shadows);
     if refusal == 0 {

@@ -11,7 +11,6 @@ use Rattle.spec.specs.Plain.{levels, walk}
 use Rattle.area.specs.declared.Pool.{Pool}
 use Rattle.area.specs.declared.Way.{Way}
 use Rattle.area.specs.declared.Way.the-variants.{To, Not, Bad}
-use Rattle.area.specs.Pool.{End}
 use Rattle.host.specs.declared.HostWalk.{HostWalk}
 use Rattle.host.specs.declared.HostWalk.the-variants as host
 use Rattle.host.specs.Walk.{page}
@@ -21,6 +20,8 @@ use Rattle.walk.specs.Memory.{walkedOf}
 use Rattle.shadow.specs.Held.{heldOf, entryFor}
 use Rattle.shadow.specs.Fill.{fillOf}
 use Rattle.request.specs.declared.Translated.{Translated}
+use Rattle.words.specs.After.{After, yields}
+use Rattle.area.specs.declared.Went.{Went}
 
 -- "1 for H or W"
 abbrev pub exitBy : Walked → ℕ
@@ -39,14 +40,7 @@ pathOf d a = pageOf a / 2 ^ (9 * d)
 abbrev pub pathIndexes : Config → ℕ → ℕ → List ℕ
 pathIndexes c d a = indexes (c .levels - d) (pathOf d a)
 
--- everything that a translation leaves
-pub record Out : Type 0 where
-  pub translated : Translated
-  pub memory : List ℕ
-
-abbrev pub outs : Translated → List ℕ → Out
-outs t m = record { translated = t; memory = m }
-
+-- a translation by its parts
 abbrev pub translation : Pool → ℕ → ℕ → Walked → Translated
 translation p top e r = record { pool = p; top = top; exits = e; walked = r }
 
@@ -67,33 +61,33 @@ unfoldable pub foundOf : Config → List ℕ → ℕ → ℕ → ℕ → ℕ →
 foundOf c m fresh top a d =
     cond (ltb d (c .levels)) (heldOf c m fresh (pathIndexes c d a)) (cond (eqb top 0) (host.Absent 0) (host.Found (page top) true))
 
-abbrev pub damaged : Pool → ℕ → List ℕ → Out
-damaged p top m = outs (translation p top 0 walked.Damaged) m
+abbrev pub damaged : Pool → ℕ → List ℕ → After Translated
+damaged p top m = yields (translation p top 0 walked.Damaged) m
 
-abbrev pub fillBy : Config → Pool → ℕ → Bool → ℕ → ℕ → ℕ → Bool → End → Way → Out
-fillBy c p top st a d t w s (To f) = outs (servedOf c (s .memory) (s .went .pool) top st a d t w 1) (s .memory)
+abbrev pub fillBy : Config → Pool → ℕ → Bool → ℕ → ℕ → ℕ → Bool → After Went → Way → After Translated
+fillBy c p top st a d t w s (To f) = yields (servedOf c (s .memory) (s .result .pool) top st a d t w 1) (s .memory)
 fillBy c p top st a d t w s Not = damaged p top (s .memory)
 fillBy c p top st a d t w s Bad = damaged p top (s .memory)
 
 -- the path is filled with host frame t and writable bit w: a shadow entry, "with the switch bit when d is 1 to 4; for d = 4 it
 -- stands in the record"
-unfoldable pub filledOf : Config → List ℕ → Pool → ℕ → ℕ → Bool → ℕ → ℕ → ℕ → Bool → Out
+unfoldable pub filledOf : Config → List ℕ → Pool → ℕ → ℕ → Bool → ℕ → ℕ → ℕ → Bool → After Translated
 filledOf c m p top root st a d t w =
     let s = fillOf c p m root (pathIndexes c d a) (entryFor t (ltb 0 d) w) in
-    cond (ltb d (c .levels)) (fillBy c p top st a d t w s (s .went .way)) (outs (servedOf c m p t st a d t w 1) m)
+    cond (ltb d (c .levels)) (fillBy c p top st a d t w s (s .result .way)) (yields (servedOf c m p t st a d t w 1) m)
 
-abbrev pub missedBy : Config → List ℕ → Pool → ℕ → ℕ → Bool → ℕ → ℕ → Walked → Out
+abbrev pub missedBy : Config → List ℕ → Pool → ℕ → ℕ → Bool → ℕ → ℕ → Walked → After Translated
 missedBy c m p top root st a d (walked.Arrived t w n) = filledOf c m p top root st a d (t .0) w
-missedBy c m p top root st a d (walked.Faulted x n) = outs (translation p top 1 (walked.Faulted x n)) m
+missedBy c m p top root st a d (walked.Faulted x n) = yields (translation p top 1 (walked.Faulted x n)) m
 missedBy c m p top root st a d walked.Damaged = damaged p top m
 
 -- a path that does not serve: its shadow part is walked
-unfoldable pub missedOf : Config → List ℕ → Pool → ℕ → ℕ → Bool → ℕ → ℕ → Out
+unfoldable pub missedOf : Config → List ℕ → Pool → ℕ → ℕ → Bool → ℕ → ℕ → After Translated
 missedOf c m p top root st a d = missedBy c m p top root st a d (walkedOf c m 0 (walk c st root (pathIndexes c d a)))
 
-abbrev pub foundBy : Config → List ℕ → Pool → ℕ → ℕ → Bool → ℕ → ℕ → HostWalk → Out
+abbrev pub foundBy : Config → List ℕ → Pool → ℕ → ℕ → Bool → ℕ → ℕ → HostWalk → After Translated
 foundBy c m p top root st a d (host.Found t w) =
-    cond (servesOf st d w) (outs (servedOf c m p top st a d (t .0) w 0) m) (missedOf c m p top root st a d)
+    cond (servesOf st d w) (yields (servedOf c m p top st a d (t .0) w 0) m) (missedOf c m p top root st a d)
 foundBy c m p top root st a d (host.Absent n) = missedOf c m p top root st a d
 foundBy c m p top root st a d host.Damaged = damaged p top m
 
@@ -104,8 +98,8 @@ plainOf c m p top root st a =
     translation p top (exitBy r) r
 
 -- a load's or a store's translation at depth d
-unfoldable pub translateOf : Config → List ℕ → Pool → ℕ → ℕ → Bool → ℕ → ℕ → Out
+unfoldable pub translateOf : Config → List ℕ → Pool → ℕ → ℕ → Bool → ℕ → ℕ → After Translated
 translateOf c m p top root st a d =
     cond (leb d (c .levels))
     (foundBy c m p top root st a d (foundOf c m (p .fresh) top a d))
-    (outs (plainOf c m p top root st a) m)
+    (yields (plainOf c m p top root st a) m)

@@ -2,8 +2,8 @@
 ghost use mathlib.Core.Path.{_≡_};
 ghost use Prim.Native.Nat.{_<_, _≤_};
 ghost use Rattle.host.specs.Walk.{LayoutFits, config};
-ghost use Rattle.request.specs.Translate.{exitBy, pathOf, outs, directOf, servedOf, servesOf, foundOf, filledOf, missedOf, plainOf, translateOf};
-ghost use Rattle.request.specs.Store.{puts, storeOf};
+ghost use Rattle.request.specs.Translate.{exitBy, pathOf, directOf, servedOf, servesOf, foundOf, filledOf, missedOf, plainOf, translateOf};
+ghost use Rattle.request.specs.Store.{storeOf};
 use area::Pool;
 use area::Way;
 use entry::GuestPhysical;
@@ -14,6 +14,7 @@ use host::Layout;
 use shadow::Cut;
 use spec::Fault;
 use walk::Walked;
+ghost use Rattle.words.specs.After.{yields};
 
 // What a translation leaves: the shadow tables' pool, the frame held at the greatest depth, exits, and where it came to.
 pub struct Translated {
@@ -148,7 +149,7 @@ pub fn filled(
     writable: bool,
 ) -> Translated
     requires { ⌜ (LayoutFits l) × (d ≤ l .levels) × (page .0 < 1099511627776) ⌝ }
-    ensures { λ r. ⌜ outs r (now (mem .exit)) ≡ filledOf (config l) (now (mem .entry)) pool top (root .0) store (a .0) d (page .0) writable ⌝ }
+    ensures { λ r. ⌜ yields r (now (mem .exit)) ≡ filledOf (config l) (now (mem .entry)) pool top (root .0) store (a .0) d (page .0) writable ⌝ }
 {
     if d < l.levels {
         let e = shadow::entry_for(page, 0 < d, writable);
@@ -187,7 +188,7 @@ pub fn missed(
     d: u64,
 ) -> Translated
     requires { ⌜ (LayoutFits l) × (d ≤ l .levels) ⌝ }
-    ensures { λ r. ⌜ outs r (now (mem .exit)) ≡ missedOf (config l) (now (mem .entry)) pool top (root .0) store (a .0) d ⌝ }
+    ensures { λ r. ⌜ yields r (now (mem .exit)) ≡ missedOf (config l) (now (mem .entry)) pool top (root .0) store (a .0) d ⌝ }
 {
     match walk::walk_root(mem, l, store, root, path_of(a, d), l.levels - d, d) {
         Walked::Arrived {
@@ -249,7 +250,7 @@ pub fn translate(
     d: u64,
 ) -> Translated
     requires { ⌜ (LayoutFits l) × (top < 1099511627776) ⌝ }
-    ensures { λ r. ⌜ outs r (now (mem .exit)) ≡ translateOf (config l) (now (mem .entry)) pool top (root .0) store (a .0) d ⌝ }
+    ensures { λ r. ⌜ yields r (now (mem .exit)) ≡ translateOf (config l) (now (mem .entry)) pool top (root .0) store (a .0) d ⌝ }
 {
     if d <= l.levels {
         match found(mem, l, pool.fresh, top, a, d) {
@@ -278,7 +279,7 @@ pub fn translate(
 // The word i of a host frame gets v, and the held paths whose shadow part read it are dropped.
 pub fn put_word(mem: &mut [u64], l: Layout, pool: Pool, t: HostPhysical, i: u64, v: u64) -> Put
     requires { ⌜ (LayoutFits l) × (pool .fresh ≤ l .shadows) × (t .0 < 1099511627776) × (i < 512) ⌝ }
-    ensures { λ r. ⌜ puts r (now (mem .exit)) ≡ storeOf (config l) (now (mem .entry)) pool (t .0) i v ⌝ }
+    ensures { λ r. ⌜ yields r (now (mem .exit)) ≡ storeOf (config l) (now (mem .entry)) pool (t .0) i v ⌝ }
 {
     if shadow::watched(mem, l, pool.fresh, t) {
         let left = shadow::scan(mem, l, Cut::Word(t, i), pool);

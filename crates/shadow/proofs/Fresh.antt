@@ -15,7 +15,7 @@ use Rattle.area.specs.declared.Pool.{Pool}
 use Rattle.area.specs.declared.Way.{Way}
 use Rattle.area.specs.declared.Way.the-variants as way
 use Rattle.area.specs.Header.{entryIn, putOf, parentOf, slotOf, levelOf, insideOf, bareOf}
-use Rattle.area.specs.Pool.{hopOf, onWay, End, end, poolOf, noneOf, freshOf, freedOf, takeOf, giveOf, backOf}
+use Rattle.area.specs.Pool.{hopOf, onWay, end, poolOf, noneOf, freshOf, freedOf, takeOf, giveOf, backOf}
 use Rattle.area.specs.Tree.{topOf, roomOf, headed, tableOf, enterOf, hung, hangOf, descendOf, downOf, placeOf, insertOf}
 use Rattle.area.specs.Remove.{unhangOf, shutOf, releaseOf, lastIndex}
 use Rattle.host.specs.Walk.{page}
@@ -26,7 +26,10 @@ use Rattle.shadow.specs.declared.Above.the-variants.{Met, To, Off}
 use Rattle.shadow.specs.Held.{shadowArea}
 use Rattle.shadow.specs.Fill.{trailOf, againBy, insertedOf, fillOf}
 use Rattle.shadow.specs.Cut.{lowOf, endOf, touchOf, upFrom}
-use Rattle.shadow.specs.Drop.{Cleared, Outcome, outcome, clearFrom, settledBy, settleOf, sweepOf, visitBy, visitOf, scanFrom, scanOf, holderFrom, dropPrefixOf}
+use Rattle.shadow.specs.Drop.{outcome, clearFrom, settledBy, settleOf, sweepOf, visitBy, visitOf, scanFrom, scanOf, holderFrom, dropPrefixOf}
+use Rattle.words.specs.After.{After}
+use Rattle.area.specs.declared.Went.{Went}
+use Rattle.shadow.specs.declared.Left.{Left}
 
 abbrev pub PoolFits : Area → Pool → Type 0
 PoolFits a p = p .fresh ≤ a .size
@@ -37,8 +40,8 @@ none-fits a = omega arith
 
 -- ---- the area's steps
 module _ (a : Area) where
-  abbrev Fits : End → Type 0
-  Fits t = PoolFits a (t .went .pool)
+  abbrev Fits : After Went → Type 0
+  Fits t = PoolFits a (t .result .pool)
 
   fresh-fits : (p : Pool) (m : List ℕ) → PoolFits a p → Fits (freshOf a p m)
   unfolding freshOf
@@ -61,9 +64,9 @@ module _ (a : Area) where
 
   table-fits : (p : Pool) (m : List ℕ) (guest level parent slot : ℕ) → PoolFits a p → Fits (tableOf a p m guest level parent slot)
   unfolding tableOf
-  table-fits p m guest level parent slot h = go (t .went .way)
+  table-fits p m guest level parent slot h = go (t .result .way)
     where
-      t : End
+      t : After Went
       t = takeOf a p m
 
       go : (w : Way) → Fits (headed t w guest level parent slot)
@@ -81,9 +84,9 @@ module _ (a : Area) where
 
   hang-fits : (p : Pool) (m : List ℕ) (guest level f i : ℕ) → PoolFits a p → Fits (hangOf a p m guest level f i)
   unfolding hangOf
-  hang-fits p m guest level f i h = go (t .went .way)
+  hang-fits p m guest level f i h = go (t .result .way)
     where
-      t : End
+      t : After Went
       t = tableOf a p m guest level f i
 
       go : (w : Way) → Fits (hung t w f i)
@@ -103,32 +106,32 @@ module _ (a : Area) where
   down-fits : (is guests : List ℕ) (p : Pool) (m : List ℕ) (d f i e : ℕ) → PoolFits a p → Fits (downOf a guests p m d f i is e)
   unfolding downOf
   down-fits [] guests p m d f i e h = h
-  down-fits (j ∷ is) guests p m d f i e h = go (t .went .way) (λ g. down-fits is guests (t .went .pool) (t .memory) (d + 1) g j e fits)
+  down-fits (j ∷ is) guests p m d f i e h = go (t .result .way) (λ g. down-fits is guests (t .result .pool) (t .memory) (d + 1) g j e fits)
     where
-      t : End
+      t : After Went
       t = descendOf a p m (getD guests (d + 1) 0) (a .levels - (d + 1)) f i
 
       fits : Fits t
       fits = descend-fits p m (getD guests (d + 1) 0) (a .levels - (d + 1)) f i h
 
-      go : (w : Way) → ((g : ℕ) → Fits (downOf a guests (t .went .pool) (t .memory) (d + 1) g j is e))
-          → Fits (onWay w (end (t .went .pool) way.Bad (t .memory)) (end (t .went .pool) way.Bad (t .memory)) (λ g. downOf a guests (t .went .pool) (t .memory) (d + 1) g j is e))
+      go : (w : Way) → ((g : ℕ) → Fits (downOf a guests (t .result .pool) (t .memory) (d + 1) g j is e))
+          → Fits (onWay w (end (t .result .pool) way.Bad (t .memory)) (end (t .result .pool) way.Bad (t .memory)) (λ g. downOf a guests (t .result .pool) (t .memory) (d + 1) g j is e))
       go (way.To g) next = next g
       go way.Not next = fits
       go way.Bad next = fits
 
   place-fits : (guests : List ℕ) (p : Pool) (m : List ℕ) (i : ℕ) (is : List ℕ) (e : ℕ) → PoolFits a p → Fits (placeOf a guests p m i is e)
   unfolding placeOf
-  place-fits guests p m i is e h = go (t .went .way)
+  place-fits guests p m i is e h = go (t .result .way)
     where
-      t : End
+      t : After Went
       t = enterOf a p m (getD guests 0 0)
 
       fits : Fits t
       fits = enter-fits p m (getD guests 0 0) h
 
-      go : (w : Way) → Fits (onWay w (end (t .went .pool) way.Bad (t .memory)) (end (t .went .pool) way.Bad (t .memory)) (λ f. downOf a guests (t .went .pool) (t .memory) 0 f i is e))
-      go (way.To f) = down-fits is guests (t .went .pool) (t .memory) 0 f i e fits
+      go : (w : Way) → Fits (onWay w (end (t .result .pool) way.Bad (t .memory)) (end (t .result .pool) way.Bad (t .memory)) (λ f. downOf a guests (t .result .pool) (t .memory) 0 f i is e))
+      go (way.To f) = down-fits is guests (t .result .pool) (t .memory) 0 f i e fits
       go way.Not = fits
       go way.Bad = fits
 
@@ -165,13 +168,13 @@ module _ (a : Area) where
   unfolding releaseOf
   release-fits zero stays p m f h = shut-fits stays p m h
   release-fits (suc k) stays p m f h =
-      go (t .went .way) (λ g. release-fits k stays (t .went .pool) (t .memory) g (unhang-fits p m f h))
+      go (t .result .way) (λ g. release-fits k stays (t .result .pool) (t .memory) g (unhang-fits p m f h))
     where
-      t : End
+      t : After Went
       t = unhangOf a p m f
 
-      go : (w : Way) → ((g : ℕ) → Fits (releaseOf a stays (t .went .pool) (t .memory) k g))
-          → Fits (onWay w (end (t .went .pool) (way.To f) (t .memory)) (end (t .went .pool) way.Bad (t .memory)) (λ g. releaseOf a stays (t .went .pool) (t .memory) k g))
+      go : (w : Way) → ((g : ℕ) → Fits (releaseOf a stays (t .result .pool) (t .memory) k g))
+          → Fits (onWay w (end (t .result .pool) (way.To f) (t .memory)) (end (t .result .pool) way.Bad (t .memory)) (λ g. releaseOf a stays (t .result .pool) (t .memory) k g))
       go (way.To g) next = next g
       go way.Not next = unhang-fits p m f h
       go way.Bad next = unhang-fits p m f h
@@ -181,94 +184,94 @@ module _ (c : Config) where
   abbrev pub Bounded : Pool → Type 0
   Bounded p = PoolFits (shadowArea c) p
 
-  inserted-fits : (guests : List ℕ) (p : Pool) (m is : List ℕ) (e : ℕ) → Bounded p → Bounded (insertedOf (shadowArea c) guests p m is e .went .pool)
+  inserted-fits : (guests : List ℕ) (p : Pool) (m is : List ℕ) (e : ℕ) → Bounded p → Bounded (insertedOf (shadowArea c) guests p m is e .result .pool)
   unfolding insertedOf
-  inserted-fits guests p m is e h = go (first .went .way)
+  inserted-fits guests p m is e h = go (first .result .way)
     where
-      first : End
+      first : After Went
       first = insertOf (shadowArea c) guests p m is e
 
-      go : (w : Way) → Bounded (againBy w first (insertOf (shadowArea c) guests noneOf (first .memory) is e) .went .pool)
+      go : (w : Way) → Bounded (againBy w first (insertOf (shadowArea c) guests noneOf (first .memory) is e) .result .pool)
       go (way.To f) = insert-fits (shadowArea c) guests p m is e h
       go way.Not = insert-fits (shadowArea c) guests noneOf (first .memory) is e (none-fits (shadowArea c))
       go way.Bad = insert-fits (shadowArea c) guests p m is e h
 
-  pub fill-fits : (p : Pool) (m : List ℕ) (root : ℕ) (is : List ℕ) (e : ℕ) → p .fresh ≤ c .shadows → fillOf c p m root is e .went .pool .fresh ≤ c .shadows
+  pub fill-fits : (p : Pool) (m : List ℕ) (root : ℕ) (is : List ℕ) (e : ℕ) → p .fresh ≤ c .shadows → fillOf c p m root is e .result .pool .fresh ≤ c .shadows
   unfolding fillOf
   fill-fits p m root is e h = inserted-fits (trailOf c m root is) p m is e h
 
-  settle-fits : (p : Pool) (m : List ℕ) (n f : ℕ) → Bounded p → Bounded (settleOf c p m n f .left .pool)
+  settle-fits : (p : Pool) (m : List ℕ) (n f : ℕ) → Bounded p → Bounded (settleOf c p m n f .result .pool)
   unfolding settleOf
-  settle-fits p m n f h = go (t .went .way)
+  settle-fits p m n f h = go (t .result .way)
     where
-      t : End
+      t : After Went
       t = releaseOf (shadowArea c) false p m (c .levels - n) f
 
-      fits : Bounded (t .went .pool)
+      fits : Bounded (t .result .pool)
       fits = release-fits (shadowArea c) (c .levels - n) false p m f h
 
-      go : (w : Way) → Bounded (settledBy w (t .went .pool) (t .memory) .left .pool)
+      go : (w : Way) → Bounded (settledBy w (t .result .pool) (t .memory) .result .pool)
       go (way.To g) = fits
       go way.Not = fits
       go way.Bad = fits
 
   module _ (x : Cut) where
-    sweep-fits : (all : Bool) (n f k i : ℕ) (p : Pool) (m : List ℕ) → Bounded p → Bounded (sweepOf c x all n f k i p m .left .pool)
+    sweep-fits : (all : Bool) (n f k i : ℕ) (p : Pool) (m : List ℕ) → Bounded p → Bounded (sweepOf c x all n f k i p m .result .pool)
     unfolding sweepOf
-    sweep-fits all n f k i p m h = go (t .ok)
+    sweep-fits all n f k i p m h = go (t .result)
       where
-        t : Cleared
+        t : After Bool
         t = clearFrom c x all (eqb n 1) f k i m
 
-        go : (b : Bool) → Bounded (cond b (settleOf c p (t .memory) n f) (outcome p false (t .memory)) .left .pool)
+        go : (b : Bool) → Bounded (cond b (settleOf c p (t .memory) n f) (outcome p false (t .memory)) .result .pool)
         go true = settle-fits p (t .memory) n f h
         go false = h
 
-    visit-fits : (p : Pool) (m : List ℕ) (f : ℕ) → Bounded p → Bounded (visitOf c x p m f .left .pool)
+    visit-fits : (p : Pool) (m : List ℕ) (f : ℕ) → Bounded p → Bounded (visitOf c x p m f .result .pool)
     unfolding visitOf
     visit-fits p m f h = go (eqb (levelOf m f) 0)
       where
-        touched : (b : Bool) → Bounded (cond b (sweepOf c x false (levelOf m f) f (endOf x - lowOf x) (lowOf x) p m) (outcome p true m) .left .pool)
+        touched : (b : Bool) → Bounded (cond b (sweepOf c x false (levelOf m f) f (endOf x - lowOf x) (lowOf x) p m) (outcome p true m) .result .pool)
         touched true = sweep-fits false (levelOf m f) f (endOf x - lowOf x) (lowOf x) p m h
         touched false = h
 
-        by : (w : Above) → Bounded (visitBy w c x (levelOf m f) f p m .left .pool)
+        by : (w : Above) → Bounded (visitBy w c x (levelOf m f) f p m .result .pool)
         by Met = sweep-fits true (levelOf m f) f 512 0 p m h
         by (To t) = touched (touchOf m x f)
         by Off = h
 
-        go : (b : Bool) → Bounded (cond b (outcome p true m) (visitBy (upFrom c x m (c .levels - levelOf m f) f) c x (levelOf m f) f p m) .left .pool)
+        go : (b : Bool) → Bounded (cond b (outcome p true m) (visitBy (upFrom c x m (c .levels - levelOf m f) f) c x (levelOf m f) f p m) .result .pool)
         go true = h
         go false = by (upFrom c x m (c .levels - levelOf m f) f)
 
-    from-fits : (k i : ℕ) (p : Pool) (m : List ℕ) → Bounded p → Bounded (scanFrom c x k i p m .left .pool)
+    from-fits : (k i : ℕ) (p : Pool) (m : List ℕ) → Bounded p → Bounded (scanFrom c x k i p m .result .pool)
     unfolding scanFrom
     from-fits zero i p m h = h
-    from-fits (suc k) i p m h = go (one .left .ok) (from-fits k (suc i) (one .left .pool) (one .memory) visited)
+    from-fits (suc k) i p m h = go (one .result .ok) (from-fits k (suc i) (one .result .pool) (one .memory) visited)
       where
-        one : Outcome
+        one : After Left
         one = visitOf c x p m (c .hosts + i)
 
-        rest : Outcome
-        rest = scanFrom c x k (suc i) (one .left .pool) (one .memory)
+        rest : After Left
+        rest = scanFrom c x k (suc i) (one .result .pool) (one .memory)
 
-        visited : Bounded (one .left .pool)
+        visited : Bounded (one .result .pool)
         visited = visit-fits p m (c .hosts + i) h
 
-        go : (b : Bool) → Bounded (rest .left .pool) → Bounded (cond b rest one .left .pool)
+        go : (b : Bool) → Bounded (rest .result .pool) → Bounded (cond b rest one .result .pool)
         go true r = r
         go false r = visited
 
-    pub scan-fits : (p : Pool) (m : List ℕ) → p .fresh ≤ c .shadows → scanOf c x p m .left .pool .fresh ≤ c .shadows
+    pub scan-fits : (p : Pool) (m : List ℕ) → p .fresh ≤ c .shadows → scanOf c x p m .result .pool .fresh ≤ c .shadows
     unfolding scanOf
     scan-fits p m h = from-fits (p .fresh) 0 p m h
 
-  pub prefix-fits : (p : Pool) (m is : List ℕ) → p .fresh ≤ c .shadows → dropPrefixOf c p m is .left .pool .fresh ≤ c .shadows
+  pub prefix-fits : (p : Pool) (m is : List ℕ) → p .fresh ≤ c .shadows → dropPrefixOf c p m is .result .pool .fresh ≤ c .shadows
   unfolding dropPrefixOf
   prefix-fits p m [] h = none-fits (shadowArea c)
   prefix-fits p m (i ∷ is) h = go (holderFrom c m (topOf (c .hosts) (p .fresh)) i is)
     where
-      go : (w : Way) → Bounded (onWay w (outcome p true m) (outcome p false m) (λ f. scanOf c (Slot (page f) (lastIndex i is)) p m) .left .pool)
+      go : (w : Way) → Bounded (onWay w (outcome p true m) (outcome p false m) (λ f. scanOf c (Slot (page f) (lastIndex i is)) p m) .result .pool)
       go (way.To f) = scan-fits (Slot (page f) (lastIndex i is)) p m h
       go way.Not = h
       go way.Bad = h

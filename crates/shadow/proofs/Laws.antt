@@ -28,7 +28,8 @@ use Rattle.shadow.specs.declared.Above.{Above}
 use Rattle.shadow.specs.declared.Above.the-variants.{Met, To, Off}
 use Rattle.shadow.specs.Fill.{frameFound, mappedOf, belowOf, trailFrom, trailOf}
 use Rattle.shadow.specs.Cut.{isLeaf, kindOf, watchesOf, watchedFrom, cutOf, lowOf, endOf, aboveOf, upBy, upFrom}
-use Rattle.shadow.specs.Drop.{cleared, outcome, clearOne, clearFrom, visitOf, scanFrom, scanOf, tableBy, tableNamed, holderFrom, dropPrefixOf}
+use Rattle.shadow.specs.Drop.{outcome, clearOne, clearFrom, visitOf, scanFrom, scanOf, tableBy, tableNamed, holderFrom, dropPrefixOf}
+use Rattle.words.specs.After.{yields}
 
 pub bit-small : (b : Bool) (v : ℕ) → cond b v 0 ≤ v
 bit-small true v = omega arith
@@ -109,14 +110,14 @@ range-fits (Slot t j) = (omega arith, omega arith)
 
 pub clear-step : (c : Config) (x : Cut) (all lowest : Bool) (f hi i : ℕ) (m : List ℕ) → i < hi
     → clearFrom c x all lowest f (hi - i) i m
-    ≡ (let t = clearOne c x all lowest f m i in cond (t .ok) (clearFrom c x all lowest f (hi - (i + 1)) (i + 1) (t .memory)) t)
+    ≡ (let t = clearOne c x all lowest f m i in cond (t .result) (clearFrom c x all lowest f (hi - (i + 1)) (i + 1) (t .memory)) t)
 unfolding clearFrom
 clear-step c x all lowest f hi i m l =
     let e : hi - i ≡ suc (hi - (i + 1)) = omega arith in
     let s : i + 1 ≡ suc i = omega arith in
     rw (e, s)
 
-pub clear-none : (c : Config) (x : Cut) (all lowest : Bool) (f hi i : ℕ) (m : List ℕ) → hi ≤ i → clearFrom c x all lowest f (hi - i) i m ≡ cleared true m
+pub clear-none : (c : Config) (x : Cut) (all lowest : Bool) (f hi i : ℕ) (m : List ℕ) → hi ≤ i → clearFrom c x all lowest f (hi - i) i m ≡ yields true m
 unfolding clearFrom
 clear-none c x all lowest f hi i m l =
     let e : hi - i ≡ 0 = omega arith in
@@ -125,7 +126,7 @@ clear-none c x all lowest f hi i m l =
 -- ---- the scan
 pub scan-step : (c : Config) (x : Cut) (n i : ℕ) (p : Pool) (m : List ℕ) → i < n
     → scanFrom c x (n - i) i p m
-    ≡ (let t = visitOf c x p m (c .hosts + i) in cond (t .left .ok) (scanFrom c x (n - (i + 1)) (i + 1) (t .left .pool) (t .memory)) t)
+    ≡ (let t = visitOf c x p m (c .hosts + i) in cond (t .result .ok) (scanFrom c x (n - (i + 1)) (i + 1) (t .result .pool) (t .memory)) t)
 unfolding scanFrom
 scan-step c x n i p m l =
     let e : n - i ≡ suc (n - (i + 1)) = omega arith in

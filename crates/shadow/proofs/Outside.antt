@@ -10,7 +10,7 @@ use Rattle.area.specs.declared.Pool.{Pool}
 use Rattle.area.specs.declared.Way.{Way}
 use Rattle.area.specs.declared.Way.the-variants as way
 use Rattle.area.specs.Header.{entryIn, levelOf}
-use Rattle.area.specs.Pool.{onWay, End, noneOf}
+use Rattle.area.specs.Pool.{onWay, noneOf}
 use Rattle.area.specs.Tree.{topOf, insertOf}
 use Rattle.area.specs.Remove.{releaseOf, lastIndex}
 use Rattle.area.specs.Outside.{SameOutside, Narrow}
@@ -25,8 +25,11 @@ use Rattle.shadow.specs.declared.Above.the-variants.{Met, To, Off}
 use Rattle.shadow.specs.Held.{shadowArea}
 use Rattle.shadow.specs.Fill.{trailOf, againBy, insertedOf, fillOf}
 use Rattle.shadow.specs.Cut.{kindOf, lowOf, endOf, touchOf, upFrom}
-use Rattle.shadow.specs.Drop.{Cleared, Outcome, outcome, clearBy, goesOf, clearOne, clearFrom, settledBy, settleOf, sweepOf, visitBy, visitOf, scanFrom, scanOf, holderFrom, dropPrefixOf}
+use Rattle.shadow.specs.Drop.{outcome, clearBy, goesOf, clearOne, clearFrom, settledBy, settleOf, sweepOf, visitBy, visitOf, scanFrom, scanOf, holderFrom, dropPrefixOf}
 use Rattle.shadow.proofs.Laws.{range-fits}
+use Rattle.words.specs.After.{After}
+use Rattle.area.specs.declared.Went.{Went}
+use Rattle.shadow.specs.declared.Left.{Left}
 
 module _ (c : Config) where
   -- only words of the shadow tables' area differ, and the length is the same
@@ -45,9 +48,9 @@ module _ (c : Config) where
   -- ---- fill
   inserted-out : (guests : List ℕ) (p : Pool) (m is : List ℕ) (e : ℕ) → 0 < c .shadows → Narrow is → Same m (insertedOf (shadowArea c) guests p m is e .memory)
   unfolding insertedOf
-  inserted-out guests p m is e room n = go (first .went .way)
+  inserted-out guests p m is e room n = go (first .result .way)
     where
-      first : End
+      first : After Went
       first = insertOf (shadowArea c) guests p m is e
 
       once : Same m (first .memory)
@@ -79,12 +82,12 @@ module _ (c : Config) where
     clear-out : (k : ℕ) (all lowest : Bool) (f i : ℕ) (m : List ℕ) → In f → i + k ≤ 512 → Same m (clearFrom c x all lowest f k i m .memory)
     unfolding clearFrom
     clear-out zero all lowest f i m h l = same m
-    clear-out (suc k) all lowest f i m h l = go (one .ok) (clear-out k all lowest f (suc i) (one .memory) h (omega arith))
+    clear-out (suc k) all lowest f i m h l = go (one .result) (clear-out k all lowest f (suc i) (one .memory) h (omega arith))
       where
-        one : Cleared
+        one : After Bool
         one = clearOne c x all lowest f m i
 
-        rest : Cleared
+        rest : After Bool
         rest = clearFrom c x all lowest f k (suc i) (one .memory)
 
         go : (b : Bool) → Same (one .memory) (rest .memory) → Same m (cond b rest one .memory)
@@ -93,24 +96,24 @@ module _ (c : Config) where
 
     settle-out : (p : Pool) (m : List ℕ) (n f : ℕ) → In f → Same m (settleOf c p m n f .memory)
     unfolding settleOf
-    settle-out p m n f h = go (t .went .way)
+    settle-out p m n f h = go (t .result .way)
       where
-        t : End
+        t : After Went
         t = releaseOf (shadowArea c) false p m (c .levels - n) f
 
         freed : Same m (t .memory)
         freed = release-out (shadowArea c) (omega (arith, h .0, h .1)) (c .levels - n) false p m f h
 
-        go : (w : Way) → Same m (settledBy w (t .went .pool) (t .memory) .memory)
+        go : (w : Way) → Same m (settledBy w (t .result .pool) (t .memory) .memory)
         go (way.To g) = freed
         go way.Not = freed
         go way.Bad = freed
 
     sweep-out : (all : Bool) (n f k i : ℕ) (p : Pool) (m : List ℕ) → In f → i + k ≤ 512 → Same m (sweepOf c x all n f k i p m .memory)
     unfolding sweepOf
-    sweep-out all n f k i p m h l = go (t .ok)
+    sweep-out all n f k i p m h l = go (t .result)
       where
-        t : Cleared
+        t : After Bool
         t = clearFrom c x all (eqb n 1) f k i m
 
         gone : Same m (t .memory)
@@ -142,13 +145,13 @@ module _ (c : Config) where
     from-out : (k i : ℕ) (p : Pool) (m : List ℕ) → i + k ≤ c .shadows → Same m (scanFrom c x k i p m .memory)
     unfolding scanFrom
     from-out zero i p m l = same m
-    from-out (suc k) i p m l = go (one .left .ok) (from-out k (suc i) (one .left .pool) (one .memory) (omega arith))
+    from-out (suc k) i p m l = go (one .result .ok) (from-out k (suc i) (one .result .pool) (one .memory) (omega arith))
       where
-        one : Outcome
+        one : After Left
         one = visitOf c x p m (c .hosts + i)
 
-        rest : Outcome
-        rest = scanFrom c x k (suc i) (one .left .pool) (one .memory)
+        rest : After Left
+        rest = scanFrom c x k (suc i) (one .result .pool) (one .memory)
 
         visited : Same m (one .memory)
         visited = visit-out p m (c .hosts + i) (omega arith, omega arith)

@@ -10,12 +10,14 @@ use Rattle.area.specs.declared.Area.{Area}
 use Rattle.area.specs.declared.Pool.{Pool}
 use Rattle.area.specs.declared.Way.{Way}
 use Rattle.area.specs.declared.Way.the-variants.{To, Not, Bad}
-use Rattle.area.specs.Pool.{End, noneOf}
+use Rattle.area.specs.Pool.{noneOf}
 use Rattle.area.specs.Tree.{insertOf}
 use Rattle.host.specs.declared.HostWalk.{HostWalk}
 use Rattle.host.specs.declared.HostWalk.the-variants.{Found, Absent, Damaged}
 use Rattle.host.specs.Walk.{hostWalkOf}
 use Rattle.shadow.specs.Held.{shadowArea}
+use Rattle.words.specs.After.{After}
+use Rattle.area.specs.declared.Went.{Went}
 
 abbrev pub frameFound : HostWalk → ℕ
 frameFound (Found p w) = p .0
@@ -46,17 +48,17 @@ unfoldable pub trailOf : Config → List ℕ → ℕ → List ℕ → List ℕ
 trailOf c m root [] = replicate 8 0
 trailOf c m root (i ∷ is) = trailFrom c m (set (replicate 8 0) 0 (mappedOf c m root)) 0 (mappedOf c m root) i is
 
-abbrev pub againBy : Way → End → End → End
+abbrev pub againBy : Way → After Went → After Went → After Went
 againBy (To f) t again = t
 againBy Not t again = again
 againBy Bad t again = t
 
 -- "If a new path would make them more than S, all held paths are dropped first"
-unfoldable pub insertedOf : Area → List ℕ → Pool → List ℕ → List ℕ → ℕ → End
+unfoldable pub insertedOf : Area → List ℕ → Pool → List ℕ → List ℕ → ℕ → After Went
 insertedOf a guests p m is e =
     let t = insertOf a guests p m is e in
-    againBy (t .went .way) t (insertOf a guests noneOf (t .memory) is e)
+    againBy (t .result .way) t (insertOf a guests noneOf (t .memory) is e)
 
 -- the entry of a path is set; the header of each new table has the host frame of its guest table
-unfoldable pub fillOf : Config → Pool → List ℕ → ℕ → List ℕ → ℕ → End
+unfoldable pub fillOf : Config → Pool → List ℕ → ℕ → List ℕ → ℕ → After Went
 fillOf c p m root is e = insertedOf (shadowArea c) (trailOf c m root is) p m is e

@@ -3,12 +3,11 @@ ghost use mathlib.Core.Path.{_≡_};
 ghost use mathlib.Core.Bool.{cond};
 ghost use Prim.Native.Nat.{_+_, _-_, _<_, _≤_};
 ghost use Rattle.spec.specs.Entry.{index, indexes};
-ghost use Rattle.area.specs.Pool.{ends};
 ghost use Rattle.host.specs.Walk.{LayoutFits, config};
 ghost use Rattle.shadow.specs.Held.{shadowArea, heldOf, entryFor};
 ghost use Rattle.shadow.specs.Fill.{mappedOf, belowOf, trailOf, insertedOf, fillOf};
 ghost use Rattle.shadow.specs.Cut.{isLeaf, kindOf, watchesOf, watchedOf, cutOf, lowOf, endOf, touchOf, aboveOf, upFrom};
-ghost use Rattle.shadow.specs.Drop.{cleared, lefts, goesOf, clearOne, clearFrom, settleOf, sweepOf, visitOf, scanOf, tableNamed, holderFrom, dropPrefixOf};
+ghost use Rattle.shadow.specs.Drop.{goesOf, clearOne, clearFrom, settleOf, sweepOf, visitOf, scanOf, tableNamed, holderFrom, dropPrefixOf};
 use area::Area;
 use area::Look;
 use area::Pool;
@@ -18,6 +17,7 @@ use entry::GuestPhysical;
 use entry::HostPhysical;
 use host::HostWalk;
 use host::Layout;
+ghost use Rattle.words.specs.After.{yields};
 
 // What an entry of a shadow table says. Outside: it names a frame outside the area it must lie in.
 pub enum Kind {
@@ -140,7 +140,7 @@ pub fn insert_or_drop(
     e: u64,
 ) -> Went
     requires { ⌜ (a .base + a .size < 1099511627776) × (1 ≤ k) × (k ≤ 7) × (k ≤ a .levels) ⌝ }
-    ensures { λ r. ⌜ ends r (now (mem .exit)) ≡ insertedOf a (now (guests .entry)) p (now (mem .entry)) (indexes k path) e ⌝ }
+    ensures { λ r. ⌜ yields r (now (mem .exit)) ≡ insertedOf a (now (guests .entry)) p (now (mem .entry)) (indexes k path) e ⌝ }
 {
     let went = area::insert(a, guests, p, mem, path, k, e);
     let way = went.way;
@@ -162,7 +162,7 @@ pub fn fill(
     e: u64,
 ) -> Went
     requires { ⌜ (LayoutFits l) × (1 ≤ k) × (k ≤ l .levels) ⌝ }
-    ensures { λ r. ⌜ ends r (now (mem .exit)) ≡ fillOf (config l) p (now (mem .entry)) (root .0) (indexes k path) e ⌝ }
+    ensures { λ r. ⌜ yields r (now (mem .exit)) ≡ fillOf (config l) p (now (mem .entry)) (root .0) (indexes k path) e ⌝ }
 {
     let guests = trail(mem, l, root, path, k);
     insert_or_drop(shadow_area(l), &guests, p, mem, path, k, e)
@@ -363,7 +363,7 @@ pub fn clear_one(
     i: u64,
 ) -> bool
     requires { ⌜ (LayoutFits l) × (f < 1099511627776) × (i < 512) ⌝ }
-    ensures { λ r. ⌜ cleared r (now (mem .exit)) ≡ clearOne (config l) cut all lowest f (now (mem .entry)) i ⌝ }
+    ensures { λ r. ⌜ yields r (now (mem .exit)) ≡ clearOne (config l) cut all lowest f (now (mem .entry)) i ⌝ }
 {
     match kind_of(l, lowest, area::entry_at(mem, f, i)) {
         Kind::Gone => true,
@@ -392,7 +392,7 @@ pub fn clear_leaves(
     hi: u64,
 ) -> bool
     requires { ⌜ (LayoutFits l) × (f < 1099511627776) × (hi ≤ 512) × (lo ≤ hi) ⌝ }
-    ensures { λ r. ⌜ cleared r (now (mem .exit)) ≡ clearFrom (config l) cut all lowest f (hi - lo) lo (now (mem .entry)) ⌝ }
+    ensures { λ r. ⌜ yields r (now (mem .exit)) ≡ clearFrom (config l) cut all lowest f (hi - lo) lo (now (mem .entry)) ⌝ }
 {
     let mut i = lo;
     while i < hi {
@@ -408,7 +408,7 @@ pub fn clear_leaves(
 // The table in frame f, of level n, and those above it are given back as far as they are empty.
 pub fn settle(mem: &mut [u64], l: Layout, p: Pool, n: u64, f: u64) -> Left
     requires { ⌜ (LayoutFits l) × (f < 1099511627776) ⌝ }
-    ensures { λ r. ⌜ lefts r (now (mem .exit)) ≡ settleOf (config l) p (now (mem .entry)) n f ⌝ }
+    ensures { λ r. ⌜ yields r (now (mem .exit)) ≡ settleOf (config l) p (now (mem .entry)) n f ⌝ }
 {
     let went = area::release(shadow_area(l), false, p, mem, links(l.levels, n), f);
     let pool = went.pool;
@@ -442,7 +442,7 @@ pub fn sweep(
     p: Pool,
 ) -> Left
     requires { ⌜ (LayoutFits l) × (f < 1099511627776) × (hi ≤ 512) × (lo ≤ hi) ⌝ }
-    ensures { λ r. ⌜ lefts r (now (mem .exit)) ≡ sweepOf (config l) cut all n f (hi - lo) lo p (now (mem .entry)) ⌝ }
+    ensures { λ r. ⌜ yields r (now (mem .exit)) ≡ sweepOf (config l) cut all n f (hi - lo) lo p (now (mem .entry)) ⌝ }
 {
     if clear_leaves(mem, l, cut, all, n == 1, f, lo, hi) {
         settle(mem, l, p, n, f)
@@ -456,7 +456,7 @@ pub fn sweep(
 // One frame: all leaves of a table under a cut go, else those that are cut.
 pub fn visit(mem: &mut [u64], l: Layout, cut: Cut, p: Pool, f: u64) -> Left
     requires { ⌜ (LayoutFits l) × (f < 1099511627776) ⌝ }
-    ensures { λ r. ⌜ lefts r (now (mem .exit)) ≡ visitOf (config l) cut p (now (mem .entry)) f ⌝ }
+    ensures { λ r. ⌜ yields r (now (mem .exit)) ≡ visitOf (config l) cut p (now (mem .entry)) f ⌝ }
 {
     let n = area::level(mem, f);
     if n == 0 {
@@ -478,7 +478,7 @@ pub fn visit(mem: &mut [u64], l: Layout, cut: Cut, p: Pool, f: u64) -> Left
 // Every path that is cut is dropped.
 pub fn scan(mem: &mut [u64], l: Layout, cut: Cut, p: Pool) -> Left
     requires { ⌜ (LayoutFits l) × (p .fresh ≤ l .shadows) ⌝ }
-    ensures { λ r. ⌜ lefts r (now (mem .exit)) ≡ scanOf (config l) cut p (now (mem .entry)) ⌝ }
+    ensures { λ r. ⌜ yields r (now (mem .exit)) ≡ scanOf (config l) cut p (now (mem .entry)) ⌝ }
 {
     let fresh = p.fresh;
     let mut cur = p;
@@ -501,7 +501,7 @@ pub fn scan(mem: &mut [u64], l: Layout, cut: Cut, p: Pool) -> Left
 // A store to a word of a host frame drops the paths whose shadow part read it.
 pub fn drop_word(mem: &mut [u64], l: Layout, p: Pool, frame: HostPhysical, index: u64) -> Left
     requires { ⌜ (LayoutFits l) × (p .fresh ≤ l .shadows) ⌝ }
-    ensures { λ r. ⌜ lefts r (now (mem .exit)) ≡ scanOf (config l) (Cut.Word frame index) p (now (mem .entry)) ⌝ }
+    ensures { λ r. ⌜ yields r (now (mem .exit)) ≡ scanOf (config l) (Cut.Word frame index) p (now (mem .entry)) ⌝ }
 {
     scan(mem, l, Cut::Word(frame, index), p)
 }
@@ -509,7 +509,7 @@ pub fn drop_word(mem: &mut [u64], l: Layout, p: Pool, frame: HostPhysical, index
 // A mapping made or taken away drops the paths whose shadow part used it below the root.
 pub fn drop_mapping(mem: &mut [u64], l: Layout, p: Pool, g: GuestPhysical) -> Left
     requires { ⌜ (LayoutFits l) × (p .fresh ≤ l .shadows) ⌝ }
-    ensures { λ r. ⌜ lefts r (now (mem .exit)) ≡ scanOf (config l) (Cut.Names g) p (now (mem .entry)) ⌝ }
+    ensures { λ r. ⌜ yields r (now (mem .exit)) ≡ scanOf (config l) (Cut.Names g) p (now (mem .entry)) ⌝ }
 {
     scan(mem, l, Cut::Names(g), p)
 }
@@ -556,7 +556,7 @@ pub fn holder(mem: &[u64], l: Layout, e: u64, path: u64, k: u64) -> Way
 // The paths that begin with the prefix of the k low indexes of path are dropped.
 pub fn drop_prefix(mem: &mut [u64], l: Layout, p: Pool, path: u64, k: u64) -> Left
     requires { ⌜ (LayoutFits l) × (p .fresh ≤ l .shadows) × (k ≤ l .levels) ⌝ }
-    ensures { λ r. ⌜ lefts r (now (mem .exit)) ≡ dropPrefixOf (config l) p (now (mem .entry)) (indexes k path) ⌝ }
+    ensures { λ r. ⌜ yields r (now (mem .exit)) ≡ dropPrefixOf (config l) p (now (mem .entry)) (indexes k path) ⌝ }
 {
     if k == 0 {
         return Left {

@@ -11,7 +11,7 @@ use Rattle.spec.specs.Entry.{present}
 use Rattle.spec.specs.Prefix.{same, any, tablesOf}
 use Rattle.area.specs.declared.Area.{Area}
 use Rattle.area.specs.declared.Way.the-variants.{Not}
-use Rattle.area.specs.Pool.{End, end}
+use Rattle.area.specs.Pool.{end}
 use Rattle.area.specs.Tree.{topOf, lookOf, insertOf}
 use Rattle.area.specs.Remove.{removeOf}
 use Rattle.tree.specs.Run.{Op, put, cut, see, did, saw, State, told, seen, left, answers, after, Map, get, without, paths, wordsRead, specified}
@@ -23,6 +23,8 @@ use Rattle.tree.proofs.Paths.{onto, turn-turn, Guests}
 use Rattle.tree.proofs.Invariant.{present-set}
 use Rattle.tree.proofs.Whole.{Holds, Fits, holds-look, Next, next-leaves, holds-remove, holds-absent}
 use Rattle.tree.proofs.Count.{Lists, insert-next, insert-not, reads-is}
+use Rattle.words.specs.After.{After}
+use Rattle.area.specs.declared.Went.{Went}
 
 -- ---- the map as leaves
 abbrev pub leaves : Map → List ℕ → ℕ
@@ -122,8 +124,8 @@ pub record Tied (a : Area) (stays : Bool) (guest : List ℕ → ℕ) (t : State)
   pub holds : Holds a stays (t .pool) (t .memory) (leaves es) guest
   pub solid : Solid es
 
-pub record Done (a : Area) (stays : Bool) (guest : List ℕ → ℕ) (t : State) (r : End) (es : Map) : Type 0 where
-  pub yes : told (r .went .way) ≡ did true
+pub record Done (a : Area) (stays : Bool) (guest : List ℕ → ℕ) (t : State) (r : After Went) (es : Map) : Type 0 where
+  pub yes : told (r .result .way) ≡ did true
   pub tied : Tied a stays guest (left r) es
   pub beside : Beside a (t .memory) (r .memory)
 
@@ -134,10 +136,10 @@ module _ {a : Area} {stays : Bool} {guest : List ℕ → ℕ} {t : State} {es : 
   pub see-is : seen (lookOf (a .base) (a .size) (t .memory) (topOf (a .base) (t .pool .fresh)) is 0) ≡ saw (get es is) (wordsRead stays (paths es) is)
   see-is = ap seen (holds-look (v .holds) is f) ∙ ap₂ saw there (reads-is (v .holds) is f (paths es) (map-lists es (v .solid)))
 
-  made : (fs : Map) (r : End) → Solid fs → Next a stays (t .pool) (t .memory) (leaves fs) guest r → Done a stays guest t r fs
+  made : (fs : Map) (r : After Went) → Solid fs → Next a stays (t .pool) (t .memory) (leaves fs) guest r → Done a stays guest t r fs
   made fs r s d = record {
-    yes = ap (λ z. told (z .went .way)) (d .done);
-    tied = record { holds = subst (λ z. Holds a stays (z .went .pool) (z .memory) (leaves fs) guest) (sym (d .done)) (d .holds); solid = s };
+    yes = ap (λ z. told (z .result .way)) (d .done);
+    tied = record { holds = subst (λ z. Holds a stays (z .result .pool) (z .memory) (leaves fs) guest) (sym (d .done)) (d .holds); solid = s };
     beside = subst (λ z. Beside a (t .memory) (z .memory)) (sym (d .done)) (d .beside);
   }
 
@@ -176,36 +178,36 @@ unfolding answers specified Ok
 claim a guest stays t es v [] o = refl
 claim a guest stays t es v (put is gs e ∷ os) o = go (leb (tablesOf (is ∷ paths es)) (a .size)) refl (claim a guest stays t es v os) (λ u n. claim a guest stays u ((is, e) ∷ es) n os)
   where
-    r : End
+    r : After Went
     r = insertOf a gs (t .pool) (t .memory) is e
 
     go : (d : Bool) → leb (tablesOf (is ∷ paths es)) (a .size) ≡ d
         → (Ok a guest stays es os → answers a stays t os ≡ specified (a .size) stays es os)
         → ((u : State) → Tied a stays guest u ((is, e) ∷ es) → Ok a guest stays ((is, e) ∷ es) os → answers a stays u os ≡ specified (a .size) stays ((is, e) ∷ es) os)
-        → told (r .went .way) ∷ answers a stays (left r) os
+        → told (r .result .way) ∷ answers a stays (left r) os
         ≡ cond (leb (tablesOf (is ∷ paths es)) (a .size)) (did true ∷ specified (a .size) stays ((is, e) ∷ es) os) (did false ∷ specified (a .size) stays es os)
     go true q same more =
         let n = put-next v is (o .0) gs e (o .1) (o .2) (o .3) q in
         rw q (ap₂ (λ x rs. x ∷ rs) (n .yes) (more (left r) (n .tied) (rw q at (o .4))))
     go false q same more =
         let n = put-full v is (o .0) gs e (o .1) (o .2) (o .3) q in
-        rw q (ap (λ z. told (z .went .way) ∷ answers a stays (left z) os) n ∙ ap (λ rs. did false ∷ rs) (same (rw q at (o .4))))
+        rw q (ap (λ z. told (z .result .way) ∷ answers a stays (left z) os) n ∙ ap (λ rs. did false ∷ rs) (same (rw q at (o .4))))
 claim a guest stays t es v (cut is ∷ os) o = go (present (get es is)) refl (claim a guest stays t es v os) (λ u n. claim a guest stays u (without is es) n os)
   where
-    r : End
+    r : After Went
     r = removeOf a stays (t .pool) (t .memory) is
 
     go : (d : Bool) → present (get es is) ≡ d
         → (Ok a guest stays es os → answers a stays t os ≡ specified (a .size) stays es os)
         → ((u : State) → Tied a stays guest u (without is es) → Ok a guest stays (without is es) os → answers a stays u os ≡ specified (a .size) stays (without is es) os)
-        → told (r .went .way) ∷ answers a stays (left r) os
+        → told (r .result .way) ∷ answers a stays (left r) os
         ≡ cond (present (get es is)) (did true ∷ specified (a .size) stays (without is es) os) (did false ∷ specified (a .size) stays es os)
     go true q same more =
         let n = cut-next v is (o .0) q in
         rw q (ap₂ (λ x rs. x ∷ rs) (n .yes) (more (left r) (n .tied) (rw q at (o .1))))
     go false q same more =
         let n = cut-none v is (o .0) q in
-        rw q (ap (λ z. told (z .went .way) ∷ answers a stays (left z) os) n ∙ ap (λ rs. did false ∷ rs) (same (rw q at (o .1))))
+        rw q (ap (λ z. told (z .result .way) ∷ answers a stays (left z) os) n ∙ ap (λ rs. did false ∷ rs) (same (rw q at (o .1))))
 claim a guest stays t es v (see is ∷ os) o = ap₂ (λ x rs. x ∷ rs) (see-is v is (o .0)) (claim a guest stays t es v os (o .1))
 
 -- words outside the area never change, and the length stays
@@ -216,7 +218,7 @@ claim-beside a guest stays t es v [] o = beside-refl a (t .memory)
 claim-beside a guest stays t es v (put is gs e ∷ os) o =
     go (leb (tablesOf (is ∷ paths es)) (a .size)) refl (claim-beside a guest stays t es v os) (λ u n. claim-beside a guest stays u ((is, e) ∷ es) n os)
   where
-    r : End
+    r : After Went
     r = insertOf a gs (t .pool) (t .memory) is e
 
     go : (d : Bool) → leb (tablesOf (is ∷ paths es)) (a .size) ≡ d
@@ -232,7 +234,7 @@ claim-beside a guest stays t es v (put is gs e ∷ os) o =
 claim-beside a guest stays t es v (cut is ∷ os) o =
     go (present (get es is)) refl (claim-beside a guest stays t es v os) (λ u n. claim-beside a guest stays u (without is es) n os)
   where
-    r : End
+    r : After Went
     r = removeOf a stays (t .pool) (t .memory) is
 
     go : (d : Bool) → present (get es is) ≡ d

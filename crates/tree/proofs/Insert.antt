@@ -14,7 +14,7 @@ use Rattle.area.specs.declared.Area.{Area}
 use Rattle.area.specs.declared.Pool.{Pool}
 use Rattle.area.specs.declared.Way.the-variants.{To, Not}
 use Rattle.area.specs.Header.{entryIn, putOf}
-use Rattle.area.specs.Pool.{hopOf, End, end}
+use Rattle.area.specs.Pool.{hopOf, end}
 use Rattle.area.specs.Tree.{roomOf, enterOf, hangOf, descendOf, downOf, placeOf, insertOf}
 use Rattle.tree.proofs.Change.{eq?, upd, upd-on, upd-at, upd-other, not-some, is-some}
 use Rattle.tree.proofs.Stores.{Beside, beside-trans}
@@ -22,6 +22,8 @@ use Rattle.tree.proofs.Invariant.{slot, hop-zero, Tables, hop-table, fr
 use Rattle.tree.proofs.Grow.{Hung, hang-is, enter-is, set-leaf, put-beside}
 use Rattle.tree.proofs.Paths.{onto, onto-other, Small, Pre, Clear, Guests}
 use Rattle.tree.proofs.Find.{lacks, lacks-upd, lacks-some, lacks-none, lacks-leaf, room-fits, room-full}
+use Rattle.words.specs.After.{After}
+use Rattle.area.specs.declared.Went.{Went}
 
 -- a path that may be inserted: from the prefix x on by the indexes; its tables are named by the list of guest frames
 pub record Route (a : Area) (ts : List ℕ → Option ℕ) (lv guest : List ℕ → ℕ) (gs : List ℕ) (x is : List ℕ) : Type 0 where
@@ -54,7 +56,7 @@ route-upd {ts = ts} x i is o r = record {
 }
 
 -- what putting an entry at the end of a path leaves: t is the step, x and the indexes the path from where it starts
-pub record Placed (a : Area) (p : Pool) (m : List ℕ) (ts : List ℕ → Option ℕ) (lv guest : List ℕ → ℕ) (t : End) (x is : List ℕ) (e : ℕ) : Type 0 where
+pub record Placed (a : Area) (p : Pool) (m : List ℕ) (ts : List ℕ → Option ℕ) (lv guest : List ℕ → ℕ) (t : After Went) (x is : List ℕ) (e : ℕ) : Type 0 where
   pub pool : Pool
   pub tabs : List ℕ → Option ℕ
   pub list : List ℕ
@@ -70,8 +72,8 @@ pub record Placed (a : Area) (p : Pool) (m : List ℕ) (ts : List ℕ → Option
   pub beside : Beside a m memory
 
 -- on from a table that stands, and from one just handed out
-module _ {a : Area} {p : Pool} {m : List ℕ} {ts : List ℕ → Option ℕ} {lv guest : List ℕ → ℕ} {t : End} (x : List ℕ) (i : ℕ) (is : List ℕ) (e : ℕ) (h : ℕ) where
-  placed-old : ts x ≡ some h → {u : End} → t ≡ u → Placed a p m ts lv guest u (i ∷ x) is e → Placed a p m ts lv guest t x (i ∷ is) e
+module _ {a : Area} {p : Pool} {m : List ℕ} {ts : List ℕ → Option ℕ} {lv guest : List ℕ → ℕ} {t : After Went} (x : List ℕ) (i : ℕ) (is : List ℕ) (e : ℕ) (h : ℕ) where
+  placed-old : ts x ≡ some h → {u : After Went} → t ≡ u → Placed a p m ts lv guest u (i ∷ x) is e → Placed a p m ts lv guest t x (i ∷ is) e
   unfolding onto
   placed-old tx q d = record {
     pool = d .pool;
@@ -89,7 +91,7 @@ module _ {a : Area} {p : Pool} {m : List ℕ} {ts : List ℕ → Option ℕ} {lv
     beside = d .beside;
   }
 
-  placed-new : ts x ≡ none → {q : Pool} {n : List ℕ} → q .used ≡ p .used + 1 → Beside a m n → {u : End} → t ≡ u
+  placed-new : ts x ≡ none → {q : Pool} {n : List ℕ} → q .used ≡ p .used + 1 → Beside a m n → {u : After Went} → t ≡ u
       → Placed a q n (upd ts x (some h)) lv guest u (i ∷ x) is e → Placed a p m ts lv guest t x (i ∷ is) e
   unfolding onto
   placed-new tx more b q d = record {

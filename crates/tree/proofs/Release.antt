@@ -15,13 +15,15 @@ use Rattle.area.specs.declared.Area.{Area}
 use Rattle.area.specs.declared.Pool.{Pool}
 use Rattle.area.specs.declared.Way.the-variants.{To, Not}
 use Rattle.area.specs.Header.{levelOf, parentOf, bareOf}
-use Rattle.area.specs.Pool.{End, end, noneOf, giveOf}
+use Rattle.area.specs.Pool.{end, noneOf, giveOf}
 use Rattle.area.specs.Remove.{unhangOf, shutOf, releaseOf}
 use Rattle.tree.proofs.Change.{differ, eq?, upd, upd-on, upd-other, longer, not-some, is-some}
 use Rattle.tree.proofs.Stores.{Beside, beside-refl, beside-trans}
 use Rattle.tree.proofs.Invariant.{slot, present-zero, Tables, Leaf, Exact, rooted, fresh-some}
 use Rattle.tree.proofs.Shrink.{Busy, bare-false, Unhung, unhung, unhang-is, unhang-not, shut-is, shut-not}
 use Rattle.tree.proofs.Paths.{Ext, ext-empty, ext-trans, ext-long}
+use Rattle.words.specs.After.{After}
+use Rattle.area.specs.declared.Went.{Went}
 
 -- every table but x and its prefixes has a leaf below it
 abbrev pub ButAbove : (List ℕ → Option ℕ) → (List ℕ → ℕ) → List ℕ → Type 0
@@ -47,7 +49,7 @@ but-clear ts lv x i all y k = elim (all y k) [
     leaf r (no q) = inr (inr (record { path = r .path; under = r .under; set = λ v. r .set (sym (upd-other lv (i ∷ x) 0 (r .path) q) ∙ v) }))
 
 -- what a release leaves of the tables ts in the memory m; t is the step
-pub record Released (a : Area) (stays : Bool) (p : Pool) (m : List ℕ) (ts : List ℕ → Option ℕ) (lv guest : List ℕ → ℕ) (t : End) : Type 0 where
+pub record Released (a : Area) (stays : Bool) (p : Pool) (m : List ℕ) (ts : List ℕ → Option ℕ) (lv guest : List ℕ → ℕ) (t : After Went) : Type 0 where
   pub pool : Pool
   pub tabs : List ℕ → Option ℕ
   pub list : List ℕ
@@ -110,7 +112,7 @@ module _ {a : Area} {p : Pool} {ts : List ℕ → Option ℕ} {lv guest : List �
       ]
 
   -- nothing more is given back
-  stop : (stays : Bool) (f : ℕ) {t : End} → t ≡ end p (To f) m → Exact stays ts lv → IsSome (ts []) → Released a stays p m ts lv guest t
+  stop : (stays : Bool) (f : ℕ) {t : After Went} → t ≡ end p (To f) m → Exact stays ts lv → IsSome (ts []) → Released a stays p m ts lv guest t
   stop stays f q ex top = record {
     pool = p;
     tabs = ts;

@@ -44,7 +44,7 @@ unfolding Solid
 start-top a guest m r deep room thin =
     let o = holds-top a guest m (r .small) (r .flat) (r .long) deep room thin in
     record {
-      holds = subst (λ z. Holds a true (z .went .pool) (z .memory) (leaves []) guest) (sym (o .done)) (holds-leaves (o .holds) (leaves []) no-leaves);
+      holds = subst (λ z. Holds a true (z .result .pool) (z .memory) (leaves []) guest) (sym (o .done)) (holds-leaves (o .holds) (leaves []) no-leaves);
       solid = tt;
     }
 

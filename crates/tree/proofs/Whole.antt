@@ -16,7 +16,7 @@ use Rattle.area.specs.declared.Area.{Area}
 use Rattle.area.specs.declared.Pool.{Pool}
 use Rattle.area.specs.declared.Way.the-variants.{To, Not}
 use Rattle.area.specs.declared.Look.the-variants.{Seen}
-use Rattle.area.specs.Pool.{End, end, noneOf}
+use Rattle.area.specs.Pool.{end, noneOf}
 use Rattle.area.specs.Tree.{topOf, lookOf, roomOf, enterOf, placeOf, insertOf}
 use Rattle.area.specs.Remove.{removeOf}
 use Rattle.tree.proofs.Change.{eq?, upd, upd-at, upd-other, is-some}
@@ -29,6 +29,8 @@ use Rattle.tree.proofs.Find.{steps, lacks, steps-lacks, steps-none, loo
 use Rattle.tree.proofs.Insert.{Route, Placed, place-is, insert-place, insert-full}
 use Rattle.tree.proofs.Release.{Released}
 use Rattle.tree.proofs.Remove.{remove-is, remove-absent}
+use Rattle.words.specs.After.{After}
+use Rattle.area.specs.declared.Went.{Went}
 
 pub record Holds (a : Area) (stays : Bool) (p : Pool) (m : List ℕ) (lv guest : List ℕ → ℕ) : Type 0 where
   pub tabs : List ℕ → Option ℕ
@@ -194,12 +196,12 @@ module _ {a : Area} {stays : Bool} {p : Pool} {m : List ℕ} {lv guest : List �
     holds-look = lookup-is (h .tables) is on-way (f .small) at-end
 
 -- after a release
-pub released-holds : {a : Area} {stays : Bool} {p : Pool} {m : List ℕ} {ts : List ℕ → Option ℕ} {lv guest : List ℕ → ℕ} {t : End}
+pub released-holds : {a : Area} {stays : Bool} {p : Pool} {m : List ℕ} {ts : List ℕ → Option ℕ} {lv guest : List ℕ → ℕ} {t : After Went}
     (d : Released a stays p m ts lv guest t) → Holds a stays (d .pool) (d .memory) lv guest
 released-holds d = record { tabs = d .tabs; list = d .list; pres = d .pres; tables = d .tables; exact = d .exact; top = d .top }
 
 -- ---- insert
-pub record Next (a : Area) (stays : Bool) (p : Pool) (m : List ℕ) (lv guest : List ℕ → ℕ) (t : End) : Type 0 where
+pub record Next (a : Area) (stays : Bool) (p : Pool) (m : List ℕ) (lv guest : List ℕ → ℕ) (t : After Went) : Type 0 where
   pub pool : Pool
   pub memory : List ℕ
   pub frame : ℕ
@@ -207,7 +209,7 @@ pub record Next (a : Area) (stays : Bool) (p : Pool) (m : List ℕ) (lv guest : 
   pub holds : Holds a stays pool memory lv guest
   pub beside : Beside a m memory
 
-pub next-leaves : {a : Area} {stays : Bool} {p : Pool} {m : List ℕ} {lv guest : List ℕ → ℕ} {t : End} (lw : List ℕ → ℕ) → ((y : List ℕ) → lv y ≡ lw y)
+pub next-leaves : {a : Area} {stays : Bool} {p : Pool} {m : List ℕ} {lv guest : List ℕ → ℕ} {t : After Went} (lw : List ℕ → ℕ) → ((y : List ℕ) → lv y ≡ lw y)
     → Next a stays p m lv guest t → Next a stays p m lw guest t
 next-leaves {a = a} {stays = stays} {p = p} {m = m} {guest = guest} {t = t} lw e d = subst (λ l. Next a stays p m l guest t) (λ i y. e y i) d
 

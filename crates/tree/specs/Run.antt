@@ -13,9 +13,10 @@ use Rattle.area.specs.declared.Way.{Way}
 use Rattle.area.specs.declared.Way.the-variants.{To, Not, Bad}
 use Rattle.area.specs.declared.Look.{Look}
 use Rattle.area.specs.declared.Look.the-variants.{Seen, Broken}
-use Rattle.area.specs.Pool.{End}
 use Rattle.area.specs.Tree.{topOf, lookOf, insertOf}
 use Rattle.area.specs.Remove.{removeOf}
+use Rattle.words.specs.After.{After}
+use Rattle.area.specs.declared.Went.{Went}
 
 -- a path from the top: its entry set, with the guest frames of its tables by depth; its entry removed; its entry looked up
 pub data Op : Type 0 where
@@ -43,13 +44,13 @@ abbrev pub seen : Look → Reply
 seen (Seen e n) = saw e n
 seen Broken = broke
 
-abbrev pub left : End → State
-left t = record { pool = t .went .pool; memory = t .memory }
+abbrev pub left : After Went → State
+left t = record { pool = t .result .pool; memory = t .memory }
 
 unfoldable pub answers : Area → Bool → State → List Op → List Reply
 answers a stays t [] = []
-answers a stays t (put is gs e ∷ os) = let r = insertOf a gs (t .pool) (t .memory) is e in told (r .went .way) ∷ answers a stays (left r) os
-answers a stays t (cut is ∷ os) = let r = removeOf a stays (t .pool) (t .memory) is in told (r .went .way) ∷ answers a stays (left r) os
+answers a stays t (put is gs e ∷ os) = let r = insertOf a gs (t .pool) (t .memory) is e in told (r .result .way) ∷ answers a stays (left r) os
+answers a stays t (cut is ∷ os) = let r = removeOf a stays (t .pool) (t .memory) is in told (r .result .way) ∷ answers a stays (left r) os
 answers a stays t (see is ∷ os) = seen (lookOf (a .base) (a .size) (t .memory) (topOf (a .base) (t .pool .fresh)) is 0) ∷ answers a stays t os
 
 unfoldable pub after : Area → Bool → State → List Op → State

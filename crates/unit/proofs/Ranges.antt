@@ -19,12 +19,14 @@ use Rattle.marks.proofs.Book.{keysOf, may-set, may-clear}
 use Rattle.record.specs.declared.Record.{Record}
 use Rattle.record.specs.Record.{levels, configOf, fitsOf}
 use Rattle.record.proofs.Rules.{fits-layout}
-use Rattle.request.specs.Translate.{Out}
-use Rattle.request.specs.Store.{Stored, storeOf}
+use Rattle.request.specs.Store.{storeOf}
 use Rattle.request.proofs.Fits.{ArrivedIn}
 use Rattle.request.proofs.Leaves.{TopFits, Leaves, translate-leaves, store-leaves}
 use Rattle.request.proofs.Device.{device-in}
 use Rattle.unit.specs.Calls.{Sound, translatedOf, depthAt}
+use Rattle.words.specs.After.{After}
+use Rattle.request.specs.declared.Translated.{Translated}
+use Rattle.request.specs.declared.Put.{Put}
 
 pub fits-sound : (r : Record) (len : ℕ) → fitsOf r len ≡ true → Sound r
 fits-sound r len e = let f = fits-layout r len e in (f .layout, f .shadow .0)
@@ -42,7 +44,7 @@ module _ (r : Record) (len : ℕ) (e : fitsOf r len ≡ true) where
       go (inr g) = small (r .top) g
 
   -- what a translation leaves
-  pub leaves : (m : List ℕ) (st : Bool) (a : ℕ) (o : Out) → o ≡ translatedOf r m st a → Leaves (configOf r) m o
+  pub leaves : (m : List ℕ) (st : Bool) (a : ℕ) (o : After Translated) → o ≡ translatedOf r m st a → Leaves (configOf r) m o
   unfolding translatedOf
   leaves m st a o q =
       let f = fits-layout r len e in
@@ -54,7 +56,7 @@ pub device-arrived : (c : Config) (m : List ℕ) (a : ℕ) (r : Walked) → walk
 device-arrived c m a r q = subst (ArrivedIn c) q (device-in c m (pageOf a))
 
 -- the exits of a store
-pub put-exits : (c : Config) (m : List ℕ) (p : Pool) (t i v : ℕ) (o : Stored) → p .fresh ≤ c .shadows → o ≡ storeOf c m p t i v → o .put .exits ≤ 1
+pub put-exits : (c : Config) (m : List ℕ) (p : Pool) (t i v : ℕ) (o : After Put) → p .fresh ≤ c .shadows → o ≡ storeOf c m p t i v → o .result .exits ≤ 1
 put-exits c m p t i v o h q = rw q (store-leaves c m p t i v h .exits)
 
 -- a mark that is set or cleared has a level that a key can hold

@@ -6,12 +6,11 @@ ghost use Rattle.spec.specs.Entry.{pageOf, wordOf};
 ghost use Rattle.spec.specs.Refusal.{addressFits, deviceFits, wordAligned};
 ghost use Rattle.entry.specs.Levels.{ofLevels};
 ghost use Rattle.host.specs.Walk.{LayoutFits, config};
-ghost use Rattle.host.specs.Map.{changes};
 ghost use Rattle.marks.specs.Key.{depthOf};
 ghost use Rattle.marks.specs.Table.{keys};
 ghost use Rattle.record.specs.Record.{levels};
-ghost use Rattle.request.specs.Translate.{outs, translateOf};
-ghost use Rattle.unit.specs.Calls.{ends, Sound, answerOf, topAfter, withHeld, withHost, openCall, loadOf, storeCall, deviceCall, rootCall, unmappedOf, changedBy, mapCall, unmapCall, markedOf, setMarkCall, clearMarkCall};
+ghost use Rattle.request.specs.Translate.{translateOf};
+ghost use Rattle.unit.specs.Calls.{Sound, answerOf, topAfter, withHeld, withHost, openCall, loadOf, storeCall, deviceCall, rootCall, unmappedOf, changedBy, mapCall, unmapCall, markedOf, setMarkCall, clearMarkCall};
 use area::Pool;
 use entry::GuestPhysical;
 use entry::GuestVirtual;
@@ -24,6 +23,7 @@ use record::Record;
 use request::Translated;
 use spec::Answer;
 use walk::Walked;
+ghost use Rattle.words.specs.After.{yields};
 
 // What a call hands back.
 pub struct Reply {
@@ -63,7 +63,7 @@ fn with_host(mut unit: Record, pool: Pool) -> Record
 
 // Opens the memory: 1, 2.
 pub fn open(mem: &mut [u64], hosts: u64, shadows: u64) -> Reply
-    ensures { λ r. ⌜ ends r (now (mem .exit)) ≡ openCall (now (mem .entry)) hosts shadows ⌝ }
+    ensures { λ r. ⌜ yields r (now (mem .exit)) ≡ openCall (now (mem .entry)) hosts shadows ⌝ }
 {
     let opened = record::open(mem, hosts, shadows);
     let unit = opened.unit;
@@ -124,7 +124,7 @@ fn translated(
     a: GuestVirtual,
 ) -> Translated
     requires { ⌜ (LayoutFits l) × (top < 1099511627776) ⌝ }
-    ensures { λ r. ⌜ outs r (now (mem .exit)) ≡ translateOf (config l) (now (mem .entry)) pool top (root .0) store (a .0) (depthOf (pageOf (a .0)) (keys (now (place .entry)) set)) ⌝ }
+    ensures { λ r. ⌜ yields r (now (mem .exit)) ≡ translateOf (config l) (now (mem .entry)) pool top (root .0) store (a .0) (depthOf (pageOf (a .0)) (keys (now (place .entry)) set)) ⌝ }
 {
     let d = marks::depth(place, set, a);
     request::translate(mem, l, pool, top, root, store, a, d)
@@ -132,7 +132,7 @@ fn translated(
 
 // Loads a word: 3, 4, 11.
 pub fn load(mut unit: Record, mem: &mut [u64], a: u64) -> Reply
-    ensures { λ r. ⌜ ends r (now (mem .exit)) ≡ loadOf unit (now (mem .entry)) a ⌝ }
+    ensures { λ r. ⌜ yields r (now (mem .exit)) ≡ loadOf unit (now (mem .entry)) a ⌝ }
 {
     let at = GuestVirtual(a);
     if record::fits(
@@ -214,7 +214,7 @@ pub fn load(mut unit: Record, mem: &mut [u64], a: u64) -> Reply
 
 // Stores a word; the paths whose shadow part read it are dropped: 3, 4, 11.
 pub fn store(mut unit: Record, mem: &mut [u64], a: u64, v: u64) -> Reply
-    ensures { λ r. ⌜ ends r (now (mem .exit)) ≡ storeCall unit (now (mem .entry)) a v ⌝ }
+    ensures { λ r. ⌜ yields r (now (mem .exit)) ≡ storeCall unit (now (mem .entry)) a v ⌝ }
 {
     let at = GuestVirtual(a);
     if record::fits(
@@ -303,7 +303,7 @@ pub fn store(mut unit: Record, mem: &mut [u64], a: u64, v: u64) -> Reply
 
 // A device stores a word at a guest-physical address; the paths whose shadow part read it are dropped: 3, 4, 11.
 pub fn device_store(mut unit: Record, mem: &mut [u64], a: u64, v: u64) -> Reply
-    ensures { λ r. ⌜ ends r (now (mem .exit)) ≡ deviceCall unit (now (mem .entry)) a v ⌝ }
+    ensures { λ r. ⌜ yields r (now (mem .exit)) ≡ deviceCall unit (now (mem .entry)) a v ⌝ }
 {
     if record::fits(
         &unit.marks.place,
@@ -376,7 +376,7 @@ pub fn device_store(mut unit: Record, mem: &mut [u64], a: u64, v: u64) -> Reply
 
 // Another root; all held paths are dropped: 3, 8.
 pub fn load_root(unit: Record, mem: &mut [u64], g: u64) -> Reply
-    ensures { λ r. ⌜ ends r (now (mem .exit)) ≡ rootCall unit (now (mem .entry)) g ⌝ }
+    ensures { λ r. ⌜ yields r (now (mem .exit)) ≡ rootCall unit (now (mem .entry)) g ⌝ }
 {
     let root = GuestPhysical(g);
     if unit.fits(mem.len()) {
@@ -403,7 +403,7 @@ pub fn load_root(unit: Record, mem: &mut [u64], g: u64) -> Reply
 // After a change of the mapping of g that left this pool of the host tables: the held paths that used it are dropped.
 fn remapped(unit: Record, host: Pool, mem: &mut [u64], g: GuestPhysical) -> Reply
     requires { ⌜ Sound unit ⌝ }
-    ensures { λ r. ⌜ ends r (now (mem .exit)) ≡ unmappedOf unit (withHost unit host) (now (mem .entry)) (g .0) ⌝ }
+    ensures { λ r. ⌜ yields r (now (mem .exit)) ≡ unmappedOf unit (withHost unit host) (now (mem .entry)) (g .0) ⌝ }
 {
     if g.0 == unit.root {
         return Reply {
@@ -430,7 +430,7 @@ fn remapped(unit: Record, host: Pool, mem: &mut [u64], g: GuestPhysical) -> Repl
 // What a change of the mapping of g yields; was: what its host walk came to before.
 fn changed(unit: Record, change: Change, mem: &mut [u64], g: GuestPhysical, was: HostWalk) -> Reply
     requires { ⌜ Sound unit ⌝ }
-    ensures { λ r. ⌜ ends r (now (mem .exit)) ≡ changedBy unit (g .0) was (changes change (now (mem .entry))) ⌝ }
+    ensures { λ r. ⌜ yields r (now (mem .exit)) ≡ changedBy unit (g .0) was (yields change (now (mem .entry))) ⌝ }
 {
     let host = change.pool;
     if change.refusal == 0 {
@@ -455,7 +455,7 @@ fn changed(unit: Record, change: Change, mem: &mut [u64], g: GuestPhysical, was:
 
 // Maps a guest frame to a host frame, or maps it anew: 3, 8, 9, 10, 11.
 pub fn map(unit: Record, mem: &mut [u64], g: u64, f: u64, writable: bool) -> Reply
-    ensures { λ r. ⌜ ends r (now (mem .exit)) ≡ mapCall unit (now (mem .entry)) g f writable ⌝ }
+    ensures { λ r. ⌜ yields r (now (mem .exit)) ≡ mapCall unit (now (mem .entry)) g f writable ⌝ }
 {
     let guest = GuestPhysical(g);
     if unit.fits(mem.len()) {
@@ -473,7 +473,7 @@ pub fn map(unit: Record, mem: &mut [u64], g: u64, f: u64, writable: bool) -> Rep
 
 // Unmaps a guest frame: 3, 8, 12, 11.
 pub fn unmap(unit: Record, mem: &mut [u64], g: u64) -> Reply
-    ensures { λ r. ⌜ ends r (now (mem .exit)) ≡ unmapCall unit (now (mem .entry)) g ⌝ }
+    ensures { λ r. ⌜ yields r (now (mem .exit)) ≡ unmapCall unit (now (mem .entry)) g ⌝ }
 {
     let guest = GuestPhysical(g);
     if unit.fits(mem.len()) {
@@ -502,7 +502,7 @@ fn top_after(level: u64, top: u64) -> u64
 // as many indexes as tables stand above one of its level.
 fn marked(unit: Record, mem: &mut [u64], a: GuestVirtual, level: u64, marks: Marks) -> Reply
     requires { ⌜ (Sound unit) × (level < 8) ⌝ }
-    ensures { λ r. ⌜ ends r (now (mem .exit)) ≡ markedOf unit (now (mem .entry)) (a .0) level marks ⌝ }
+    ensures { λ r. ⌜ yields r (now (mem .exit)) ≡ markedOf unit (now (mem .entry)) (a .0) level marks ⌝ }
 {
     let l = record::layout(unit.words, unit.hosts, unit.shadows);
     let kept = shadow::links(record::LEVELS, level);
@@ -524,7 +524,7 @@ fn marked(unit: Record, mem: &mut [u64], a: GuestVirtual, level: u64, marks: Mar
 
 // Sets a mark: 3, 4, 5, 6, 7, 11.
 pub fn set_mark(unit: Record, mem: &mut [u64], a: u64, level: u64) -> Reply
-    ensures { λ r. ⌜ ends r (now (mem .exit)) ≡ setMarkCall unit (now (mem .entry)) a level ⌝ }
+    ensures { λ r. ⌜ yields r (now (mem .exit)) ≡ setMarkCall unit (now (mem .entry)) a level ⌝ }
 {
     let at = GuestVirtual(a);
     if unit.fits(mem.len()) {
@@ -560,7 +560,7 @@ pub fn set_mark(unit: Record, mem: &mut [u64], a: u64, level: u64) -> Reply
 
 // Clears a mark: 3, 4, 5, 6, 11.
 pub fn clear_mark(unit: Record, mem: &mut [u64], a: u64, level: u64) -> Reply
-    ensures { λ r. ⌜ ends r (now (mem .exit)) ≡ clearMarkCall unit (now (mem .entry)) a level ⌝ }
+    ensures { λ r. ⌜ yields r (now (mem .exit)) ≡ clearMarkCall unit (now (mem .entry)) a level ⌝ }
 {
     let at = GuestVirtual(a);
     if unit.fits(mem.len()) {

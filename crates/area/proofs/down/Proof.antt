@@ -3,13 +3,13 @@ use native.Mathlib.Omega.{arith}
 use mathlib.Core.Path.{_≡_, sym, _∙_}
 use lib.ListN.{length}
 use Rattle.spec.specs.Entry.{index, indexes}
-use Rattle.area.specs.Pool.{ends}
 use Rattle.area.specs.Tree.{onward, downOf}
 use Rattle.area.proofs.Laws.{AreaGood, descend-good, down-step, down-last}
 use Rattle.entry.proofs.Entries.{index-fits}
 use borrow.Author.Needs.{needs}
 use Rattle.area.proofs.down.Statement.{statement}
 use Rattle.area.proofs.down.Tie as tie
+use Rattle.words.specs.After.{yields}
 
 abbrev Inv-loop : tie.InvT-loop
 Inv-loop a guests mem₀ f g k e cur₀ t₀ left₀ depth₀ mem cur t left depth = (left + depth ≡ k - 1) × (t < 1099511627776) × (length mem ≡ length mem₀) × (downOf a guests cur mem depth t (index left g) (indexes left g) e ≡ downOf a guests cur₀ mem₀ depth₀ t₀ (index left₀ g) (indexes left₀ g) e)
@@ -20,7 +20,7 @@ abbrev μ-loop : tie.MeasureT-loop
 turn : (c : tie.After-descend Inv-loop μ-loop) →
     let a = c .before .before .before .before .before .before .before .before .before .args in
     let l = c .before .before .before .before .before .before .loop in
-    onward (ends (c .descend .result) (c .descend .last .1 .1 .0)) (λ q n h. downOf (a .a) (a .guests .now) q n (l .depth + 1) h (index (l .left - 1) (a .g)) (indexes (l .left - 1) (a .g)) (a .e))
+    onward (yields (c .descend .result) (c .descend .last .1 .1 .0)) (λ q n h. downOf (a .a) (a .guests .now) q n (l .depth + 1) h (index (l .left - 1) (a .g)) (indexes (l .left - 1) (a .g)) (a .e))
     ≡ downOf (a .a) (a .guests .now) (a .p) (a .mem .now) 0 (a .f) (index (a .k - 1) (a .g)) (indexes (a .k - 1) (a .g)) (a .e)
 turn c =
     let args = c .before .before .before .before .before .before .before .before .before .args in

@@ -3,7 +3,6 @@ use mathlib.Core.Path.{_≡_, sym, subst, _∙_}
 use mathlib.Core.Bool.{true}
 use lib.ListN.{length}
 use Rattle.record.specs.Record.{configOf, fitsOf}
-use Rattle.request.specs.Translate.{outs}
 use Rattle.request.proofs.Fits.{ArrivedIn}
 use Rattle.request.proofs.Leaves.{Leaves}
 use Rattle.unit.specs.Calls.{translatedOf, withHeld, storeBy, storeCall}
@@ -11,17 +10,18 @@ use Rattle.unit.proofs.Ranges.{fits-sound, small, top-small, leaves, pu
 use borrow.Author.Needs.{needs}
 use Rattle.unit.proofs.store.Statement.{statement}
 use Rattle.unit.proofs.store.Tie as tie
+use Rattle.words.specs.After.{yields}
 
 -- the record breaks no rule
 fit : (c : tie.Then1) → fitsOf (c .before .before .before .before .before .before .before .args .t1) (length (c .before .before .before .before .before .before .before .args .mem .now)) ≡ true
 fit c = sym (c .before .fits2 .ensures) ∙ c .if1 .taken
 
 -- the call, once the address is translated
-came : (c : tie.After-translated) → storeCall (c .before .before .before .before .before .before .before .before .before .before .before .before .before .before .before .args .t1) (c .before .before .before .before .before .before .before .before .before .before .before .before .before .before .before .args .mem .now) (c .before .before .before .before .before .before .before .before .before .before .before .before .before .before .before .args .a) (c .before .before .before .before .before .before .before .before .before .before .before .before .before .before .before .args .v) ≡ storeBy (c .before .before .before .before .before .before .before .before .before .before .before .before .before .before .before .args .t1) (c .before .before .before .before .before .before .before .before .before .before .before .before .before .before .before .args .a) (c .before .before .before .before .before .before .before .before .before .before .before .before .before .before .before .args .v) (outs (c .translated .result) (c .translated .last .0)) (c .translated .result .walked)
+came : (c : tie.After-translated) → storeCall (c .before .before .before .before .before .before .before .before .before .before .before .before .before .before .before .args .t1) (c .before .before .before .before .before .before .before .before .before .before .before .before .before .before .before .args .mem .now) (c .before .before .before .before .before .before .before .before .before .before .before .before .before .before .before .args .a) (c .before .before .before .before .before .before .before .before .before .before .before .before .before .before .before .args .v) ≡ storeBy (c .before .before .before .before .before .before .before .before .before .before .before .before .before .before .before .args .t1) (c .before .before .before .before .before .before .before .before .before .before .before .before .before .before .before .args .a) (c .before .before .before .before .before .before .before .before .before .before .before .before .before .before .before .args .v) (yields (c .translated .result) (c .translated .last .0)) (c .translated .result .walked)
 unfolding storeCall translatedOf
 came c = rw (fit (c .before .before .before .before .before .before .before .before), ← c .before .before .before .before .before .before .before .address-ok .ensures, c .before .before .before .before .before .before .if2 .taken, ← (rw (c .before .before .before .before .before .layout .ensures) at (c .translated .ensures)))
 
-left : (c : tie.After-translated) → Leaves (configOf (c .before .before .before .before .before .before .before .before .before .before .before .before .before .before .before .args .t1)) (c .before .before .before .before .before .before .before .before .before .before .before .before .before .before .before .args .mem .now) (outs (c .translated .result) (c .translated .last .0))
+left : (c : tie.After-translated) → Leaves (configOf (c .before .before .before .before .before .before .before .before .before .before .before .before .before .before .before .args .t1)) (c .before .before .before .before .before .before .before .before .before .before .before .before .before .before .before .args .mem .now) (yields (c .translated .result) (c .translated .last .0))
 unfolding translatedOf
 left c = leaves (c .before .before .before .before .before .before .before .before .before .before .before .before .before .before .before .args .t1) _ (fit (c .before .before .before .before .before .before .before .before)) (c .before .before .before .before .before .before .before .before .before .before .before .before .before .before .before .args .mem .now) true (c .before .before .before .before .before .before .before .before .before .before .before .before .before .before .before .args .a) _ (rw (c .before .before .before .before .before .layout .ensures) at (c .translated .ensures))
 
