@@ -21,7 +21,7 @@ use Rattle.host.specs.declared.Change.{Change}
 use Rattle.words.specs.After.{After, yields}
 use Rattle.area.specs.declared.Went.{Went}
 
--- the host tables: frames 0 to H, the top table in frame 0
+-- the host tables: the first H frames
 abbrev pub hostArea : Config → Area
 hostArea c = record { base = 0; size = c .hosts; levels = c .levels }
 
