@@ -25,7 +25,7 @@ use Rattle.marks.specs.Reading.{marksOf}
 use Rattle.marks.proofs.Book.{keysOf, marks-fit, all-held}
 use Rattle.record.specs.declared.Pools.{Pools}
 use Rattle.record.specs.declared.Record.{Record}
-use Rattle.record.specs.Record.{levels, layoutOf, configBy, configOf, heldTop, isTable, poolFits, poolsFit, fitsOf, sizesFit, tablesFit, zeros, withRoot, withMarks}
+use Rattle.record.specs.Record.{levels, layoutOf, configBy, configOf, heldTop, isTable, poolFits, poolsFit, fitsOf, sizesFit, tablesFit, zeros, headOf, headRoot, withHead, withMarks}
 use Rattle.record.specs.Open.{refusalOf}
 
 both : (a b : Bool) → a && b ≡ true → (a ≡ true) × (b ≡ true)
@@ -273,8 +273,8 @@ fits-true r len f =
 
 -- with another root, with other marks
 module _ {r : Record} {len : ℕ} (f : Fits r len) where
-  pub fits-root : (g : ℕ) → g < 2 ^ frameBits (configOf r) → Fits (withRoot r g) len
-  unfolding withRoot
+  pub fits-root : (g : ℕ) → g < 2 ^ frameBits (configOf r) → Fits (withHead r (headRoot (headOf r) g)) len
+  unfolding headRoot
   fits-root g l = record {
     long = f .long;
     sizes = f .sizes;

@@ -10,6 +10,7 @@ use Rattle.spec.specs.Config.{Config}
 use Rattle.spec.specs.Refusal as rule
 use Rattle.spec.specs.Refusal.{areasFit, topFits, recordFits}
 use Rattle.entry.specs.declared.GuestPhysical.{GuestPhysical}
+use Rattle.entry.specs.declared.HostPhysical.{HostPhysical}
 use Rattle.area.specs.declared.Pool.{Pool}
 use Rattle.area.specs.Header.{insideOf}
 use Rattle.area.specs.Pool.{noneOf}
@@ -104,14 +105,16 @@ zeros = record {
   guest = record { root = guestFrame 0; held = page 0; marks = record { set = 0; place = replicate 64 0 } };
 }
 
--- ---- a record with one part changed
+-- ---- with one part changed
 
-unfoldable pub withRoot : Record → ℕ → Record
-withRoot r g = record {
-  layout = r .layout;
-  pools = r .pools;
-  guest = record { root = guestFrame g; held = r .guest .held; marks = r .guest .marks };
-}
+unfoldable pub headRoot : Head → ℕ → Head
+headRoot h g = record { layout = h .layout; pools = h .pools; root = guestFrame g; held = h .held; set = h .set }
+
+unfoldable pub headTables : Head → Pools → HostPhysical → Head
+headTables h p f = record { layout = h .layout; pools = p; root = h .root; held = f; set = h .set }
+
+abbrev pub withHead : Record → Head → Record
+withHead r h = recordBy h (r .guest .marks .place)
 
 unfoldable pub withMarks : Record → Marks → Record
 withMarks r t = record {

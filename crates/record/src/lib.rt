@@ -13,7 +13,7 @@ ghost use Rattle.words.specs.After.{yields};
 ghost use Rattle.host.specs.Walk.{LayoutFits, config};
 ghost use Rattle.marks.specs.Key.{depthOf};
 ghost use Rattle.marks.specs.Table.{keys};
-ghost use Rattle.record.specs.Record.{layoutOf, heldTop, isTable, poolFits, sizesFit, tablesFit, recordBy, headOf, fitsOf, zeros, withRoot, withMarks};
+ghost use Rattle.record.specs.Record.{layoutOf, heldTop, isTable, poolFits, sizesFit, tablesFit, recordBy, headOf, fitsOf, zeros, headRoot, headTables, withHead, withMarks};
 ghost use Rattle.record.specs.Open.{refusalOf, clearedOf, firstOf, grantedOf, openOf};
 
 // Levels of the guest's tables and of the host's that an opening chooses.
@@ -169,6 +169,23 @@ impl Head {
         }
         tables_fit(l, self.held, self.pools)
     }
+
+    // With another root.
+    pub fn with_root(mut self, root: GuestPhysical) -> Head
+        ensures { λ r. ⌜ r ≡ headRoot self (root .0) ⌝ }
+    {
+        self.root = root;
+        self
+    }
+
+    // With other pools and another frame held in the record.
+    pub fn with_tables(mut self, pools: Pools, held: HostPhysical) -> Head
+        ensures { λ r. ⌜ r ≡ headTables self pools held ⌝ }
+    {
+        self.pools = pools;
+        self.held = held;
+        self
+    }
 }
 
 impl Record {
@@ -233,14 +250,27 @@ impl Record {
         )
     }
 
-    // The record with another root.
-    pub fn with_root(mut self, root: GuestPhysical) -> Record
-        ensures { λ r. ⌜ r ≡ withRoot self (root .0) ⌝ }
+    // The record with another head; the places of the marks stay.
+    pub fn with_head(self, head: Head) -> Record
+        ensures { λ r. ⌜ r ≡ withHead self head ⌝ }
     {
-        let mut guest = self.guest;
-        guest.root = root;
-        self.guest = guest;
-        self
+        let layout = head.layout;
+        let pools = head.pools;
+        let root = head.root;
+        let held = head.held;
+        let place = self.guest.marks.place;
+        Record {
+            layout: layout,
+            pools: pools,
+            guest: Guest {
+                root: root,
+                held: held,
+                marks: Marks {
+                    set: head.set,
+                    place: place,
+                },
+            },
+        }
     }
 
     // The record with other marks.

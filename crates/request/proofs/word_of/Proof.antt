@@ -1,8 +1,8 @@
 use mathlib.Core.Path.{refl}
 use native.Mathlib.Omega.{arith}
 use Rattle.spec.specs.Entry.{wordOf}
-use Rattle.unit.proofs.word_of.Statement.{statement}
-use Rattle.unit.proofs.word_of.Tie as tie
+use Rattle.request.proofs.word_of.Statement.{statement}
+use Rattle.request.proofs.word_of.Tie as tie
 
 returns : tie.Need-returns
 unfolding wordOf
