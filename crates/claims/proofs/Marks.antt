@@ -135,7 +135,7 @@ none-of (i ∷ is) e = absurd (omega arith)
 
 -- ---- the drop, for any table that holds the book's marks after the call
 module _ (s : State) (r : Record) (m : List ℕ) (h : Inv s r m) (a n : ℕ) (t : Marks) (ms : List Mark)
-    (word : t .set < 2 ^ 64) (rule : keysFit levels (keysOf t) ≡ true) (agree : SameMembers (marksOf levels t) ms)
+    (word : t .set < 2 ^ 64) (rule : keysFit levels (keysOf t) ≡ true) (agree : SameMembers (marksOf (r .layout .levels) t) ms)
     (book : BookFits (configOf r) (record { marks = ms; held = dropPrefix (take (levels - n) (addressIndexes (configOf r) a)) (s .book .held) })) where
   p : List ℕ
   p = take (levels - n) (addressIndexes (configOf r) a)
@@ -158,27 +158,27 @@ module _ (s : State) (r : Record) (m : List ℕ) (h : Inv s r m) (a n : ℕ) (t 
   left = dropPrefix p held
 
   F : List ℕ → ℕ
-  F = framesAt (configOf r) m (s .machine .root)
+  F = framesAt (configOf r) (hostTop r) m (s .machine .root)
 
   top : ℕ
-  top = cond (ltb n levels) (r .top) 0
+  top = cond (ltb n levels) (r .guest .held .0) 0
 
   abbrev marked : State
   marked = record { config = configOf r; machine = s .machine; book = record { marks = ms; held = dropPrefix (take (levels - n) (addressIndexes (configOf r) a)) (s .book .held) } }
 
-  drops : Dropped (configOf r) m (leafAt (entryOf (configOf r) F) (longer left)) F (dropPrefixOf (configOf r) (r .shadow) m is)
+  drops : Dropped (configOf r) m (leafAt (entryOf (configOf r) F) (longer left)) F (dropPrefixOf (configOf r) (r .pools .shadow) m is)
   unfolding F held left is
   drops =
       let entries = valid-entries (configOf r) (s .machine) m (inv-stands h) (inv-root h) (h .maps .few) (longer held) (all-longer _ held (h .valid)) in
       let d = drop-prefix (inv-shadow h) entries is (omega (arith, indexes-length (levels - n) (pageOf a / 2 ^ (9 * n)))) (indexes-small (levels - n) (pageOf a / 2 ^ (9 * n))) in
-      subst (λ hs. Dropped (configOf r) m (leafAt (entryOf (configOf r) F) hs) F (dropPrefixOf (configOf r) (r .shadow) m is))
+      subst (λ hs. Dropped (configOf r) m (leafAt (entryOf (configOf r) F) hs) F (dropPrefixOf (configOf r) (r .pools .shadow) m is))
       (ap (λ q. dropPrefix q (longer held)) same ∙ sym (longer-keep (λ x. not (begins p (x .path))) held)) d
 
   top-fits : (top ≡ 0) ⊎ InGuestArea (configOf r) top
   unfolding top
   top-fits = go (ltb n levels)
     where
-      go : (b : Bool) → (cond b (r .top) 0 ≡ 0) ⊎ InGuestArea (configOf r) (cond b (r .top) 0)
+      go : (b : Bool) → (cond b (r .guest .held .0) 0 ≡ 0) ⊎ InGuestArea (configOf r) (cond b (r .guest .held .0) 0)
       go true = inv-fits h .top
       go false = inl refl
 
@@ -187,7 +187,7 @@ module _ (s : State) (r : Record) (m : List ℕ) (h : Inv s r m) (a n : ℕ) (t 
   unfolding top F left held
   top-is = go (ltb n levels) refl
     where
-      go : (b : Bool) → ltb n levels ≡ b → cond b (r .top) 0 ≡ topBy (F []) (find [] (dropPrefix p held))
+      go : (b : Bool) → ltb n levels ≡ b → cond b (r .guest .held .0) 0 ≡ topBy (F []) (find [] (dropPrefix p held))
       go true e =
           let some = ltb-true n levels e in
           inv-top h ∙ sym (ap (topBy (F [])) (find-keep (λ x. not (begins p (x .path))) held (all-any _ held (λ x q. begins-none p (x .path) (omega (arith, long)) q))))
@@ -203,7 +203,7 @@ module _ (s : State) (r : Record) (m : List ℕ) (h : Inv s r m) (a n : ℕ) (t 
       let valid = all-kept (Valid c (s .machine)) (λ x. not (begins p (x .path))) held (h .valid) in
       let maps = maps-beside c (d .beside) (h .maps) in
       let area = shadow-drop c (d .beside) ∙ h .area in
-      let now : Stands c (s .machine) (d .memory) = stands c (s .machine) (r .host) (d .memory) maps area in
+      let now : Stands c (s .machine) (d .memory) = stands c (s .machine) (r .pools .host) (d .memory) maps area in
       let staying = all-map _ _ left (λ x v. stays-same c (s .machine) x v) valid in
       let marks = marks-fit c t word (omega arith) ∙ rule in
       invariant marked (withHeld (withMarks r t) (d .pool) top) (d .memory)
@@ -232,29 +232,29 @@ module _ (s : State) (r : Record) (m : List ℕ) (h : Inv s r m) (a n : ℕ) whe
           let above = first-positive (tests (configOf r) x (s .machine) (s .book)) k positive q in
           rw (ne-eqb k 0 (λ z. omega arith)) (follows-no x k h q)
 
-  whole : keysFit levels (keysOf (r .marks)) ≡ true
+  whole : keysFit levels (keysOf (r .guest .marks)) ≡ true
   whole = fits-keys (h .word) (inv-fits h)
 
   pub set-mark-follows : Follows (setMark a n) s r (setMarkCall r m a n)
   unfolding setMarkCall tests machineStep bookStep
   set-mark-follows =
-      let same = set-refused (configOf r) (r .marks) (s .book) (omega arith) (h .word) (h .marks) (s .machine) a n refl in
-      by-refusal (setMark a n) (withKey (r .marks) (keyOf n (pageOf a))) (setRefusal levels (keysOf (r .marks)) a n) same
+      let same = set-refused (configOf r) (r .guest .marks) (s .book) (omega arith) (h .word) (h .marks) (s .machine) a n refl in
+      by-refusal (setMark a n) (withKey (r .guest .marks) (keyOf n (pageOf a))) (setRefusal levels (keysOf (r .guest .marks)) a n) same
       (omega arith, (omega arith, (omega arith, (omega arith, tt)))) refl
       (λ e.
-      let free : number (setRefusal levels (keysOf (r .marks)) a n) ≡ 0 = ap number (same ∙ e) in
-      marked-left s r m h a n (withKey (r .marks) (keyOf n (pageOf a))) (markAt (configOf r) n (addressIndexes (configOf r) a) ∷ s .book .marks)
-      (set-word levels (r .marks) a n (h .word)) (set-rule levels (r .marks) a n (h .word) (omega arith) whole free)
-      (set-granted (configOf r) (r .marks) (s .book) (omega arith) (h .word) (h .marks) a n free) (after-fits (configOf r) (setMark a n) s e (h .book)))
+      let free : number (setRefusal levels (keysOf (r .guest .marks)) a n) ≡ 0 = ap number (same ∙ e) in
+      marked-left s r m h a n (withKey (r .guest .marks) (keyOf n (pageOf a))) (markAt (configOf r) n (addressIndexes (configOf r) a) ∷ s .book .marks)
+      (set-word levels (r .guest .marks) a n (h .word)) (set-rule levels (r .guest .marks) a n (h .word) (omega arith) whole free)
+      (set-granted (configOf r) (r .guest .marks) (s .book) (omega arith) (h .word) (h .marks) a n free) (after-fits (configOf r) (setMark a n) s e (h .book)))
 
   pub clear-mark-follows : Follows (clearMark a n) s r (clearMarkCall r m a n)
   unfolding clearMarkCall tests machineStep bookStep
   clear-mark-follows =
-      let same = clear-refused (configOf r) (r .marks) (s .book) (omega arith) (h .word) (h .marks) (s .machine) a n in
-      by-refusal (clearMark a n) (withoutKey (r .marks) (keyOf n (pageOf a))) (clearRefusal levels (keysOf (r .marks)) a n) same
+      let same = clear-refused (configOf r) (r .guest .marks) (s .book) (omega arith) (h .word) (h .marks) (s .machine) a n in
+      by-refusal (clearMark a n) (withoutKey (r .guest .marks) (keyOf n (pageOf a))) (clearRefusal levels (keysOf (r .guest .marks)) a n) same
       (omega arith, (omega arith, (omega arith, tt))) refl
       (λ e.
-      let free : number (clearRefusal levels (keysOf (r .marks)) a n) ≡ 0 = ap number (same ∙ e) in
-      marked-left s r m h a n (withoutKey (r .marks) (keyOf n (pageOf a))) (keep (λ y. not (sameMark (markAt (configOf r) n (addressIndexes (configOf r) a)) y)) (s .book .marks))
-      (clear-word levels (r .marks) a n (h .word)) (clear-rule levels (r .marks) a n (h .word) (omega arith) whole free)
-      (clear-granted (configOf r) (r .marks) (s .book) (omega arith) (h .word) (h .marks) a n whole free) (after-fits (configOf r) (clearMark a n) s e (h .book)))
+      let free : number (clearRefusal levels (keysOf (r .guest .marks)) a n) ≡ 0 = ap number (same ∙ e) in
+      marked-left s r m h a n (withoutKey (r .guest .marks) (keyOf n (pageOf a))) (keep (λ y. not (sameMark (markAt (configOf r) n (addressIndexes (configOf r) a)) y)) (s .book .marks))
+      (clear-word levels (r .guest .marks) a n (h .word)) (clear-rule levels (r .guest .marks) a n (h .word) (omega arith) whole free)
+      (clear-granted (configOf r) (r .guest .marks) (s .book) (omega arith) (h .word) (h .marks) a n whole free) (after-fits (configOf r) (clearMark a n) s e (h .book)))

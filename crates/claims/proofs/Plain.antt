@@ -33,8 +33,8 @@ use Rattle.marks.proofs.Book.{depth-book}
 use Rattle.record.specs.declared.Record.{Record}
 use Rattle.record.specs.Record.{levels, configOf, configBy}
 use Rattle.record.specs.Open.{refusalOf}
-use Rattle.unit.specs.Calls.{refused, addressOk, depthAt, loadOf, storeCall}
-use Rattle.claims.specs.Run.{callOf, guestArea, runOf}
+use Rattle.unit.specs.Calls.{refused, addressOk, depthAt, loadCall, storeCall}
+use Rattle.claims.specs.Run.{guestArea, runOf}
 use Rattle.claims.proofs.Invariant.{Inv, at}
 use Rattle.laws.proofs.Indexes.{indexes-all}
 use Rattle.claims.proofs.Found.{memory-stands, root-small}
@@ -64,7 +64,7 @@ touched (some v) area k = set area k v
 
 -- the plain two-level walk of a over the guest's and the host's tables as they stand in the memory
 abbrev pub plainWalk : Record → List ℕ → Bool → ℕ → Walked
-plainWalk r m st a = walkedOf (configOf r) m 0 (walk (configOf r) st (r .root) (indexes (configOf r .levels) (pageOf a)))
+plainWalk r m st a = walkedOf (configOf r) (hostTop r) m 0 (walk (configOf r) st (r .guest .root .0) (indexes (configOf r .levels) (pageOf a)))
 
 -- e is what a request leaves that is granted at its word of host frame t. "A granted request reads (4 − d) + 5d words": N + N·d with
 -- the depth d of its address, and at most 24 with four levels
@@ -110,7 +110,7 @@ module _ (s : State) (r : Record) (m : List ℕ) (inv : Inv s r m) where
 
   module _ (a : ℕ) (ok : addressOk r a ≡ true) where
     deep : depthAt r a ≡ depth (s .book .marks) (addressIndexes c a)
-    deep = depth-book c (r .marks) (s .book) (omega arith) (inv .word) (inv .marks) a (fits-of s r m inv a ok)
+    deep = depth-book c (r .guest .marks) (s .book) (omega arith) (inv .word) (inv .marks) a (fits-of s r m inv a ok)
 
     -- the book's count before a word is stored
     abbrev cost : Bool → Counted
@@ -190,7 +190,7 @@ module _ (s : State) (r : Record) (m : List ℕ) (inv : Inv s r m) where
 
   -- an address that does not fit is refused
   unfit-refused : (a : ℕ) (v : Option ℕ) → addressOk r a ≡ false → callOf (requestAt a v) r m ≡ refused r 4 m
-  unfolding callOf loadOf storeCall
+  unfolding callOf loadCall storeCall
   unfit-refused a none q = rw (inv .fits, q)
   unfit-refused a (some v) q = rw (inv .fits, q)
 

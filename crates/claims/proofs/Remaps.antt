@@ -72,7 +72,7 @@ root-left : (s : State) (r : Record) (m : List ℕ) → Inv s r m → (g : ℕ) 
 unfolding withHeld withRoot machineStep bookStep refusal tests
 root-left s r m h g e =
     let f = inv-fits h in
-    let F = framesAt (configOf r) m g in
+    let F = framesAt (configOf r) (hostTop r) m g in
     let none = shadow-none f m refl (entryOf (configOf r) F) F in
     record {
       config = refl;
@@ -142,7 +142,7 @@ module _ (s : State) (r : Record) (m : List ℕ) (h : Inv s r m) (g : ℕ) (ys :
   left = dropMapping g held
 
   F : List ℕ → ℕ
-  F = framesAt (configOf r) m (s .machine .root)
+  F = framesAt (configOf r) (hostTop r) m (s .machine .root)
 
   staying : All (Stays c (s .machine) (remapped (s .machine) ys)) left
   unfolding c left held
@@ -183,7 +183,7 @@ module _ (s : State) (r : Record) (m : List ℕ) (h : Inv s r m) (g : ℕ) (ys :
       (sym (ap (λ hs. topBy (F []) (find [] hs)) gone))
 
   -- the shadow tables are as they were
-  shadow-stays : Holds (shadowArea (configOf r)) false (r .shadow) n (leafAt (entryOf (configOf r) F) (longer held)) F
+  shadow-stays : Holds (shadowArea (configOf r)) false (r .pools .shadow) n (leafAt (entryOf (configOf r) F) (longer held)) F
   unfolding F held
   shadow-stays = holds-beside (inv-shadow h) (hostArea (configOf r)) n (inr (omega arith)) beside
 
@@ -192,8 +192,8 @@ module _ (s : State) (r : Record) (m : List ℕ) (h : Inv s r m) (g : ℕ) (ys :
   unfolding withHeld withHost left held F
   none-left e =
       let same : dropMapping g held ≡ held = keep-all _ held (all-map _ _ held (λ x v. ap not (valid-unused (configOf r) (s .machine) x v g e)) (h .valid)) in
-      moved (r .shadow) (r .top) n (beside-refl (shadowArea (configOf r)) n) (inv-fits h .top)
-      (subst (λ hs. Holds (shadowArea (configOf r)) false (r .shadow) n (leafAt (entryOf (configOf r) F) (longer hs)) F) (sym same) shadow-stays)
+      moved (r .pools .shadow) (r .guest .held .0) n (beside-refl (shadowArea (configOf r)) n) (inv-fits h .top)
+      (subst (λ hs. Holds (shadowArea (configOf r)) false (r .pools .shadow) n (leafAt (entryOf (configOf r) F) (longer hs)) F) (sym same) shadow-stays)
       (inv-top h ∙ sym (ap (λ hs. topBy (F []) (find [] hs)) same))
 
   -- the guest entries on a held path are not in the host area
@@ -219,31 +219,31 @@ module _ (s : State) (r : Record) (m : List ℕ) (h : Inv s r m) (g : ℕ) (ys :
       }
 
   -- the path of no index uses the root's mapping alone
-  top-stays : g ≢ s .machine .root → r .top ≡ topBy (F []) (find [] left)
+  top-stays : g ≢ s .machine .root → r .guest .held .0 ≡ topBy (F []) (find [] left)
   unfolding F left held
   top-stays n = inv-top h ∙ sym (ap (topBy (F [])) (find-keep (λ x. not (usesMapping g x)) held
       (all-map _ _ held (λ x e q. ap not (empty-mapping x q (namedIn m F) (s .machine .root) (e .uses) g ∙ ne-eqb g (s .machine .root) n)) ((entries held (h .valid)) .all))))
 
   -- the paths that used the mapping go, and no other
   scan-left : g ≢ s .machine .root
-      → Moved changedState r (droppedBy r (withHost r p) (r .top) (scanOf (configOf r) (Names (guestFrame g)) (r .shadow) n))
+      → Moved changedState r (droppedBy r (withHost r p) (r .guest .held .0) (scanOf (configOf r) (Names (guestFrame g)) (r .pools .shadow) n))
   unfolding withHeld withHost left held
   scan-left other = go (drop-mapping shadow-stays entries-after g other)
     where
-      go : {t : After Left} → Dropped (configOf r) n (leafAt (entryOf (configOf r) F) (dropMapping g (longer held))) F t → Moved changedState r (droppedBy r (withHost r p) (r .top) t)
-      go d = dropped-left d changedState r (withHost r p) (r .top) refl
-          (moved (d .pool) (r .top) (d .memory) (d .beside) (inv-fits h .top)
+      go : {t : After Left} → Dropped (configOf r) n (leafAt (entryOf (configOf r) F) (dropMapping g (longer held))) F t → Moved changedState r (droppedBy r (withHost r p) (r .guest .held .0) t)
+      go d = dropped-left d changedState r (withHost r p) (r .guest .held .0) refl
+          (moved (d .pool) (r .guest .held .0) (d .memory) (d .beside) (inv-fits h .top)
           (subst (λ hs. Holds (shadowArea (configOf r)) false (d .pool) (d .memory) (leafAt (entryOf (configOf r) F) hs) F) (sym (longer-keep (λ x. not (usesMapping g x)) held)) (d .holds))
           (top-stays other))
 
   unmapped-left : Moved changedState r (unmappedOf r (withHost r p) n g)
   unfolding unmappedOf withHeld withHost
-  unmapped-left = go (eqb g (r .root)) refl
+  unmapped-left = go (eqb g (r .guest .root .0)) refl
     where
-      go : (b : Bool) → eqb g (r .root) ≡ b
-          → Moved changedState r (cond b (ended (withHeld (withHost r p) noneOf 0) answer.Ok n) (droppedBy r (withHost r p) (r .top) (scanOf (configOf r) (Names (guestFrame g)) (r .shadow) n)))
-      go true e = record { config = refl; says = refl; next = all-left (eqb-true g (r .root) e ∙ h .root) }
-      go false e = scan-left (λ k. eqb-false g (r .root) e (k ∙ sym (h .root)))
+      go : (b : Bool) → eqb g (r .guest .root .0) ≡ b
+          → Moved changedState r (cond b (ended (withHeld (withHost r p) noneOf 0) answer.Ok n) (droppedBy r (withHost r p) (r .guest .held .0) (scanOf (configOf r) (Names (guestFrame g)) (r .pools .shadow) n)))
+      go true e = record { config = refl; says = refl; next = all-left (eqb-true g (r .guest .root .0) e ∙ h .root) }
+      go false e = scan-left (λ k. eqb-false g (r .guest .root .0) e (k ∙ sym (h .root)))
 
 -- ---- a refusal leaves the host tables
 module _ (c : Config) (xs : List Mapping) (p : Pool) (m : List ℕ) (h : Maps c xs p m) (n g : ℕ) where
@@ -277,8 +277,8 @@ module _ (c : Config) (xs : List Mapping) (p : Pool) (m : List ℕ) (h : Maps c 
 -- ---- map and unmap
 module _ (s : State) (r : Record) (m : List ℕ) (h : Inv s r m) (g : ℕ) where
   -- a frame that fits is walked as the mapping says
-  walked : T (frameFits (configOf r) g) → hostWalkOf (configOf r) m g ≡ answerOf (configOf r) (s .machine .mappings) g
-  walked a = walk-is (configOf r) (s .machine .mappings) (r .host) m (h .maps) g (ltb-true g (2 ^ frameBits (configOf r)) (is-true (frameFits (configOf r) g) a))
+  walked : T (frameFits (configOf r) g) → hostWalkOf (configOf r) (hostTop r) m g ≡ answerOf (configOf r) (s .machine .mappings) g
+  walked a = walk-is (configOf r) (s .machine .mappings) (r .pools .host) m (h .maps) g (ltb-true g (2 ^ frameBits (configOf r)) (is-true (frameFits (configOf r) g) a))
 
   -- "A mapped frame is mapped anew": then the paths that used its mapping go
   module _ (f : ℕ) (w : Bool) where
@@ -305,16 +305,16 @@ module _ (s : State) (r : Record) (m : List ℕ) (h : Inv s r m) (g : ℕ) where
     map-follows = rw (h .fits) (go (refusal (configOf r) (map g f w) (s .machine) (s .book)) refl)
       where
         over : After Change → After Reply
-        over t = cond (eqb (t .result .refusal) 0) (mappedBy r (t .result .pool) (t .memory) g (hostWalkOf (configOf r) m g)) (refused r (t .result .refusal) (t .memory))
+        over t = cond (eqb (t .result .refusal) 0) (mappedBy r (t .result .pool) (t .memory) g (hostWalkOf (configOf r) (hostTop r) m g)) (refused r (t .result .refusal) (t .memory))
 
-        go : (o : Option ℕ) → refusal (configOf r) (map g f w) (s .machine) (s .book) ≡ o → Follows (map g f w) s r (over (mapOf (configOf r) (r .host) m g f w))
+        go : (o : Option ℕ) → refusal (configOf r) (map g f w) (s .machine) (s .book) ≡ o → Follows (map g f w) s r (over (mapOf (configOf r) (r .pools .host) m g f w))
         go (some n) e =
             let positive = first-positive (tests (configOf r) (map g f w) (s .machine) (s .book)) n (omega arith, (omega arith, (omega arith, tt))) e in
-            rw (map-refused (configOf r) (s .machine .mappings) (r .host) m (h .maps) n g f w e, ne-eqb n 0 (λ z. omega arith)) (follows-no (map g f w) n h e)
+            rw (map-refused (configOf r) (s .machine .mappings) (r .pools .host) m (h .maps) n g f w e, ne-eqb n 0 (λ z. omega arith)) (follows-no (map g f w) n h e)
         go none e =
-            let t : Step (configOf r) (with g f w (s .machine .mappings)) (r .host) m 0 (mapOf (configOf r) (r .host) m g f w) =
-            subst (λ o. Step (configOf r) (mappingBy o (maps g f w) (s .machine .mappings)) (r .host) m (numberBy o) (mapOf (configOf r) (r .host) m g f w)) e
-            (map-is (configOf r) (s .machine .mappings) (r .host) m (h .maps) g f w) in
+            let t : Step (configOf r) (with g f w (s .machine .mappings)) (r .pools .host) m 0 (mapOf (configOf r) (r .pools .host) m g f w) =
+            subst (λ o. Step (configOf r) (mappingBy o (maps g f w) (s .machine .mappings)) (r .pools .host) m (numberBy o) (mapOf (configOf r) (r .pools .host) m g f w)) e
+            (map-is (configOf r) (s .machine .mappings) (r .pools .host) m (h .maps) g f w) in
             let a = all-passed (tests (configOf r) (map g f w) (s .machine) (s .book)) e in
             rw (t .done, walked (a .0))
             (follows-ok (map g f w) s r _ e refl (mapped-left (t .pool) (t .memory) (t .stands) (t .beside) e))
@@ -336,16 +336,16 @@ module _ (s : State) (r : Record) (m : List ℕ) (h : Inv s r m) (g : ℕ) where
   unmap-follows = rw (h .fits) (go (refusal (configOf r) (unmap g) (s .machine) (s .book)) refl)
     where
       over : After Change → After Reply
-      over t = cond (eqb (t .result .refusal) 0) (mappedBy r (t .result .pool) (t .memory) g (hostWalkOf (configOf r) m g)) (refused r (t .result .refusal) (t .memory))
+      over t = cond (eqb (t .result .refusal) 0) (mappedBy r (t .result .pool) (t .memory) g (hostWalkOf (configOf r) (hostTop r) m g)) (refused r (t .result .refusal) (t .memory))
 
-      go : (o : Option ℕ) → refusal (configOf r) (unmap g) (s .machine) (s .book) ≡ o → Follows (unmap g) s r (over (unmapOf (configOf r) (r .host) m g))
+      go : (o : Option ℕ) → refusal (configOf r) (unmap g) (s .machine) (s .book) ≡ o → Follows (unmap g) s r (over (unmapOf (configOf r) (r .pools .host) m g))
       go (some n) e =
           let positive = first-positive (tests (configOf r) (unmap g) (s .machine) (s .book)) n (omega arith, (omega arith, tt)) e in
-          rw (unmap-refused (configOf r) (s .machine .mappings) (r .host) m (h .maps) n g e, ne-eqb n 0 (λ z. omega arith)) (follows-no (unmap g) n h e)
+          rw (unmap-refused (configOf r) (s .machine .mappings) (r .pools .host) m (h .maps) n g e, ne-eqb n 0 (λ z. omega arith)) (follows-no (unmap g) n h e)
       go none e =
-          let t : Step (configOf r) (without g (s .machine .mappings)) (r .host) m 0 (unmapOf (configOf r) (r .host) m g) =
-          subst (λ o. Step (configOf r) (mappingBy o (unmaps g) (s .machine .mappings)) (r .host) m (numberBy o) (unmapOf (configOf r) (r .host) m g)) e
-          (unmap-is (configOf r) (s .machine .mappings) (r .host) m (h .maps) g) in
+          let t : Step (configOf r) (without g (s .machine .mappings)) (r .pools .host) m 0 (unmapOf (configOf r) (r .pools .host) m g) =
+          subst (λ o. Step (configOf r) (mappingBy o (unmaps g) (s .machine .mappings)) (r .pools .host) m (numberBy o) (unmapOf (configOf r) (r .pools .host) m g)) e
+          (unmap-is (configOf r) (s .machine .mappings) (r .pools .host) m (h .maps) g) in
           let a = all-passed (tests (configOf r) (unmap g) (s .machine) (s .book)) e in
           rw (t .done, walked (a .0))
           (follows-ok (unmap g) s r _ e refl (unmapped-all (t .pool) (t .memory) (t .stands) (t .beside) e (lookup g (s .machine .mappings)) refl))

@@ -56,13 +56,13 @@ use Rattle.record.proofs.Opening.{granted-long, granted-guest}
 use Rattle.shadow.specs.declared.Cut.the-variants.{Names}
 use Rattle.shadow.specs.Drop.{scanOf, dropPrefixOf}
 use Rattle.shadow.proofs.Outside.{scan-out, prefix-out}
-use Rattle.request.specs.Store.{storeOf}
+use Rattle.request.specs.Access.{storeOf}
 use Rattle.request.proofs.Fits.{ArrivedIn}
 use Rattle.request.proofs.Leaves.{store-leaves}
 use Rattle.request.proofs.Device.{device-in}
-use Rattle.unit.specs.Calls.{ended, refused, judged, withHeld, withHost, addressOk, deviceOk, translatedOf, loadBy, loadOf, writtenBy, storeBy, storeCall, deviceBy, deviceCall, rootCall, droppedBy, unmappedOf, mappedBy, mapCall, unmapCall, topAfter, markedOf, keysOf, setMarkCall, clearMarkCall, openCall}
+use Rattle.unit.specs.Calls.{ended, refused, judged, withHeld, withHost, addressOk, deviceOk, translatedOf, loadBy, loadCall, writtenBy, storeBy, storeCall, deviceBy, deviceCall, rootCall, droppedBy, unmappedOf, mappedBy, mapCall, unmapCall, topAfter, markedOf, keysOf, setMarkCall, clearMarkCall, openCall}
 use Rattle.unit.proofs.Ranges.{leaves}
-use Rattle.claims.specs.Run.{callOf, guestArea}
+use Rattle.claims.specs.Run.{guestArea}
 use Rattle.claims.proofs.Puts.{area-store}
 use Rattle.claims.proofs.Opens.{granted-call, refused-call}
 use Rattle.words.specs.After.{After, yields}
@@ -155,11 +155,11 @@ module _ (r : Record) (m : List ℕ) where
   none-changed : Tables r m m
   none-changed = out-refl 0 (guestBase (configOf r)) m
 
-  host-tables : (n : List ℕ) → SameOutside 0 (r .hosts) m n → Tables r m n
-  host-tables n x = wider 0 (r .hosts) (guestBase (configOf r)) m n (omega arith) x
+  host-tables : (n : List ℕ) → SameOutside 0 (r .layout .hosts) m n → Tables r m n
+  host-tables n x = wider 0 (r .layout .hosts) (guestBase (configOf r)) m n (omega arith) x
 
-  shadow-tables : (n : List ℕ) → SameOutside (r .hosts) (r .shadows) m n → Tables r m n
-  shadow-tables n x = wider (r .hosts) (r .shadows) (guestBase (configOf r)) m n (omega arith) x
+  shadow-tables : (n : List ℕ) → SameOutside (r .layout .hosts) (r .layout .shadows) m n → Tables r m n
+  shadow-tables n x = wider (r .layout .hosts) (r .layout .shadows) (guestBase (configOf r)) m n (omega arith) x
 
   -- ---- refusals
   damage-kept : (n : List ℕ) → Tables r m n → Kept r m (refused r 11 n)
@@ -345,7 +345,7 @@ number-in P xs a = go (firstFailed xs) refl
 
 module _ (r : Record) (m : List ℕ) where
   -- held paths are dropped, after the host tables may have changed
-  dropped-kept : (q : Record) (top : ℕ) (n : List ℕ) (o : After Left) → configOf q ≡ configOf r → Tables r m n → SameOutside (r .hosts) (r .shadows) n (o .memory) → Kept r m (droppedBy r q top o)
+  dropped-kept : (q : Record) (top : ℕ) (n : List ℕ) (o : After Left) → configOf q ≡ configOf r → Tables r m n → SameOutside (r .layout .hosts) (r .layout .shadows) n (o .memory) → Kept r m (droppedBy r q top o)
   dropped-kept q top n o k x y = go (o .result .ok)
     where
       all : Tables r m (o .memory)
@@ -361,15 +361,15 @@ module _ (r : Record) (m : List ℕ) where
   loaded-kept a o x (walked.Faulted y n) = guest-kept (held-layout r (o .result .pool) (o .result .top)) x
   loaded-kept a o x walked.Damaged = damage-kept r m (o .memory) x
 
-  load-kept : (a : ℕ) → Kept r m (loadOf r m a)
-  unfolding loadOf
+  load-kept : (a : ℕ) → Kept r m (loadCall r m a)
+  unfolding loadCall
   load-kept a =
       let o = translatedOf r m false a in
       judged-kept r m _ (λ f. tested-kept r m (addressOk r a) _ 4 (omega arith, omega arith)
       (loaded-kept a o (shadow-tables r m (o .memory) (leaves r (length m) f m false a o refl .same)) (o .result .walked)))
 
   -- a store that came to word i of host frame t; n is the memory after its translation
-  written-kept : Fits r (length m) → (top k x : ℕ) (n : List ℕ) (p : Pool) (t i v : ℕ) → Tables r m n → p .fresh ≤ r .shadows → InGuestArea (configOf r) t → i < 512
+  written-kept : Fits r (length m) → (top k x : ℕ) (n : List ℕ) (p : Pool) (t i v : ℕ) → Tables r m n → p .fresh ≤ r .layout .shadows → InGuestArea (configOf r) t → i < 512
       → Kept r m (writtenBy r top k x (storeOf (configOf r) n p t i v))
   written-kept f top k x n p t i v y h g l = go (s .result .ok) (store-leaves (configOf r) n p t i v h .same)
     where
@@ -384,7 +384,7 @@ module _ (r : Record) (m : List ℕ) where
           let e = length-drop (512 * guestBase c) m in
           omega (arith, e, g .0, g .1, f .long, f .sizes .whole)
 
-      go : (b : Bool) → SameOutside (r .hosts) (r .shadows) (cond b (setIn n t i v) n) (s .memory)
+      go : (b : Bool) → SameOutside (r .layout .hosts) (r .layout .shadows) (cond b (setIn n t i v) n) (s .memory)
           → Kept r m (cond b (ended (withHeld r (s .result .pool) top) (answer.Done k (x + s .result .exits)) (s .memory)) (refused r 11 (s .memory)))
       go true z = record {
         layout = held-layout r (s .result .pool) top;
@@ -397,7 +397,7 @@ module _ (r : Record) (m : List ℕ) where
       }
       go false z = damage-kept r m (s .memory) (out-trans 0 (guestBase c) m n (s .memory) (shadow-tables r n (s .memory) z) y)
 
-  stored-kept : Fits r (length m) → (a v : ℕ) (o : After Translated) → Tables r m (o .memory) → o .result .pool .fresh ≤ r .shadows → (w : Walked) → ArrivedIn (configOf r) w → Kept r m (storeBy r a v o w)
+  stored-kept : Fits r (length m) → (a v : ℕ) (o : After Translated) → Tables r m (o .memory) → o .result .pool .fresh ≤ r .layout .shadows → (w : Walked) → ArrivedIn (configOf r) w → Kept r m (storeBy r a v o w)
   stored-kept f a v o x h (walked.Arrived t w n) g =
       written-kept f (o .result .top) n (o .result .exits) (o .memory) (o .result .pool) (t .0) (wordOf a) v x h g (word-fits a)
   stored-kept f a v o x h (walked.Faulted y n) g = guest-kept (held-layout r (o .result .pool) (o .result .top)) x
@@ -415,11 +415,11 @@ module _ (r : Record) (m : List ℕ) where
   unfolding deviceCall
   device-kept a v =
       judged-kept r m _ (λ f. tested-kept r m (deviceOk r a) _ 4 (omega arith, omega arith)
-      (go (fits-layout r (length m) f) (walkedOf (configOf r) m 0 (next true true (pageOf a) true)) (device-in (configOf r) m (pageOf a))))
+      (go (fits-layout r (length m) f) (walkedOf (configOf r) (hostTop r) m 0 (next true true (pageOf a) true)) (device-in (configOf r) m (pageOf a))))
     where
       go : Fits r (length m) → (w : Walked) → ArrivedIn (configOf r) w → Kept r m (deviceBy r m a v w)
       go f (walked.Arrived t w n) g =
-          written-kept f (r .top) n 0 m (r .shadow) (t .0) (wordOf a) v (none-changed r m) (f .shadow .0) g (word-fits a)
+          written-kept f (r .guest .held .0) n 0 m (r .pools .shadow) (t .0) (wordOf a) v (none-changed r m) (f .shadow .0) g (word-fits a)
       go f (walked.Faulted y n) g = guest-kept refl (none-changed r m)
       go f walked.Damaged g = damage-kept r m m (none-changed r m)
 
@@ -429,18 +429,18 @@ module _ (r : Record) (m : List ℕ) where
   root-kept g =
       judged-kept r m _ (λ f. tested-kept r m (frameFits (configOf r) g) _ 8 (omega arith, omega arith) (guest-kept (root-layout (withHeld r noneOf 0) g ∙ held-layout r noneOf 0) (none-changed r m)))
 
-  unmapped-kept : (q : Record) (n : List ℕ) (g : ℕ) → configOf q ≡ configOf r → r .shadow .fresh ≤ r .shadows → Tables r m n → Kept r m (unmappedOf r q n g)
+  unmapped-kept : (q : Record) (n : List ℕ) (g : ℕ) → configOf q ≡ configOf r → r .pools .shadow .fresh ≤ r .layout .shadows → Tables r m n → Kept r m (unmappedOf r q n g)
   unfolding unmappedOf
-  unmapped-kept q n g k h x = go (eqb g (r .root))
+  unmapped-kept q n g k h x = go (eqb g (r .guest .root .0))
     where
       o : After Left
-      o = scanOf (configOf r) (Names (record { 0 = g })) (r .shadow) n
+      o = scanOf (configOf r) (Names (record { 0 = g })) (r .pools .shadow) n
 
-      go : (b : Bool) → Kept r m (cond b (ended (withHeld q noneOf 0) answer.Ok n) (droppedBy r q (r .top) o))
+      go : (b : Bool) → Kept r m (cond b (ended (withHeld q noneOf 0) answer.Ok n) (droppedBy r q (r .guest .held .0) o))
       go true = guest-kept (held-layout q noneOf 0 ∙ k) x
-      go false = dropped-kept q (r .top) n o k x (scan-out (configOf r) (Names (record { 0 = g })) (r .shadow) n h)
+      go false = dropped-kept q (r .guest .held .0) n o k x (scan-out (configOf r) (Names (record { 0 = g })) (r .pools .shadow) n h)
 
-  mapped-kept : (p : Pool) (n : List ℕ) (g : ℕ) → r .shadow .fresh ≤ r .shadows → Tables r m n → (w : HostWalk) → Kept r m (mappedBy r p n g w)
+  mapped-kept : (p : Pool) (n : List ℕ) (g : ℕ) → r .pools .shadow .fresh ≤ r .layout .shadows → Tables r m n → (w : HostWalk) → Kept r m (mappedBy r p n g w)
   mapped-kept p n g h x (host.Found f w) = unmapped-kept (withHost r p) n g (host-layout r p) h x
   mapped-kept p n g h x (host.Absent k) = guest-kept (host-layout r p) x
   mapped-kept p n g h x host.Damaged = damage-kept r m n x
@@ -461,18 +461,18 @@ module _ (r : Record) (m : List ℕ) where
   map-call-kept : (g f : ℕ) (w : Bool) → Kept r m (mapCall r m g f w)
   unfolding mapCall
   map-call-kept g f w =
-      let t = mapOf (configOf r) (r .host) m g f w in
+      let t = mapOf (configOf r) (r .pools .host) m g f w in
       judged-kept r m _ (λ e. let z = fits-layout r (length m) e in
-      changed-kept t _ (map-kept (configOf r) (r .host) m (omega (arith, z .sizes .hosts)) g f w)
-      (λ x. mapped-kept (t .result .pool) (t .memory) g (z .shadow .0) x (hostWalkOf (configOf r) m g)))
+      changed-kept t _ (map-kept (configOf r) (r .pools .host) m (omega (arith, z .sizes .hosts)) g f w)
+      (λ x. mapped-kept (t .result .pool) (t .memory) g (z .shadow .0) x (hostWalkOf (configOf r) (hostTop r) m g)))
 
   unmap-call-kept : (g : ℕ) → Kept r m (unmapCall r m g)
   unfolding unmapCall
   unmap-call-kept g =
-      let t = unmapOf (configOf r) (r .host) m g in
+      let t = unmapOf (configOf r) (r .pools .host) m g in
       judged-kept r m _ (λ e. let z = fits-layout r (length m) e in
-      changed-kept t _ (unmap-kept (configOf r) (r .host) m (omega (arith, z .sizes .hosts)) g)
-      (λ x. mapped-kept (t .result .pool) (t .memory) g (z .shadow .0) x (hostWalkOf (configOf r) m g)))
+      changed-kept t _ (unmap-kept (configOf r) (r .pools .host) m (omega (arith, z .sizes .hosts)) g)
+      (λ x. mapped-kept (t .result .pool) (t .memory) g (z .shadow .0) x (hostWalkOf (configOf r) (hostTop r) m g)))
 
   -- ---- marks
   marked-kept : (x a n : ℕ) (t : Marks) → (x ≢ 0 → Numbered x) → Kept r m (judged r m (cond (eqb x 0) (markedOf r m a n t) (refused r x m)))
@@ -482,23 +482,23 @@ module _ (r : Record) (m : List ℕ) where
       is : List ℕ
       is = indexes (levels - n) (pageOf a / 2 ^ (9 * n))
 
-      go : r .shadow .fresh ≤ r .shadows → (b : Bool) → eqb x 0 ≡ b
-          → Kept r m (cond b (droppedBy r (withMarks r t) (topAfter n (r .top)) (dropPrefixOf (configOf r) (r .shadow) m is)) (refused r x m))
+      go : r .pools .shadow .fresh ≤ r .layout .shadows → (b : Bool) → eqb x 0 ≡ b
+          → Kept r m (cond b (droppedBy r (withMarks r t) (topAfter n (r .guest .held .0)) (dropPrefixOf (configOf r) (r .pools .shadow) m is)) (refused r x m))
       go h true q =
-          dropped-kept (withMarks r t) (topAfter n (r .top)) m (dropPrefixOf (configOf r) (r .shadow) m is) (marks-layout r t) (none-changed r m) (prefix-out (configOf r) (r .shadow) m is h)
+          dropped-kept (withMarks r t) (topAfter n (r .guest .held .0)) m (dropPrefixOf (configOf r) (r .pools .shadow) m is) (marks-layout r t) (none-changed r m) (prefix-out (configOf r) (r .pools .shadow) m is h)
       go h false q = refusal-kept r m x (l (eqb-false x 0 q))
 
   set-kept : (a n : ℕ) → Kept r m (setMarkCall r m a n)
   unfolding setMarkCall setRefusal
   set-kept a n =
       let l : (Numbered 4 × (Numbered 5 × (Numbered 6 × (Numbered 7 × Unit {0})))) = ((omega arith, omega arith), ((omega arith, omega arith), ((omega arith, omega arith), ((omega arith, omega arith), tt)))) in
-      marked-kept (number (setRefusal levels (keysOf r) a n)) a n (withKey (r .marks) (keyOf n (pageOf a))) (number-in Numbered (setTests levels (keysOf r) a n) l)
+      marked-kept (number (setRefusal levels (keysOf r) a n)) a n (withKey (r .guest .marks) (keyOf n (pageOf a))) (number-in Numbered (setTests levels (keysOf r) a n) l)
 
   clear-kept : (a n : ℕ) → Kept r m (clearMarkCall r m a n)
   unfolding clearMarkCall clearRefusal
   clear-kept a n =
       let l : (Numbered 4 × (Numbered 5 × (Numbered 6 × Unit {0}))) = ((omega arith, omega arith), ((omega arith, omega arith), ((omega arith, omega arith), tt))) in
-      marked-kept (number (clearRefusal levels (keysOf r) a n)) a n (withoutKey (r .marks) (keyOf n (pageOf a))) (number-in Numbered (clearTests levels (keysOf r) a n) l)
+      marked-kept (number (clearRefusal levels (keysOf r) a n)) a n (withoutKey (r .guest .marks) (keyOf n (pageOf a))) (number-in Numbered (clearTests levels (keysOf r) a n) l)
 
 -- ---- Demand 1. "Any request, with numbers, record and memory sound or spoiled, ends inside the memory lent with an answer, a named
 -- fault or a numbered refusal. A fault changes no guest word. A refusal changes nothing, but for the tables of a memory found

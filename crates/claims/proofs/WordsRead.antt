@@ -276,14 +276,14 @@ module _ (r : Record) (st : Bool) (a : ℕ) where
   d = depthAt r a
 
   abbrev pub foundIn : List ℕ → HostWalk
-  foundIn m = foundOf c m (r .shadow .fresh) (r .top) a d
+  foundIn m = foundOf c m (r .pools .shadow .fresh) (r .guest .held .0) a d
 
   -- the direct part from there, and the whole plain walk
   abbrev direct : ℕ → Bool → Walk Fault Place
   direct t w = levels c st d t w (indexes d (pageOf a))
 
   abbrev whole : Walk Fault Place
-  whole = walk c st (r .root) (indexes (c .levels) (pageOf a))
+  whole = walk c st (r .guest .root .0) (indexes (c .levels) (pageOf a))
 
   -- served by its held path, or at depth N + 1
   pub data Reaches (m : List ℕ) : Type 0 where
@@ -295,26 +295,26 @@ module _ (r : Record) (st : Bool) (a : ℕ) where
   found-local m n h = go (ltb d (c .levels)) h
     where
       go : (b : Bool)
-          → SameWords m n (cond b (entriesRead (c .hosts) (c .shadows) m (topOf (c .hosts) (r .shadow .fresh)) (pathIndexes c d a)) [])
-          → cond b (hostBy c (lookOf (c .hosts) (c .shadows) n (topOf (c .hosts) (r .shadow .fresh)) (pathIndexes c d a) 0)) (cond (eqb (r .top) 0) (hosts.Absent 0) (hosts.Found (page (r .top)) true))
-          ≡ cond b (hostBy c (lookOf (c .hosts) (c .shadows) m (topOf (c .hosts) (r .shadow .fresh)) (pathIndexes c d a) 0)) (cond (eqb (r .top) 0) (hosts.Absent 0) (hosts.Found (page (r .top)) true))
-      go true q = ap (hostBy c) (look-local (c .hosts) (c .shadows) m n (pathIndexes c d a) (topOf (c .hosts) (r .shadow .fresh)) 0
-          (same-entries m n (entriesRead (c .hosts) (c .shadows) m (topOf (c .hosts) (r .shadow .fresh)) (pathIndexes c d a)) q))
+          → SameWords m n (cond b (entriesRead (c .hosts) (c .shadows) m (topOf (c .hosts) (r .pools .shadow .fresh)) (pathIndexes c d a)) [])
+          → cond b (hostBy c (lookOf (c .hosts) (c .shadows) n (topOf (c .hosts) (r .pools .shadow .fresh)) (pathIndexes c d a) 0)) (cond (eqb (r .guest .held .0) 0) (hosts.Absent 0) (hosts.Found (page (r .guest .held .0)) true))
+          ≡ cond b (hostBy c (lookOf (c .hosts) (c .shadows) m (topOf (c .hosts) (r .pools .shadow .fresh)) (pathIndexes c d a) 0)) (cond (eqb (r .guest .held .0) 0) (hosts.Absent 0) (hosts.Found (page (r .guest .held .0)) true))
+      go true q = ap (hostBy c) (look-local (c .hosts) (c .shadows) m n (pathIndexes c d a) (topOf (c .hosts) (r .pools .shadow .fresh)) 0
+          (same-entries m n (entriesRead (c .hosts) (c .shadows) m (topOf (c .hosts) (r .pools .shadow .fresh)) (pathIndexes c d a)) q))
       go false q = refl
 
   -- what it leaves on a memory
   abbrev pub left : Walked → List ℕ → After Translated
-  left x m = yields (translation (r .shadow) (r .top) (exitBy x) x) m
+  left x m = yields (translation (r .pools .shadow) (r .guest .held .0) (exitBy x) x) m
 
   held-is : (m : List ℕ) (t : HostPhysical) (w : Bool) → d ≤ c .levels → foundIn m ≡ hosts.Found t w → servesOf st d w ≡ true
       → translatedOf r m st a ≡ left (walkedOf c m (c .levels - d) (direct (t .0) w)) m
   unfolding translatedOf translateOf servedOf directOf
   held-is m t w l f s =
-      ap (λ b. cond b (foundBy c m (r .shadow) (r .top) (r .root) st a d (foundIn m)) (yields (plainOf c m (r .shadow) (r .top) (r .root) st a) m)) (is-true (leb d (c .levels)) (le→leb d (c .levels) l))
-      ∙ ap (foundBy c m (r .shadow) (r .top) (r .root) st a d) f
-      ∙ ap (λ b. cond b (yields (servedOf c m (r .shadow) (r .top) st a d (t .0) w 0) m) (missedOf c m (r .shadow) (r .top) (r .root) st a d)) s
-      ∙ ap (λ k. yields (translation (r .shadow) (r .top) (0 + exitBy (on k)) (on k)) m) (zero-add d)
-      ∙ ap (λ e. yields (translation (r .shadow) (r .top) e (on d)) m) (zero-add (exitBy (on d)))
+      ap (λ b. cond b (foundBy c m (r .pools .shadow) (r .guest .held .0) (r .guest .root .0) st a d (foundIn m)) (yields (plainOf c m (r .pools .shadow) (r .guest .held .0) (r .guest .root .0) st a) m)) (is-true (leb d (c .levels)) (le→leb d (c .levels) l))
+      ∙ ap (foundBy c m (r .pools .shadow) (r .guest .held .0) (r .guest .root .0) st a d) f
+      ∙ ap (λ b. cond b (yields (servedOf c m (r .pools .shadow) (r .guest .held .0) st a d (t .0) w 0) m) (missedOf c m (r .pools .shadow) (r .guest .held .0) (r .guest .root .0) st a d)) s
+      ∙ ap (λ k. yields (translation (r .pools .shadow) (r .guest .held .0) (0 + exitBy (on k)) (on k)) m) (zero-add d)
+      ∙ ap (λ e. yields (translation (r .pools .shadow) (r .guest .held .0) e (on d)) m) (zero-add (exitBy (on d)))
     where
       on : ℕ → Walked
       on k = walkedOf c m (c .levels - d) (levels c st k (t .0) w (indexes d (pageOf a)))
@@ -322,7 +322,7 @@ module _ (r : Record) (st : Bool) (a : ℕ) where
   plain-is : (m : List ℕ) → c .levels < d → translatedOf r m st a ≡ left (walkedOf c m 0 whole) m
   unfolding translatedOf translateOf plainOf
   plain-is m l =
-      ap (λ b. cond b (foundBy c m (r .shadow) (r .top) (r .root) st a d (foundIn m)) (yields (plainOf c m (r .shadow) (r .top) (r .root) st a) m))
+      ap (λ b. cond b (foundBy c m (r .pools .shadow) (r .guest .held .0) (r .guest .root .0) st a d (foundIn m)) (yields (plainOf c m (r .pools .shadow) (r .guest .held .0) (r .guest .root .0) st a) m))
       (is-false (leb d (c .levels)) (λ z. let k = leb→le d (c .levels) z in omega arith))
 
   -- the words that it counts
@@ -348,10 +348,10 @@ module _ (r : Record) (st : Bool) (a : ℕ) where
       is = pathIndexes c d a
 
       at : ℕ
-      at = topOf (c .hosts) (r .shadow .fresh)
+      at = topOf (c .hosts) (r .pools .shadow .fresh)
 
       go : (b : Bool) → ltb d (c .levels) ≡ b
-          → cond b (hostBy c (lookOf (c .hosts) (c .shadows) m at is 0)) (cond (eqb (r .top) 0) (hosts.Absent 0) (hosts.Found (page (r .top)) true)) ≡ hosts.Found t w
+          → cond b (hostBy c (lookOf (c .hosts) (c .shadows) m at is 0)) (cond (eqb (r .guest .held .0) 0) (hosts.Absent 0) (hosts.Found (page (r .guest .held .0)) true)) ≡ hosts.Found t w
           → length (cond b (entriesRead (c .hosts) (c .shadows) m at is) []) ≡ c .levels - d
       go true q e = subst (LookReads (length (entriesRead (c .hosts) (c .shadows) m at is)) (length is)) e (look-reads c (c .hosts) (c .shadows) m at is) ∙ indexes-length (c .levels - d) _
       go false q e = let k = ltb-false d (c .levels) q in omega arith
@@ -379,7 +379,7 @@ module _ (r : Record) (st : Bool) (a : ℕ) where
       }
   alike m n (plain l) h =
       let e = plain-counted m l in
-      let ends = walk-ends c st (r .root) (indexes (c .levels) (pageOf a)) in
+      let ends = walk-ends c st (r .guest .root .0) (indexes (c .levels) (pageOf a)) in
       record {
         walked = walkedOf c m 0 whole;
         before = plain-is m l;

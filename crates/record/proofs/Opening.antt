@@ -30,7 +30,7 @@ use Rattle.marks.proofs.Book.{keysOf, no-marks, none-ascend}
 use Rattle.record.specs.declared.Record.{Record}
 use Rattle.record.specs.Record.{levels, layoutOf, configBy, fitsOf, zeros}
 use Rattle.record.specs.Open.{refusalOf, clearedOf, enteredOf, firstOf, grantedOf, granted, openOf}
-use Rattle.record.proofs.Rules.{Sized, Table, Fits, granted-tests, granted-sized, fits-true, zeros-refused}
+use Rattle.record.proofs.Rules.{Sized, Fits, holds-top, holds-pool, granted-tests, granted-sized, fits-true, zeros-refused}
 use Rattle.words.specs.After.{yields}
 
 -- ---- the refusal
@@ -124,15 +124,6 @@ module _ (m : List ℕ) (h s : ℕ) (grant : refusalOf (length m) h s ≡ 0) whe
   unfolding grantedOf firstOf tableOf
   no-mark = no-marks levels (tableOf []) refl
 
-  top : Table 0 h (unit .pools .host .top)
-  top = go (granted-host .tabs []) refl (granted-host .top tt)
-    where
-      go : (o : Option ℕ) → granted-host .tabs [] ≡ o → IsSome o → Table 0 h (unit .pools .host .top)
-      go none e k = absurd k
-      go (some f) e k =
-          let i = granted-host .tables .inside [] f e in
-          record { frame = f; is = granted-host .tables .top ∙ ap (λ o. slot o 0) e; low = i .0; high = omega (arith, i .1, granted-host .tables .room) }
-
   rules : Fits unit (length memory)
   unfolding grantedOf firstOf noneOf
   rules = record {
@@ -141,8 +132,8 @@ module _ (m : List ℕ) (h s : ℕ) (grant : refusalOf (length m) h s ≡ 0) whe
     root = omega arith;
     marks = rw no-mark;
     held = inl refl;
-    top = top;
-    host = (granted-host .tables .room, omega (arith, granted-host .tables .count), inr top);
+    top = holds-top granted-host;
+    host = holds-pool granted-host;
     shadow = (omega arith, omega arith, inl refl);
   }
 

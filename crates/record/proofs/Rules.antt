@@ -3,19 +3,21 @@
 use mathlib.Core.Path.{_≡_, refl, sym, ap, _∙_}
 use mathlib.Core.Logic.{_⊎_, inl, inr}
 use mathlib.Core.Bool.{Bool, true, false, _&&_, _||_, cond, and-eq-true-iff}
-use mathlib.Core.List.{[], _∷_}
-use mathlib.Core.Option.{none, some}
+use mathlib.Core.List.{List, [], _∷_}
+use mathlib.Core.Option.{Option, none, some, IsSome}
 use Prim.Native.Nat.{ℕ, _+_, _-_, _*_, _/_, _%_, _^_, _<_, _≤_}
 use native.Mathlib.Omega.{arith}
 use borrow.Author.Tests.{eqb-true, eqb-false, leb-true, ltb-true, ltb-false, lt-ltb, le-ltb, le-leb, eq-eqb}
 use lib.Dec.{eqb, leb, ltb}
 use Rattle.spec.specs.Config.{Config, guestBase, frameBits}
 use Rattle.spec.specs.Refusal.{wordsFit, areasFit, frameFits, marksFit, topFits, recordFits, openRefusal}
+use Rattle.area.specs.declared.Area.{Area}
 use Rattle.area.specs.declared.Pool.{Pool}
 use Rattle.area.specs.Header.{insideOf}
 use Rattle.area.specs.Pool.{link, noneOf}
 use Rattle.area.proofs.Laws.{inside-true}
-use Rattle.tree.proofs.Invariant.{inside-is}
+use Rattle.tree.proofs.Invariant.{slot, inside-is}
+use Rattle.tree.proofs.Whole.{Holds}
 use Rattle.host.specs.declared.Layout.{Layout}
 use Rattle.host.specs.Walk.{LayoutFits, config}
 use Rattle.host.proofs.Laws.{InGuestArea}
@@ -132,6 +134,26 @@ fits-pool b s p f = rw (le-leb _ _ (f .0), le-leb _ _ (f .1)) (top (f .2))
         or : (a : Bool) → isTable b s (p .top) ≡ true → (a || isTable b s (p .top)) ≡ true
         or true e = refl
         or false e = e
+
+-- an area that holds leaves keeps a pool in its ranges, and its top table is one of it
+top-table : {a : Area} {stays : Bool} {p : Pool} {m : List ℕ} {lv guest : List ℕ → ℕ} (h : Holds a stays p m lv guest) (f : ℕ) → h .tabs [] ≡ some f → Table (a .base) (a .size) (p .top)
+top-table h f e =
+    let i = h .tables .inside [] f e in
+    record { frame = f; is = h .tables .top ∙ ap (λ o. slot o 0) e; low = i .0; high = omega (arith, i .1, h .tables .room) }
+
+pub holds-top : {a : Area} {p : Pool} {m : List ℕ} {lv guest : List ℕ → ℕ} → Holds a true p m lv guest → Table (a .base) (a .size) (p .top)
+holds-top {a} {p} h = go (h .tabs []) refl (h .top tt)
+  where
+    go : (o : Option ℕ) → h .tabs [] ≡ o → IsSome o → Table (a .base) (a .size) (p .top)
+    go none e k = absurd k
+    go (some f) e k = top-table h f e
+
+pub holds-pool : {a : Area} {stays : Bool} {p : Pool} {m : List ℕ} {lv guest : List ℕ → ℕ} → Holds a stays p m lv guest → PoolFits (a .base) (a .size) p
+holds-pool {a} {stays} {p} h = (h .tables .room, omega (arith, h .tables .count), go (h .tabs []) refl)
+  where
+    go : (o : Option ℕ) → h .tabs [] ≡ o → (p .top ≡ 0) ⊎ Table (a .base) (a .size) (p .top)
+    go none e = inl (h .tables .top ∙ ap (λ o. slot o 0) e)
+    go (some f) e = inr (top-table h f e)
 
 -- ---- a record that breaks no rule
 pub record Fits (r : Record) (len : ℕ) : Type 0 where

@@ -7,6 +7,7 @@ use lib.Dec.{eqb, ltb}
 use lib.ListN.{length}
 use Rattle.spec.specs.declared.Answer.{Answer}
 use Rattle.spec.specs.declared.Answer.the-variants as answer
+use Rattle.spec.specs.Call.{Call, root, map, unmap, setMark, clearMark, load, store, device}
 use Rattle.spec.specs.Entry.{pageOf, indexes}
 use Rattle.spec.specs.Refusal.{addressFits, deviceFits, wordAligned, frameFits}
 use Rattle.words.specs.After.{After, yields}
@@ -31,7 +32,8 @@ use Rattle.record.specs.Record.{configOf, guestFrame, headOf, headRoot, headTab
 use Rattle.record.specs.Open.{openOf}
 use Rattle.request.specs.declared.Held.{Held}
 use Rattle.request.specs.declared.Served.{Served}
-use Rattle.request.specs.Translate.{holding}
+use Rattle.request.specs.declared.Translated.{Translated}
+use Rattle.request.specs.Translate.{holding, translateOf}
 use Rattle.request.specs.Access.{loadOf, storeOf, deviceOf}
 use Rattle.unit.specs.declared.Reply.{Reply}
 use Rattle.unit.specs.declared.Turn.{Turn}
@@ -119,6 +121,10 @@ openCall m h s = let t = openOf m h s in openedBy (t .result .unit) (t .result .
 abbrev pub depthAt : Record → ℕ → ℕ
 depthAt r a = depthOf (pageOf a) (keys (r .guest .marks .place) (r .guest .marks .set))
 
+-- the translation of an address
+unfoldable pub translatedOf : Record → List ℕ → Bool → ℕ → After Translated
+translatedOf r m st a = translateOf (configOf r) (hostTop r) m (heldOf r) (rootOf r) st a (depthAt r a)
+
 abbrev pub addressOk : Record → ℕ → Bool
 addressOk r a = addressFits (configOf r) a && wordAligned a
 
@@ -194,3 +200,15 @@ unfoldable pub clearMarkCall : Record → List ℕ → ℕ → ℕ → After Rep
 clearMarkCall r m a n =
     let x = number (clearRefusal (r .layout .levels) (keysOf r) a n) in
     judged r m (cond (eqb x 0) (markedOf r m a n (withoutKey (r .guest .marks) (keyOf n (pageOf a)))) (refused r x m))
+
+-- ---- any call
+
+unfoldable pub callOf : Call → Record → List ℕ → After Reply
+callOf (root g) r m = rootCall r m g
+callOf (map g f w) r m = mapCall r m g f w
+callOf (unmap g) r m = unmapCall r m g
+callOf (setMark a n) r m = setMarkCall r m a n
+callOf (clearMark a n) r m = clearMarkCall r m a n
+callOf (load a) r m = loadCall r m a
+callOf (store a v) r m = storeCall r m a v
+callOf (device a v) r m = deviceCall r m a v
