@@ -40,8 +40,6 @@ use Rattle.record.specs.declared.Record.{Record}
 use Rattle.record.specs.Record.{configOf, fitsOf}
 use Rattle.request.specs.Translate.{translation, exitBy}
 use Rattle.request.proofs.Device.{deviceScript, device-script}
-use Rattle.request.specs.Store as put
-use Rattle.request.specs.Access.{storeOf}
 use Rattle.record.specs.Record.{headTables}
 use Rattle.request.specs.Access.{loadBy, loadOf, writtenBy, storeBy, storeOf, deviceBy, deviceOf}
 use Rattle.unit.specs.Calls.{hostTop, heldOf, headHeld, ended, refused, judged, withHeld, servedBy, addressOk, deviceOk, translatedOf, loadCall, storeCall, deviceCall}
