@@ -62,7 +62,7 @@ fn space_in(head: Head) -> Space
 }
 
 // With other paths held.
-fn with_held(head: Head, held: Held) -> Head
+pub fn with_held(head: Head, held: Held) -> Head
     ensures { λ r. ⌜ r ≡ headHeld head held ⌝ }
 {
     let host = head.pools.host;
