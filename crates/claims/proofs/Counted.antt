@@ -15,7 +15,8 @@ use Rattle.spec.specs.Config.{Config}
 use Rattle.spec.specs.Entry.{wordOf}
 use Rattle.spec.specs.Plain.{upper}
 use Rattle.spec.specs.Book.{Held, Book, depth, find, dropWord, watched}
-use Rattle.spec.specs.Call.{Call, addressIndexes}
+use Rattle.spec.specs.declared.Call.{Call}
+use Rattle.spec.specs.Call.{addressIndexes}
 use Rattle.spec.specs.Count.{serves, one}
 use Rattle.spec.specs.Refusal.{addressFits, wordAligned}
 use Rattle.spec.specs.Run.{State, after, opened}

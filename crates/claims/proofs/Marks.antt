@@ -18,7 +18,9 @@ use Rattle.spec.specs.Entry.{pageOf, index, indexes}
 use Rattle.spec.specs.Prefix.{begins, any, keep}
 use Rattle.spec.specs.Book.{Mark, Held, markAt, sameMark, find, dropPrefix}
 use Rattle.spec.specs.Call as outcome
-use Rattle.spec.specs.Call.{Call, setMark, clearMark, addressIndexes, machineStep}
+use Rattle.spec.specs.declared.Call.{Call}
+use Rattle.spec.specs.declared.Call.the-variants.{SetMark as setMark, ClearMark as clearMark}
+use Rattle.spec.specs.Call.{addressIndexes, machineStep}
 use Rattle.spec.specs.Count.{bookStep}
 use Rattle.spec.specs.Refusal.{allOf, markFits, tests, refusal}
 use Rattle.spec.specs.Run.{State}

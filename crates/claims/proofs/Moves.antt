@@ -18,7 +18,8 @@ use Rattle.spec.specs.Book.{Held, find}
 use Rattle.spec.specs.Answer as say
 use Rattle.spec.specs.Answer.{line}
 use Rattle.spec.specs.Call as outcome
-use Rattle.spec.specs.Call.{Call, machineStep}
+use Rattle.spec.specs.declared.Call.{Call}
+use Rattle.spec.specs.Call.{machineStep}
 use Rattle.spec.specs.Count.{bookStep}
 use Rattle.spec.specs.Refusal.{firstFailed, refusal}
 use Rattle.spec.specs.Run.{State, step}

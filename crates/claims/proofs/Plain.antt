@@ -20,7 +20,9 @@ use Rattle.spec.specs.Walk.{Result, granted, failed}
 use Rattle.spec.specs.Plain.{Place, walk}
 use Rattle.spec.specs.Machine.{Machine, place, wordIn}
 use Rattle.spec.specs.Book.{depth}
-use Rattle.spec.specs.Call.{Call, load, store, addressIndexes, plain, access}
+use Rattle.spec.specs.declared.Call.{Call}
+use Rattle.spec.specs.declared.Call.the-variants.{Load as load, Store as store}
+use Rattle.spec.specs.Call.{addressIndexes, plain, access}
 use Rattle.spec.specs.Count.{Counted, request, storing}
 use Rattle.spec.specs.Run.{State, lineOf, step, after, opened}
 use Rattle.laws.proofs.Counts.{request-count}

@@ -22,7 +22,9 @@ use Rattle.spec.specs.Walk.{Walk, World, Trace, Result, granted, failed, trace,
 use Rattle.spec.specs.Plain.{Place, must, hosted, next, walk}
 use Rattle.spec.specs.Machine.{Machine, world, wordIn, stored}
 use Rattle.spec.specs.Book.{Book, depth, holding, dropWord, watched}
-use Rattle.spec.specs.Call.{Call, load, store, device, addressIndexes, Outcome, plain, deviceWalk, access, machineStep}
+use Rattle.spec.specs.declared.Call.{Call}
+use Rattle.spec.specs.declared.Call.the-variants.{Load as load, Store as store, Device as device}
+use Rattle.spec.specs.Call.{addressIndexes, Outcome, plain, deviceWalk, access, machineStep}
 use Rattle.spec.specs.Count.{Counted, one, hostExit, request, storing, unshadowed, bookStep}
 use Rattle.spec.specs.Refusal.{firstFailed, addressFits, deviceFits, wordAligned, tests, refusal}
 use Rattle.spec.specs.Run.{State, lineOf, answered, step}

@@ -20,7 +20,8 @@ use Rattle.spec.specs.Config.{Config, guestBase}
 use Rattle.spec.specs.Entry.{present, pageOf, wordOf, indexes}
 use Rattle.spec.specs.Plain.{next}
 use Rattle.spec.specs.Machine.{place}
-use Rattle.spec.specs.Call.{Call, root, map, unmap, setMark, clearMark, load, store, device}
+use Rattle.spec.specs.declared.Call.{Call}
+use Rattle.spec.specs.declared.Call.the-variants.{Root as root, Map as map, Unmap as unmap, SetMark as setMark, ClearMark as clearMark, Load as load, Store as store, Device as device}
 use Rattle.spec.specs.Refusal.{firstFailed, frameFits, inGuestArea, wordsFit, areasFit, openRefusal}
 use Rattle.laws.proofs.Lists.{All}
 use Rattle.entry.proofs.Entries.{word-fits}

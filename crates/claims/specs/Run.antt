@@ -5,7 +5,7 @@ use mathlib.Core.List.{List, [], _∷_}
 use lib.ListN.{drop}
 use Rattle.spec.specs.Config.{guestBase}
 use Rattle.spec.specs.Answer.{Line, line}
-use Rattle.spec.specs.Call.{Call}
+use Rattle.spec.specs.declared.Call.{Call}
 use Rattle.spec.specs.Run.{State}
 use Rattle.record.specs.declared.Record.{Record}
 use Rattle.record.specs.Record.{configOf}
