@@ -3,7 +3,7 @@
 ghost use mathlib.Core.Path.{_≡_};
 ghost use Rattle.words.specs.After.{yields};
 ghost use Rattle.record.specs.Record.{headOf};
-ghost use Rattle.unit.specs.Calls.{openCall, loadCall, storeCall, deviceCall, rootCall, mapCall, unmapCall, setMarkCall, clearMarkCall};
+ghost use Rattle.unit.specs.Calls.{headHeld, openCall, loadCall, storeCall, deviceCall, rootCall, mapCall, unmapCall, setMarkCall, clearMarkCall};
 ghost use Rattle.export.specs.Flat.{headIn, headWords, recordIn, answerOf, flat, leftOf};
 use area::Pool;
 use entry::GuestPhysical;
@@ -14,6 +14,7 @@ use record::Guest;
 use record::Head;
 use record::Pools;
 use record::Record;
+use request::Held;
 use spec::Answer;
 use spec::Fault;
 
@@ -110,6 +111,27 @@ fn record_in(head: &[u64; 15], place: &[u64; 64]) -> Record
             },
         },
     }
+}
+
+// The words of a head.
+fn words_in(head: &[u64; 15]) -> [u64; 15]
+    ensures { λ r. ⌜ r ≡ now (head .entry) ⌝ }
+{
+    *head
+}
+
+// What is held takes the place of what was; a request changes no other word of a head.
+fn put_held(head: &mut [u64; 15], held: Held)
+    ensures { λ _. ⌜ now (head .exit) ≡ headWords (headHeld (headIn (now (head .entry))) held) ⌝ }
+{
+    let mut words = words_in(head);
+    let pool = held.pool;
+    words[8] = pool.fresh;
+    words[9] = pool.free;
+    words[10] = pool.used;
+    words[11] = pool.top;
+    words[13] = held.frame.0;
+    *head = words;
 }
 
 // A record takes the place of the one lent.
@@ -216,7 +238,7 @@ pub extern "C" fn cangrieb_load(
     let s = unit::load_at(h, place, mem, address);
     let answer = s.answer;
     let held = s.held;
-    *head = head_words(unit::with_held(h, held));
+    put_held(head, held);
     answer_of(answer)
 }
 
@@ -235,7 +257,7 @@ pub extern "C" fn cangrieb_store(
     let s = unit::store_at(h, place, mem, address, value);
     let answer = s.answer;
     let held = s.held;
-    *head = head_words(unit::with_held(h, held));
+    put_held(head, held);
     answer_of(answer)
 }
 
@@ -254,7 +276,7 @@ pub extern "C" fn cangrieb_device_store(
     let s = unit::device_store_at(h, place, mem, address, value);
     let answer = s.answer;
     let held = s.held;
-    *head = head_words(unit::with_held(h, held));
+    put_held(head, held);
     answer_of(answer)
 }
 

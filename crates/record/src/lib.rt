@@ -243,11 +243,7 @@ impl Record {
     pub fn depth(self, address: GuestVirtual) -> u64
         ensures { λ r. ⌜ r ≡ depthOf (pageOf (address .0)) (keys (self .guest .marks .place) (self .guest .marks .set)) ⌝ }
     {
-        marks::depth(
-            &self.guest.marks.place,
-            self.guest.marks.set,
-            address,
-        )
+        marks::depth(&self.guest.marks.place, self.guest.marks.set, address)
     }
 
     // The record with another head; the places of the marks stay.

@@ -144,13 +144,7 @@ fn found(mem: &[u64], l: Layout, held: Held, a: GuestVirtual, d: u64) -> HostWal
     ensures { λ r. ⌜ r ≡ foundOf (config l) (now (mem .entry)) held (a .0) d ⌝ }
 {
     if d < l.levels {
-        return shadow::held(
-            mem,
-            l,
-            held.pool.top,
-            path_of(a, d),
-            l.levels - d,
-        );
+        return shadow::held(mem, l, held.pool.top, path_of(a, d), l.levels - d);
     }
     if held.frame.0 == 0 {
         return HostWalk::Absent { reads: 0 };
@@ -369,7 +363,14 @@ pub fn refused(held: Held, number: u64) -> Served
 }
 
 // A load: 11.
-pub fn load(mem: &mut [u64], s: Space, root: GuestPhysical, held: Held, a: GuestVirtual, d: u64) -> Served
+pub fn load(
+    mem: &mut [u64],
+    s: Space,
+    root: GuestPhysical,
+    held: Held,
+    a: GuestVirtual,
+    d: u64,
+) -> Served
     requires { ⌜ (LayoutFits (s .layout)) × (HeldFits (config (s .layout)) held) ⌝ }
     ensures { λ r. ⌜ yields r (now (mem .exit)) ≡ loadOf (config (s .layout)) (s .top) (now (mem .entry)) held (root .0) (a .0) d ⌝ }
 {

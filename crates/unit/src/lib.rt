@@ -62,7 +62,7 @@ fn space_in(head: Head) -> Space
 }
 
 // With other paths held.
-pub fn with_held(head: Head, held: Held) -> Head
+fn with_held(head: Head, held: Held) -> Head
     ensures { λ r. ⌜ r ≡ headHeld head held ⌝ }
 {
     let host = head.pools.host;
@@ -180,11 +180,7 @@ fn address_ok(levels: u64, a: GuestVirtual) -> bool
     requires { ⌜ levels < 6 ⌝ }
     ensures { λ r. ⌜ r ≡ (addressFits (ofLevels levels) (a .0) && wordAligned (a .0)) ⌝ }
 {
-    if a.fits(levels) {
-        a.0 % 8 == 0
-    } else {
-        false
-    }
+    if a.fits(levels) { a.0 % 8 == 0 } else { false }
 }
 
 // Is it the guest-physical address of a word?
@@ -378,14 +374,7 @@ pub fn map_at(
 pub fn map(unit: Record, mem: &mut [u64], g: u64, f: u64, writable: bool) -> Reply
     ensures { λ r. ⌜ yields r (now (mem .exit)) ≡ mapCall unit (now (mem .entry)) g f writable ⌝ }
 {
-    let t = map_at(
-        unit.head(),
-        &unit.guest.marks.place,
-        mem,
-        g,
-        f,
-        writable,
-    );
+    let t = map_at(unit.head(), &unit.guest.marks.place, mem, g, f, writable);
     turned(unit, t)
 }
 

@@ -10,11 +10,8 @@ head-in-requires c κs = search needs
 store-at-requires : tie.Need-store-at-requires
 store-at-requires c κs = search needs
 
-with-held-requires : tie.Need-with-held-requires
-with-held-requires c κs = search needs
-
-head-words-requires : tie.Need-head-words-requires
-head-words-requires c κs = search needs
+put-held-requires : tie.Need-put-held-requires
+put-held-requires c κs = search needs
 
 answer-of-requires : tie.Need-answer-of-requires
 answer-of-requires c κs = search needs
@@ -26,10 +23,9 @@ returns : tie.Need-returns
 returns c =
     let head-in = c .before .before .before .before .before .before .before .before .head-in in
     let store-at = c .before .before .before .before .before .before .store-at in
-    let with-held = c .before .before .with-held in
-    let head-words = c .before .head-words in
+    let put-held = c .before .put-held in
     let answer-of = c .answer-of in
-    rw (answer-of .ensures, head-words .ensures, with-held .ensures, head-in .ensures) (ap leftOf (rw (head-in .ensures) at (store-at .ensures)))
+    rw (answer-of .ensures, put-held .ensures) (ap leftOf (rw (head-in .ensures) at (store-at .ensures)))
 
 pub cangrieb-store-spec : {M : Type 1} → statement M
 cangrieb-store-spec =
@@ -37,8 +33,7 @@ cangrieb-store-spec =
     (tie.spec
     head-in-requires
     store-at-requires
-    with-held-requires
-    head-words-requires
+    put-held-requires
     answer-of-requires
     same-length
     returns)

@@ -15,7 +15,7 @@ use Rattle.walk.proofs.walk_tables.Statement.{statement}
 use Rattle.walk.proofs.walk_tables.Tie as tie
 
 abbrev Inv-loop : tie.InvT-loop
-Inv-loop mem s store path k below right read left₀ at₀ w₀ n₀ tables₀ depth₀ left at w n tables depth = 
+Inv-loop mem s store path k below right read left₀ at₀ w₀ n₀ tables₀ depth₀ left at w n tables depth =
     (left ≤ k) × (at < 1099511627776) × (n + 6 * left ≤ 1024 + 6 * k) × (depth + left ≡ k)
     × (trailFrom (config (s .layout)) (s .top) mem tables depth n (levels (config (s .layout)) store (below + left) at w (indexes left path))
     ≡ trailFrom (config (s .layout)) (s .top) mem tables₀ 0 n₀ (levels (config (s .layout)) store (below + k) at₀ w₀ (indexes k path)))
