@@ -3,7 +3,7 @@ ghost use mathlib.Core.Path.{_≡_};
 ghost use Prim.Native.Nat.{_+_, _-_, _<_, _≤_};
 ghost use lib.Dec.{leb};
 ghost use Rattle.spec.specs.Entry.{index, indexes};
-ghost use Rattle.area.specs.Header.{entryIn, highOf, putOf, guestOf, levelOf, parentOf, slotOf, headOf, insideOf, bareOf};
+ghost use Rattle.area.specs.Header.{frameAt, entryIn, highOf, putOf, guestOf, levelOf, parentOf, slotOf, headOf, insideOf, bareOf};
 ghost use Rattle.area.specs.Pool.{hopOf, noneOf, withTop, freshOf, freedOf, takeOf, giveOf, backOf};
 ghost use Rattle.area.specs.Tree.{topOf, lookOf, roomOf, tableOf, enterOf, hangOf, descendOf, downOf, placeOf, insertOf};
 ghost use Rattle.area.specs.Remove.{unhangOf, shutOf, releaseOf, lastOf, clearOf, removeOf};
@@ -76,14 +76,22 @@ pub fn put_entry(mem: &mut [u64], f: u64, i: u64, e: u64)
     );
 }
 
+// A frame number in the high bits of words i and i + 1.
+fn frame_at(mem: &[u64], f: u64, i: u64) -> u64
+    requires { ⌜ (f < 1099511627776) × (i < 511) ⌝ }
+    ensures { λ r. ⌜ r ≡ frameAt (now (mem .entry)) f i ⌝ }
+{
+    let a = high(mem, f, i);
+    let b = high(mem, f, i + 1);
+    a % 4096 + b % 16 * 4096
+}
+
 // The host frame of the guest table that a table stands for.
 pub fn guest(mem: &[u64], f: u64) -> u64
     requires { ⌜ f < 1099511627776 ⌝ }
     ensures { λ r. ⌜ r ≡ guestOf (now (mem .entry)) f ⌝ }
 {
-    let a = high(mem, f, 0);
-    let b = high(mem, f, 1);
-    a % 4096 + b % 16 * 4096
+    frame_at(mem, f, 0)
 }
 
 // The level of a table; 0 for a frame that is no table.
@@ -99,9 +107,7 @@ pub fn parent(mem: &[u64], f: u64) -> u64
     requires { ⌜ f < 1099511627776 ⌝ }
     ensures { λ r. ⌜ r ≡ parentOf (now (mem .entry)) f ⌝ }
 {
-    let a = high(mem, f, 2);
-    let b = high(mem, f, 3);
-    a % 4096 + b % 16 * 4096
+    frame_at(mem, f, 2)
 }
 
 // The index of a table's entry in the table above.

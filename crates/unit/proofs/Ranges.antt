@@ -1,7 +1,7 @@
 -- What the tests of a call give: the ranges that the functions below it ask for.
 -- Assumes nothing.
 use mathlib.Core.Path.{_≡_}
-use mathlib.Core.Bool.{true}
+use mathlib.Core.Bool.{Bool, true, false}
 use Prim.Native.Nat.{ℕ, _<_, _≤_}
 use native.Mathlib.Omega.{arith}
 use Rattle.marks.specs.Table.{setRefusal, clearRefusal, number}
@@ -11,7 +11,7 @@ use Rattle.record.specs.declared.Record.{Record}
 use Rattle.record.specs.Record.{configOf, fitsOf}
 use Rattle.record.proofs.Rules.{sized-layout, fits-layout}
 use Rattle.request.specs.Translate.{HeldFits}
-use Rattle.unit.specs.Calls.{Sound, heldOf}
+use Rattle.unit.specs.Calls.{Sound, heldOf, markRefusal}
 
 module _ (r : Record) (len : ℕ) (e : fitsOf r len ≡ true) where
   pub fits-sound : Sound r
@@ -29,8 +29,12 @@ module _ (r : Record) (len : ℕ) (e : fitsOf r len ≡ true) where
 
 -- a mark that is set or cleared has a level that a key can hold
 module _ (r : Record) (a level : ℕ) (few : r .layout .levels < 6) where
-  pub set-level : number (setRefusal (r .layout .levels) (keysOf (r .guest .marks)) a level) ≡ 0 → level < 8
+  set-level : number (setRefusal (r .layout .levels) (keysOf (r .guest .marks)) a level) ≡ 0 → level < 8
   set-level e = omega (arith, few, level-below (r .layout .levels) level (may-set (r .layout .levels) (r .guest .marks) a level e .fits))
 
-  pub clear-level : number (clearRefusal (r .layout .levels) (keysOf (r .guest .marks)) a level) ≡ 0 → level < 8
+  clear-level : number (clearRefusal (r .layout .levels) (keysOf (r .guest .marks)) a level) ≡ 0 → level < 8
   clear-level e = omega (arith, few, level-below (r .layout .levels) level (may-clear (r .layout .levels) (r .guest .marks) a level e .fits))
+
+  pub mark-level : (b : Bool) → markRefusal b r a level ≡ 0 → level < 8
+  mark-level true e = set-level e
+  mark-level false e = clear-level e

@@ -1,7 +1,7 @@
 -- The calls of the unit, as total definitions over any record, any memory and any numbers.
 -- Assumes nothing.
 use Prim.Native.Nat.{ℕ, _-_, _*_, _/_, _^_, _≤_}
-use mathlib.Core.Bool.{Bool, _&&_, cond}
+use mathlib.Core.Bool.{Bool, true, false, _&&_, cond}
 use mathlib.Core.List.{List}
 use lib.Dec.{eqb, ltb}
 use lib.ListN.{length}
@@ -192,15 +192,22 @@ markedOf r m a n t =
 abbrev pub keysOf : Record → List ℕ
 keysOf r = keys (r .guest .marks .place) (r .guest .marks .set)
 
+-- a mark is set (b), or one that is set is cleared: why it is refused, and the marks after it
+abbrev pub markRefusal : Bool → Record → ℕ → ℕ → ℕ
+markRefusal b r a n = number (cond b (setRefusal (r .layout .levels) (keysOf r) a n) (clearRefusal (r .layout .levels) (keysOf r) a n))
+
+abbrev pub marksAfter : Bool → Marks → ℕ → Marks
+marksAfter b t k = cond b (withKey t k) (withoutKey t k)
+
+abbrev pub markCall : Bool → Record → List ℕ → ℕ → ℕ → After Reply
+markCall b r m a n =
+    judged r m (cond (eqb (markRefusal b r a n) 0) (markedOf r m a n (marksAfter b (r .guest .marks) (keyOf n (pageOf a)))) (refused r (markRefusal b r a n) m))
+
 unfoldable pub setMarkCall : Record → List ℕ → ℕ → ℕ → After Reply
-setMarkCall r m a n =
-    let x = number (setRefusal (r .layout .levels) (keysOf r) a n) in
-    judged r m (cond (eqb x 0) (markedOf r m a n (withKey (r .guest .marks) (keyOf n (pageOf a)))) (refused r x m))
+setMarkCall r m a n = markCall true r m a n
 
 unfoldable pub clearMarkCall : Record → List ℕ → ℕ → ℕ → After Reply
-clearMarkCall r m a n =
-    let x = number (clearRefusal (r .layout .levels) (keysOf r) a n) in
-    judged r m (cond (eqb x 0) (markedOf r m a n (withoutKey (r .guest .marks) (keyOf n (pageOf a)))) (refused r x m))
+clearMarkCall r m a n = markCall false r m a n
 
 -- ---- any call
 

@@ -2,13 +2,14 @@
 // the record's head by value and the places of its marks lent, so that a request copies no array; what comes back is what the
 // call can change. The calls by value are a few lines over those.
 ghost use mathlib.Core.Path.{_≡_};
-ghost use mathlib.Core.Bool.{_&&_};
+ghost use mathlib.Core.Bool.{_&&_, cond};
 ghost use Prim.Native.Nat.{_<_};
 ghost use Rattle.spec.specs.Refusal.{addressFits, deviceFits, wordAligned};
 ghost use Rattle.words.specs.After.{yields};
 ghost use Rattle.entry.specs.Levels.{ofLevels};
+ghost use Rattle.marks.specs.Table.{keys, setRefusal, clearRefusal, number};
 ghost use Rattle.record.specs.Record.{recordBy, withMarks};
-ghost use Rattle.unit.specs.Calls.{Sound, nothing, headHeld, headHost, withHeld, heldIn, spaceIn, servedReply, turnReply, answerOf, openCall, loadCall, storeCall, deviceCall, rootCall, unmappedOf, changedBy, mapCall, unmapCall, heldAfter, markedOf, setMarkCall, clearMarkCall};
+ghost use Rattle.unit.specs.Calls.{Sound, nothing, headHeld, headHost, withHeld, heldIn, spaceIn, servedReply, turnReply, answerOf, openCall, loadCall, storeCall, deviceCall, rootCall, unmappedOf, changedBy, mapCall, unmapCall, heldAfter, markedOf, marksAfter, markCall, setMarkCall, clearMarkCall};
 use area::Pool;
 use entry::GuestPhysical;
 use entry::GuestVirtual;
@@ -447,60 +448,64 @@ fn marked(unit: Record, mem: &mut [u64], a: GuestVirtual, level: u64, marks: Mar
     }
 }
 
-// Sets a mark: 3, 4, 5, 6, 7, 11.
-pub fn set_mark(unit: Record, mem: &mut [u64], a: u64, level: u64) -> Reply
-    ensures { λ r. ⌜ yields r (now (mem .exit)) ≡ setMarkCall unit (now (mem .entry)) a level ⌝ }
+// Why a mark is not set, or one is not cleared: its number, or 0.
+fn mark_refusal(
+    place: &[u64; 64],
+    set: u64,
+    levels: u64,
+    at: GuestVirtual,
+    level: u64,
+    setting: bool,
+) -> u64
+    requires { ⌜ levels < 6 ⌝ }
+    ensures { λ r. ⌜ r ≡ number (cond setting (setRefusal levels (keys (now (place .entry)) set) (at .0) level) (clearRefusal levels (keys (now (place .entry)) set) (at .0) level)) ⌝ }
+{
+    if setting {
+        marks::set_refusal(place, set, levels, at, level)
+    } else {
+        marks::clear_refusal(place, set, levels, at, level)
+    }
+}
+
+// The marks with that key, or without it.
+fn marks_after(marks: Marks, key: u64, setting: bool) -> Marks
+    ensures { λ r. ⌜ r ≡ marksAfter setting marks key ⌝ }
+{
+    if setting {
+        marks.with_key(key)
+    } else {
+        marks.without_key(key)
+    }
+}
+
+// A mark is set, or one is cleared.
+fn mark_call(unit: Record, mem: &mut [u64], a: u64, level: u64, setting: bool) -> Reply
+    ensures { λ r. ⌜ yields r (now (mem .exit)) ≡ markCall setting unit (now (mem .entry)) a level ⌝ }
 {
     let at = GuestVirtual(a);
     if !unit.fits(mem.len()) {
         return refused(unit, 3);
     }
     let levels = unit.layout.levels;
-    let refusal = marks::set_refusal(
-        &unit.guest.marks.place,
-        unit.guest.marks.set,
-        levels,
-        at,
-        level,
-    );
+    let set = unit.guest.marks.set;
+    let refusal = mark_refusal(&unit.guest.marks.place, set, levels, at, level, setting);
     if refusal != 0 {
         return refused(unit, refusal);
     }
-    let marks = unit.guest.marks;
-    marked(
-        unit,
-        mem,
-        at,
-        level,
-        marks.with_key(marks::key_of(level, at)),
-    )
+    let marks = marks_after(unit.guest.marks, marks::key_of(level, at), setting);
+    marked(unit, mem, at, level, marks)
+}
+
+// Sets a mark: 3, 4, 5, 6, 7, 11.
+pub fn set_mark(unit: Record, mem: &mut [u64], a: u64, level: u64) -> Reply
+    ensures { λ r. ⌜ yields r (now (mem .exit)) ≡ setMarkCall unit (now (mem .entry)) a level ⌝ }
+{
+    mark_call(unit, mem, a, level, true)
 }
 
 // Clears a mark: 3, 4, 5, 6, 11.
 pub fn clear_mark(unit: Record, mem: &mut [u64], a: u64, level: u64) -> Reply
     ensures { λ r. ⌜ yields r (now (mem .exit)) ≡ clearMarkCall unit (now (mem .entry)) a level ⌝ }
 {
-    let at = GuestVirtual(a);
-    if !unit.fits(mem.len()) {
-        return refused(unit, 3);
-    }
-    let levels = unit.layout.levels;
-    let refusal = marks::clear_refusal(
-        &unit.guest.marks.place,
-        unit.guest.marks.set,
-        levels,
-        at,
-        level,
-    );
-    if refusal != 0 {
-        return refused(unit, refusal);
-    }
-    let marks = unit.guest.marks;
-    marked(
-        unit,
-        mem,
-        at,
-        level,
-        marks.without_key(marks::key_of(level, at)),
-    )
+    mark_call(unit, mem, a, level, false)
 }

@@ -34,11 +34,15 @@ fn output(command: &mut Command) -> String {
     String::from_utf8(output.stdout).unwrap()
 }
 
+/// Of the C library's ways to copy and to clear, the one that every x86-64 processor has: which it takes else is the machine's.
+const PLAIN_COPIES: &str = "glibc.cpu.hwcaps=-AVX2,-AVX512F,-AVX512VL,-ERMS,-FSRM,-SSSE3";
+
 /// The instructions of a case, run once.
 fn count(program: &Path, case: &str) -> u64 {
     let profile = format!("{FOLDER}/{case}.callgrind");
     output(
         Command::new("valgrind")
+            .env("GLIBC_TUNABLES", PLAIN_COPIES)
             .args(["--tool=callgrind", "--toggle-collect=counted_*"])
             .arg(format!("--callgrind-out-file={profile}"))
             .arg(program)

@@ -1,95 +1,17 @@
-use mathlib.Core.Path.{sym, _∙_}
-use borrow.Author.Tests.{eq-eqb, ne-eqb, not-true, not-false}
 use Rattle.unit.specs.Calls.{clearMarkCall}
-use Rattle.unit.proofs.Laws.{broken, failed}
-use Rattle.unit.proofs.Ranges.{fits-sound, fits-levels, clear-level}
 use borrow.Author.Needs.{needs}
 use Rattle.unit.proofs.clear_mark.Statement.{statement}
 use Rattle.unit.proofs.clear_mark.Tie as tie
 
-fits-requires : tie.Need-fits-requires
-fits-requires c κs = search needs
-
-refused-requires : tie.Need-refused-requires
-refused-requires c κs = search needs
-
-returns : tie.Need-returns
-unfolding clearMarkCall
-returns c =
-    let args = c .before .before .before .before .args in
-    let fits2 = c .before .before .fits2 in
-    let if1 = c .before .if1 in
-    let refused = c .refused in
-    rw (refused .ensures) (broken (args .t1) (args .mem .now) _ (sym (fits2 .ensures) ∙ not-true (fits2 .result) (if1 .taken)))
-
-clear-refusal-requires : tie.Need-clear-refusal-requires
-clear-refusal-requires c κs =
-    let args = c .before .before .before .before .before .args in
-    let fits2 = c .before .before .before .fits2 in
-    let if1 = c .before .before .if1 in
-    fits-levels (args .t1) _ (sym (fits2 .ensures) ∙ not-false (fits2 .result) (if1 .left))
-
-refused-requires-2 : tie.Need-refused-requires-2
-refused-requires-2 c κs = search needs
-
-returns-2 : tie.Need-returns-2
-unfolding clearMarkCall
-returns-2 c =
-    let fits2 = c .before .before .before .before .before .before .fits2 in
-    let if1 = c .before .before .before .before .before .if1 in
-    let clear-refusal = c .before .before .clear-refusal in
-    let if2 = c .before .if2 in
-    let refused2 = c .refused2 in
-    rw (← fits2 .ensures, not-false (fits2 .result) (if1 .left), ← clear-refusal .ensures, ne-eqb _ _ (if2 .taken), refused2 .ensures)
-
-key-of-requires : tie.Need-key-of-requires
-key-of-requires c κs =
-    let args = c .before .before .before .before .before .before .before .before .before .args in
-    let fits2 = c .before .before .before .before .before .before .before .fits2 in
-    let if1 = c .before .before .before .before .before .before .if1 in
-    let clear-refusal = c .before .before .before .clear-refusal in
-    let if2 = c .before .before .if2 in
-    clear-level (args .t1) (args .a) (args .level) (fits-levels (args .t1) _ (sym (fits2 .ensures) ∙ not-false (fits2 .result) (if1 .left))) (sym (clear-refusal .ensures) ∙ if2 .left)
-
-without-key-requires : tie.Need-without-key-requires
-without-key-requires c κs = search needs
-
-marked-requires : tie.Need-marked-requires
-marked-requires c κs =
-    let args = c .before .before .before .before .before .before .before .before .before .before .before .args in
-    let fits2 = c .before .before .before .before .before .before .before .before .before .fits2 in
-    let if1 = c .before .before .before .before .before .before .before .before .if1 in
-    let clear-refusal = c .before .before .before .before .before .clear-refusal in
-    let if2 = c .before .before .before .before .if2 in
-    (fits-sound (args .t1) _ (sym (fits2 .ensures) ∙ not-false (fits2 .result) (if1 .left)), clear-level (args .t1) (args .a) (args .level) (fits-levels (args .t1) _ (sym (fits2 .ensures) ∙ not-false (fits2 .result) (if1 .left))) (sym (clear-refusal .ensures) ∙ if2 .left))
+mark-call-requires : tie.Need-mark-call-requires
+mark-call-requires c κs = search needs
 
 same-length : tie.Need-same-length
 same-length c = search needs
 
-returns-3 : tie.Need-returns-3
+returns : tie.Need-returns
 unfolding clearMarkCall
-returns-3 c =
-    let fits2 = c .before .before .before .before .before .before .before .before .before .before .before .before .fits2 in
-    let if1 = c .before .before .before .before .before .before .before .before .before .before .before .if1 in
-    let clear-refusal = c .before .before .before .before .before .before .before .before .clear-refusal in
-    let if2 = c .before .before .before .before .before .before .before .if2 in
-    let key-of = c .before .before .before .before .key-of in
-    let without-key = c .before .before .before .without-key in
-    let marked = c .before .before .marked in
-    rw (← fits2 .ensures, not-false (fits2 .result) (if1 .left), ← clear-refusal .ensures, eq-eqb _ _ (if2 .left), ← key-of .ensures, ← without-key .ensures) (marked .ensures)
+returns c = c .before .before .mark-call .ensures
 
 pub clear-mark-spec : {M : Type 1} → statement M
-clear-mark-spec =
-    tie.close
-    (tie.spec
-    fits-requires
-    refused-requires
-    returns
-    clear-refusal-requires
-    refused-requires-2
-    returns-2
-    key-of-requires
-    without-key-requires
-    marked-requires
-    same-length
-    returns-3)
+clear-mark-spec = tie.close (tie.spec mark-call-requires same-length returns)

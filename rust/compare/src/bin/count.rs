@@ -33,15 +33,25 @@ mod counted {
 /// time costs the same.
 type Case = (&'static str, fn() -> Guest, fn(&mut Record, &mut [u64]));
 
-const CASES: [Case; 15] = [
+const CASES: [Case; 25] = [
     ("load-depth-0", || held(0, 0), load::<0>),
     ("load-depth-0-marks-8", || held(0, 8), load::<0>),
     ("load-depth-0-marks-62", || held(0, 62), load::<0>),
     ("load-depth-1", || held(1, 0), load::<1>),
+    ("load-depth-1-marks-8", || held(1, 8), load::<1>),
+    ("load-depth-1-marks-62", || held(1, 62), load::<1>),
     ("load-depth-2", || held(2, 0), load::<2>),
+    ("load-depth-2-marks-8", || held(2, 8), load::<2>),
+    ("load-depth-2-marks-62", || held(2, 62), load::<2>),
     ("load-depth-3", || held(3, 0), load::<3>),
+    ("load-depth-3-marks-8", || held(3, 8), load::<3>),
+    ("load-depth-3-marks-62", || held(3, 62), load::<3>),
     ("load-depth-4", || held(4, 0), load::<4>),
+    ("load-depth-4-marks-8", || held(4, 8), load::<4>),
+    ("load-depth-4-marks-62", || held(4, 62), load::<4>),
     ("load-depth-5", || held(5, 0), load::<5>),
+    ("load-depth-5-marks-8", || held(5, 8), load::<5>),
+    ("load-depth-5-marks-62", || held(5, 62), load::<5>),
     ("store", || held(0, 0), store),
     ("device-store", || held(0, 0), device_store),
     ("root", guest, root),
