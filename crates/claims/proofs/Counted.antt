@@ -44,14 +44,14 @@ use Rattle.drops.proofs.Held.{leafAt}
 use Rattle.drops.proofs.Watch.{watched-is}
 use Rattle.drops.proofs.Drops.{drop-word}
 use Rattle.drops.proofs.Valid.{entryOf}
-use Rattle.request.specs.Translate.{translation, exitBy, servesOf, foundOf}
+use Rattle.request.specs.Translate.{exitBy, servesOf, foundOf}
 use Rattle.request.specs.declared.Held.{Held as Holding}
 use Rattle.request.specs.Access as put
-use Rattle.request.specs.Access.{loadOf, putOf, serving, writtenBy, storeOf}
+use Rattle.request.specs.Access.{loadOf, putOf, storeOf}
 use Rattle.record.specs.Record.{headTables}
 use Rattle.request.proofs.Fits.{ArrivedIn}
 use Rattle.request.proofs.Leaves.{translate-leaves, put-leaves}
-use Rattle.unit.specs.Calls.{hostTop, heldOf, rootOf, headHeld, ended, refused, withHeld, servedBy, depthAt, addressOk, translatedOf, loadCall, storeCall, openCall}
+use Rattle.unit.specs.Calls.{hostTop, heldOf, rootOf, headHeld, ended, refused, withHeld, depthAt, addressOk, translatedOf, loadCall, storeCall, openCall}
 use Rattle.claims.specs.Run.{guestArea, unitAfter}
 use Rattle.claims.specs.Counted.{SameWords, SameStore, countedOf, touchedBy, touchedOf, HeldOrPlain, References, Touches, Refuses, SameTables}
 use Rattle.claims.proofs.Invariant.{longer, frames, Inv}

@@ -12,8 +12,8 @@ use Rattle.spec.specs.Run.{State, step, run, after, opened}
 use Rattle.record.specs.declared.Record.{Record}
 use Rattle.record.specs.Record.{configOf, configBy}
 use Rattle.record.specs.Open.{refusalOf, firstOf, grantedOf}
-use Rattle.unit.specs.Calls.{ended, openCall, callOf}
-use Rattle.claims.specs.Run.{unitRun, unitAfter, runOf, machineRun}
+use Rattle.unit.specs.Calls.{openCall, callOf}
+use Rattle.claims.specs.Run.{unitRun, unitAfter, machineRun}
 use Rattle.claims.proofs.Invariant.{Inv, Follows, at}
 use Rattle.claims.proofs.Opens.{opened-inv, granted-call}
 use Rattle.claims.proofs.Remaps.{root-follows, map-follows, unmap-follows}

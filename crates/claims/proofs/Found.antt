@@ -1,34 +1,31 @@
 -- The held path of an address: what the unit finds is what the book holds.
 -- Assumes nothing.
 use mathlib.Core.Path.{_≡_, refl, sym, ap, ap₂, _∙_, subst}
-use mathlib.Core.Logic.{_≢_, _⊎_, inl, inr}
-use Prim.Native.Nat.{ℕ, zero, suc, _+_, _-_, _*_, _/_, _^_, _<_, _≤_}
+use Prim.Native.Nat.{ℕ, _-_, _*_, _/_, _^_, _<_, _≤_}
 use native.Mathlib.Omega.{arith}
-use mathlib.Core.Bool.{Bool, true, false, not, _||_, cond}
+use mathlib.Core.Bool.{Bool, true, false, cond}
 use mathlib.Core.List.{List, [], _∷_}
-use mathlib.Core.Option.{Option, none, some}
-use lib.Dec.{T, eqb, leb, ltb, lt→ltb, ltb→lt}
-use borrow.Author.Tests.{lt-ltb, le-ltb, ltb-false, eq-eqb, ne-eqb}
+use mathlib.Core.Option.{none, some}
+use lib.Dec.{T, eqb, ltb, ltb→lt}
+use borrow.Author.Tests.{lt-ltb, ltb-false, ne-eqb}
 use lib.ListN.{length}
 use Rattle.spec.specs.declared.Fault.{Fault}
-use Rattle.spec.specs.Config.{Config, guestBase, frameBits}
+use Rattle.spec.specs.Config.{Config, frameBits}
 use Rattle.spec.specs.Entry.{frameOf, writable, indexes, pageOf}
-use Rattle.spec.specs.Prefix.{same, begins, keep}
-use Rattle.spec.specs.Walk.{World, Trace, Result, granted, failed, trace}
-use Rattle.spec.specs.Plain.{Place, hosted, levels, walk, upper}
+use Rattle.spec.specs.Prefix.{same}
+use Rattle.spec.specs.Walk.{granted, trace}
+use Rattle.spec.specs.Plain.{Place, hosted, levels, walk}
 use Rattle.spec.specs.Machine.{Machine, world}
-use Rattle.spec.specs.Book.{Held, Book, Mark, find, depth}
+use Rattle.spec.specs.Book.{Held, find, depth}
 use Rattle.spec.specs.Call.{addressIndexes}
-use Rattle.spec.specs.Count.{serves}
 use Rattle.spec.specs.Run.{State}
-use Rattle.laws.proofs.Lists.{All, all-map, all-keep, is-true, is-false, same-is}
+use Rattle.laws.proofs.Lists.{all-map, all-keep, same-is}
 use Rattle.laws.proofs.Local.{Seen, seen}
-use Rattle.laws.proofs.Granted.{granted-is, through, walk-serves}
-use Rattle.laws.proofs.Indexes.{indexes-length, indexes-all}
+use Rattle.laws.proofs.Granted.{granted-is, through}
+use Rattle.laws.proofs.Indexes.{indexes-length}
 use Rattle.laws.proofs.Depth.{PathFits, no-proper-prefix, fill-fits}
 use Rattle.laws.proofs.Keeps.{Valid, again}
-use Rattle.laws.proofs.Runs.{BookFits}
-use Rattle.tree.proofs.Paths.{onto, Small}
+use Rattle.tree.proofs.Paths.{onto}
 use Rattle.tree.proofs.Find.{steps}
 use Rattle.tree.proofs.Hosts.{indexes-small}
 use Rattle.tree.proofs.Whole as tree
@@ -36,23 +33,22 @@ use Rattle.host.specs.declared.HostWalk.{HostWalk}
 use Rattle.host.specs.declared.HostWalk.the-variants as host
 use Rattle.host.specs.Walk.{page}
 use Rattle.host.proofs.Laws.{InGuestArea}
-use Rattle.walk.specs.Memory.{memoryWorld}
 use Rattle.walk.proofs.Stands.{Stands}
 use Rattle.record.specs.declared.Record.{Record}
 use Rattle.record.specs.Record.{configOf}
 use Rattle.record.proofs.Rules.{Fits, fits-layout}
 use Rattle.shadow.specs.Held as shadow
-use Rattle.shadow.specs.Held.{shadowArea, entryFor}
+use Rattle.shadow.specs.Held.{shadowArea}
 use Rattle.shadow.proofs.Parts.{entry-frame, entry-writable}
 use Rattle.drops.proofs.Held.{leafAt, HeldEntries}
 use Rattle.drops.proofs.Find.{answerFound, held-is, find-all, Apart, path-fits}
 use Rattle.drops.proofs.Drops.{namedIn}
 use Rattle.drops.proofs.Fill.{frame-small}
 use Rattle.drops.proofs.Valid.{framesAt, entryOf, valid-entries, valid-frame, inside-area}
-use Rattle.request.specs.Translate.{pathIndexes, foundOf, servesOf}
+use Rattle.request.specs.Translate.{pathIndexes, foundOf}
 use Rattle.unit.specs.Calls.{hostTop, heldOf}
 use Rattle.claims.proofs.Invariant.{longer, topBy, frames, Inv, stands}
-use Rattle.claims.proofs.Paths.{path-upper, walk-above}
+use Rattle.claims.proofs.Paths.{path-upper}
 
 -- ---- lists of held paths
 

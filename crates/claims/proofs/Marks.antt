@@ -2,7 +2,7 @@
 -- Assumes nothing.
 use mathlib.Core.Path.{_≡_, refl, sym, ap, ap₂, _∙_, subst}
 use mathlib.Core.Logic.{_⊎_, inl}
-use Prim.Native.Nat.{ℕ, zero, suc, _+_, _-_, _*_, _/_, _^_, _<_, _≤_}
+use Prim.Native.Nat.{ℕ, _+_, _-_, _*_, _/_, _^_, _<_, _≤_}
 use native.Mathlib.Omega.{arith}
 use native.Mathlib.Decide.{decLe}
 use borrow.Author.Tests.{ltb-true, ltb-false, ne-eqb}
@@ -14,7 +14,7 @@ use lib.Count.{ones}
 use lib.Pow.{pow-mono, pow-pos}
 use lib.ListN.{length, take}
 use Rattle.spec.specs.Config.{Config}
-use Rattle.spec.specs.Entry.{pageOf, index, indexes}
+use Rattle.spec.specs.Entry.{pageOf, indexes}
 use Rattle.spec.specs.Prefix.{begins, any, keep}
 use Rattle.spec.specs.Book.{Mark, Held, markAt, sameMark, find, dropPrefix}
 use Rattle.spec.specs.Call as outcome
@@ -30,7 +30,6 @@ use Rattle.laws.proofs.Runs.{BookFits}
 use Rattle.entry.specs.Levels.{ofLevels}
 use Rattle.laws.proofs.Indexes.{indexes-length, indexes-take}
 use Rattle.tree.proofs.Hosts.{indexes-small}
-use Rattle.tree.proofs.Paths.{Small}
 use Rattle.host.proofs.Laws.{InGuestArea}
 use Rattle.walk.proofs.Stands.{Stands}
 use Rattle.marks.specs.declared.Marks.{Marks}

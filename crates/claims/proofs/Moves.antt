@@ -27,7 +27,6 @@ use Rattle.laws.proofs.Lists.{All, all-map, all-keep}
 use Rattle.laws.proofs.Trail.{frameIn, frameAt}
 use Rattle.laws.proofs.Keeps.{Valid}
 use Rattle.laws.proofs.Runs.{BookFits, step-fits}
-use Rattle.area.specs.declared.Area.{Area}
 use Rattle.area.specs.declared.Pool.{Pool}
 use Rattle.area.specs.Pool.{noneOf}
 use Rattle.tree.proofs.Stores.{Beside, beside-drop}

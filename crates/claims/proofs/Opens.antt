@@ -10,10 +10,8 @@ use borrow.Author.Tests.{ne-eqb}
 use lib.ListN.{length}
 use Rattle.spec.specs.declared.Answer.the-variants as answer
 use Rattle.spec.specs.Answer.{line}
-use Rattle.spec.specs.Config.{Config}
 use Rattle.spec.specs.Run.{opened, opening}
 use Rattle.laws.proofs.Runs.{opened-fits}
-use Rattle.tree.specs.Run.{get}
 use Rattle.tree.specs.Host.{hostMap}
 use Rattle.tree.proofs.Claim.{leaves}
 use Rattle.tree.proofs.Whole.{holds-leaves}

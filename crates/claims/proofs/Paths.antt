@@ -1,7 +1,7 @@
 -- The indexes of an address in its two parts, a walk above level 1, and the reply of a request by its translation.
 -- Assumes nothing.
-use mathlib.Core.Path.{_≡_, refl, sym, ap, ap₂, _∙_, subst}
-use Prim.Native.Nat.{ℕ, zero, suc, pred, _+_, _-_, _*_, _/_, _^_, _<_, _≤_}
+use mathlib.Core.Path.{_≡_, refl, sym, ap, _∙_}
+use Prim.Native.Nat.{ℕ, pred, _+_, _-_, _*_, _/_, _^_, _<_, _≤_}
 use native.Mathlib.Omega.{arith}
 use mathlib.Core.Bool.{Bool, true, false, _&&_, cond}
 use mathlib.Core.List.{List, [], _∷_, _++_}
@@ -12,15 +12,13 @@ use lib.Seq.{drop-append-seam}
 use Rattle.spec.specs.declared.Fault.{Fault}
 use Rattle.spec.specs.declared.Fault.the-variants as fault
 use Rattle.spec.specs.Config.{Config}
-use Rattle.spec.specs.Entry.{index, indexes, pageOf}
-use Rattle.spec.specs.Walk.{Walk, Result, granted, failed, _>>=_}
+use Rattle.spec.specs.Entry.{indexes, pageOf}
+use Rattle.spec.specs.Walk.{Result, granted, failed, _>>=_}
 use Rattle.spec.specs.Plain.{Place, entry, next, levels, walk, hosted, upper}
 use Rattle.spec.specs.Call.{addressIndexes}
 use Rattle.spec.specs.Count.{hostExit}
-use Rattle.laws.proofs.Lists.{All}
 use Rattle.laws.proofs.Bind.{bind-cong}
 use Rattle.laws.proofs.Indexes.{indexes-length, indexes-split, indexes-take}
-use Rattle.entry.proofs.Entries.{index-fits}
 use Rattle.walk.proofs.Stands.{plainWalked}
 use Rattle.request.specs.Translate.{exitBy, pathIndexes}
 use Rattle.request.specs.Access.{loadBy, storeBy, serving, refused}

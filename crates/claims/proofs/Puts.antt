@@ -1,32 +1,31 @@
 -- A store to a word of the guest area, with the paths that it drops, is the machine's store and the book's drop.
 -- Assumes nothing.
 use mathlib.Core.Path.{_≡_, refl, sym, ap, ap₂, _∙_, subst}
-use mathlib.Core.Logic.{_≢_, _⊎_, inl, inr}
-use Prim.Native.Nat.{ℕ, _+_, _-_, _*_, _^_, _<_, _≤_}
+use mathlib.Core.Logic.{inr}
+use Prim.Native.Nat.{ℕ, _+_, _-_, _*_, _<_, _≤_}
 use native.Mathlib.Omega.{arith}
 use mathlib.Core.Bool.{Bool, true, false, not, _&&_, _||_, cond}
 use mathlib.Core.List.{List, [], _∷_}
-use mathlib.Core.Option.{Option, none, some}
-use lib.Dec.{T, eqb, eqb-refl, ltb}
+use mathlib.Core.Option.{none}
+use lib.Dec.{T, eqb, ltb}
 use lib.ListN.{length, drop, set, length-set}
 use lib.Seq.{drop-set-add}
-use borrow.Author.Tests.{lt-ltb, le-ltb, ltb-false}
-use Rattle.spec.specs.Config.{Config, guestBase, frameBits}
-use Rattle.spec.specs.Prefix.{any, keep}
+use borrow.Author.Tests.{ltb-false}
+use Rattle.spec.specs.Config.{Config, guestBase}
+use Rattle.spec.specs.Prefix.{any}
 use Rattle.spec.specs.Machine.{Machine, Mapping, place, stored}
-use Rattle.spec.specs.Book.{Held, Book, find, holding, dropWord, watched, readsFrame, readsWord}
+use Rattle.spec.specs.Book.{Held, find, holding, dropWord, watched, readsFrame, readsWord}
 use Rattle.spec.specs.Count.{one}
 use Rattle.spec.specs.Run.{State}
-use Rattle.laws.proofs.Lists.{All, all-map, all-keep, all-both, is-true, is-false, or-cases}
+use Rattle.laws.proofs.Lists.{All, all-map, all-keep}
 use Rattle.laws.proofs.Trail.{readsFrom}
 use Rattle.laws.proofs.Keeps.{Valid}
-use Rattle.laws.proofs.Runs.{BookFits, kept-fits}
+use Rattle.laws.proofs.Runs.{kept-fits}
 use Rattle.words.specs.Words.{setIn}
 use Rattle.area.specs.declared.Pool.{Pool}
 use Rattle.tree.proofs.Stores.{Beside, beside-refl}
 use Rattle.tree.proofs.Whole.{Holds, holds-store}
 use Rattle.host.specs.Walk.{page}
-use Rattle.host.specs.Map.{hostArea}
 use Rattle.host.proofs.Laws.{InGuestArea}
 use Rattle.host.proofs.Mapping.{Maps}
 use Rattle.walk.proofs.Stands.{Stands}
@@ -36,9 +35,9 @@ use Rattle.record.proofs.Rules.{Fits}
 use Rattle.shadow.specs.declared.Cut.the-variants.{Word}
 use Rattle.shadow.specs.Held.{shadowArea}
 use Rattle.shadow.specs.Cut.{watchedOf}
-use Rattle.shadow.specs.Drop.{outcome, scanOf}
+use Rattle.shadow.specs.Drop.{scanOf}
 use Rattle.drops.proofs.Scan.{Dropped}
-use Rattle.drops.proofs.Held.{leafAt, HeldEntry}
+use Rattle.drops.proofs.Held.{leafAt}
 use Rattle.drops.proofs.Watch.{watched-is}
 use Rattle.drops.proofs.Drops.{drop-word, empty-word, empty-frame}
 use Rattle.drops.proofs.Valid.{framesAt, entryOf, valid-entry, Stays, stays-store}
@@ -48,7 +47,7 @@ use Rattle.record.specs.Record.{headTables}
 use Rattle.record.proofs.Rules.{holds-pool}
 use Rattle.unit.specs.Calls.{hostTop, headHeld, withHeld}
 use Rattle.claims.proofs.Invariant.{longer, topBy, frames, Inv, stands}
-use Rattle.claims.proofs.Moves.{fits-held, maps-beside, shadow-drop, invariant, shadow-on, longer-keep, all-kept, find-keep, inv-shadow, inv-top, frame-root}
+use Rattle.claims.proofs.Moves.{fits-held, maps-beside, shadow-drop, invariant, shadow-on, longer-keep, find-keep, inv-top, frame-root}
 use Rattle.claims.proofs.Found as found
 use Rattle.words.specs.After.{After}
 use Rattle.request.specs.declared.Put.{Put}

@@ -5,7 +5,7 @@ use mathlib.Core.Logic.{_≢_, _⊎_, inl, inr}
 use Prim.Native.Nat.{ℕ, pred, _*_, _^_, _<_, _≤_}
 use native.Mathlib.Omega.{arith}
 use borrow.Author.Tests.{ltb-true, leb-false, eqb-true, eqb-false, ne-eqb}
-use mathlib.Core.Bool.{Bool, true, false, not, _||_, cond}
+use mathlib.Core.Bool.{Bool, true, false, not, cond}
 use mathlib.Core.List.{List, [], _∷_}
 use mathlib.Core.Option.{Option, none, some}
 use lib.Dec.{T, eqb, leb}
@@ -37,7 +37,7 @@ use Rattle.area.specs.Pool.{noneOf}
 use Rattle.area.specs.Tree.{insertOf}
 use Rattle.area.specs.Remove.{removeOf}
 use Rattle.tree.specs.Host.{hostEntry}
-use Rattle.tree.proofs.Change.{some-inj, not-some, differ}
+use Rattle.tree.proofs.Change.{some-inj, not-some}
 use Rattle.tree.proofs.Stores.{Beside, beside-refl, beside-place}
 use Rattle.tree.proofs.Whole.{Holds, holds-beside}
 use Rattle.tree.proofs.Hosts.{host-full, host-absent}
@@ -47,7 +47,6 @@ use Rattle.host.proofs.Laws.{InGuestArea}
 use Rattle.host.proofs.Mapping.{Maps, Step, answerBy, answerOf, walk-is, map-is, unmap-is, unmapped-lookup}
 use Rattle.walk.proofs.Stands.{Stands}
 use Rattle.record.specs.declared.Record.{Record}
-use Rattle.entry.specs.declared.HostPhysical.{HostPhysical}
 use Rattle.record.specs.Record.{configOf, headOf, headRoot, headTables, withHead}
 use Rattle.record.proofs.Rules.{Fits, fits-root, holds-pool, holds-top}
 use Rattle.request.specs.declared.Held.{Held as Holding}

@@ -1,14 +1,12 @@
 -- Loads, stores and device stores follow the specification's step.
 -- Assumes nothing.
-use mathlib.Core.Path.{_≡_, refl, sym, ap, ap₂, _∙_, subst}
-use Prim.Native.Nat.{ℕ, _+_, _-_, _*_, _%_, _/_, _^_, _<_, _≤_}
+use mathlib.Core.Path.{_≡_, refl, sym, ap, _∙_, subst}
+use Prim.Native.Nat.{ℕ, _+_, _-_, _^_, _<_}
 use native.Mathlib.Nat.{zero-add, add-comm}
-use native.Mathlib.Omega.{arith}
-use mathlib.Core.Bool.{Bool, true, false, not, _&&_, _||_, cond}
+use mathlib.Core.Bool.{Bool, true, false, cond}
 use mathlib.Core.List.{List, [], _∷_}
-use mathlib.Core.Option.{Option, none, some}
-use lib.Dec.{T, eqb, ltb, ltb→lt}
-use lib.ListN.{length}
+use mathlib.Core.Option.{none, some}
+use lib.Dec.{T, ltb, ltb→lt}
 use lib.Pow.{shr-lt}
 use Rattle.spec.specs.declared.Fault.{Fault}
 use Rattle.spec.specs.declared.Fault.the-variants.{HostReadOnly}
@@ -16,30 +14,28 @@ use Rattle.spec.specs.declared.Answer.{Answer}
 use Rattle.spec.specs.declared.Answer.the-variants as answer
 use Rattle.spec.specs.Answer as say
 use Rattle.spec.specs.Answer.{Line, line, faultLine}
-use Rattle.spec.specs.Config.{Config, guestBase, frameBits}
-use Rattle.spec.specs.Entry.{wordOf, pageOf, indexes}
-use Rattle.spec.specs.Walk.{Walk, World, Trace, Result, granted, failed, trace, _>>_}
-use Rattle.spec.specs.Plain.{Place, must, hosted, next, walk}
+use Rattle.spec.specs.Config.{Config, frameBits}
+use Rattle.spec.specs.Entry.{wordOf, pageOf}
+use Rattle.spec.specs.Walk.{Walk, Trace, Result, granted, failed, trace, _>>_}
+use Rattle.spec.specs.Plain.{Place, must, hosted, next}
 use Rattle.spec.specs.Machine.{Machine, world, wordIn, stored}
-use Rattle.spec.specs.Book.{Book, depth, holding, dropWord, watched}
+use Rattle.spec.specs.Book.{depth, holding, dropWord, watched}
 use Rattle.spec.specs.declared.Call.{Call}
 use Rattle.spec.specs.declared.Call.the-variants.{Load as load, Store as store, Device as device}
-use Rattle.spec.specs.Call.{addressIndexes, Outcome, plain, deviceWalk, access, machineStep}
+use Rattle.spec.specs.Call.{addressIndexes, plain, deviceWalk, access, machineStep}
 use Rattle.spec.specs.Count.{Counted, one, hostExit, request, storing, unshadowed, bookStep}
 use Rattle.spec.specs.Refusal.{firstFailed, addressFits, deviceFits, wordAligned, tests, refusal}
 use Rattle.spec.specs.Run.{State, lineOf, answered, step}
-use Rattle.laws.proofs.Lists.{All, and-left, is-true}
+use Rattle.laws.proofs.Lists.{and-left, is-true}
 use Rattle.laws.proofs.Keeps.{shadow-asked}
-use Rattle.laws.proofs.Asks.{Asked, asks-trace, AnswerIn, FaultFits, Guest, asks-bind, hosted-asks}
+use Rattle.laws.proofs.Asks.{asks-trace, AnswerIn, FaultFits, Guest, asks-bind, hosted-asks}
 use Rattle.words.specs.Words as words
 use Rattle.entry.proofs.Entries.{word-fits}
-use Rattle.area.specs.declared.Pool.{Pool}
 use Rattle.host.proofs.Laws.{InGuestArea}
-use Rattle.walk.specs.declared.Walked.{Walked}
 use Rattle.walk.specs.Memory.{walkedOf}
 use Rattle.walk.proofs.Stands.{Stands, plainWalked, same-word, stands-walked}
 use Rattle.record.specs.declared.Record.{Record}
-use Rattle.record.specs.Record.{configOf, fitsOf}
+use Rattle.record.specs.Record.{configOf}
 use Rattle.request.specs.Translate.{translation, exitBy}
 use Rattle.request.proofs.Device.{deviceScript, device-script}
 use Rattle.record.specs.Record.{headTables}
@@ -51,7 +47,7 @@ use Rattle.laws.proofs.Indexes.{indexes-all}
 use Rattle.claims.proofs.Found as found
 use Rattle.claims.proofs.Moves.{at-inv}
 use Rattle.claims.proofs.Translates.{Translates, translates}
-use Rattle.claims.proofs.Puts.{Puts, puts}
+use Rattle.claims.proofs.Puts.{puts}
 use Rattle.words.specs.After.{After, yields}
 use Rattle.request.specs.declared.Translated.{Translated}
 use Rattle.unit.specs.declared.Reply.{Reply}

@@ -60,7 +60,6 @@ use Rattle.shadow.proofs.Outside.{scan-out, prefix-out}
 use Rattle.entry.specs.declared.HostPhysical.{HostPhysical}
 use Rattle.record.specs.declared.Head.{Head}
 use Rattle.request.specs.declared.Held.{Held as Holding}
-use Rattle.request.specs.Translate.{HeldFits}
 use Rattle.request.specs.Access.{loadOf, putOf, storeOf, deviceBy, deviceOf}
 use Rattle.request.proofs.Fits.{ArrivedIn}
 use Rattle.request.proofs.Leaves.{Leaves, translate-leaves, put-leaves}

@@ -1,26 +1,26 @@
 -- A translation of the unit is the plain walk on the machine, at the book's price, and leaves what the book's request leaves.
 -- Assumes nothing.
 use mathlib.Core.Path.{_≡_, refl, sym, ap, ap₂, _∙_, subst}
-use mathlib.Core.Logic.{_≢_, _⊎_, inl, inr}
+use mathlib.Core.Logic.{inr}
 use Prim.Native.Nat.{ℕ, zero, suc, _+_, _-_, _*_, _/_, _^_, _<_, _≤_}
 use native.Mathlib.Nat.{zero-add}
 use native.Mathlib.Omega.{arith}
 use mathlib.Core.Bool.{Bool, true, false, not, _||_, cond}
 use mathlib.Core.List.{List, [], _∷_}
 use mathlib.Core.Option.{Option, none, some}
-use lib.Dec.{T, eqb, leb, ltb, leb→le, le→leb, ltb→lt, nleb→lt}
-use borrow.Author.Tests.{lt-ltb, le-ltb, le-leb, lt-leb, ltb-true, ltb-false, eq-eqb, ne-eqb}
+use lib.Dec.{T, eqb, leb, ltb, leb→le, le→leb}
+use borrow.Author.Tests.{lt-ltb, le-ltb, le-leb, lt-leb, ltb-true, ltb-false, ne-eqb}
 use lib.ListN.{length, drop}
 use Rattle.spec.specs.declared.Fault.{Fault}
-use Rattle.spec.specs.Config.{Config, guestBase, frameBits}
+use Rattle.spec.specs.Config.{Config}
 use Rattle.spec.specs.Entry.{present, indexes, pageOf}
 use Rattle.spec.specs.Prefix.{same, begins}
 use Rattle.spec.specs.Walk.{World, Trace, Result, granted, failed, trace}
-use Rattle.spec.specs.Plain.{Place, levels, walk, upper, shadowPart, directPart}
+use Rattle.spec.specs.Plain.{Place, levels, walk, upper, directPart}
 use Rattle.spec.specs.Machine.{Machine, world}
-use Rattle.spec.specs.Book.{Held, Book, Mark, find, depth, fill, holding, shadowTables}
+use Rattle.spec.specs.Book.{Held, find, fill, holding, shadowTables}
 use Rattle.spec.specs.Call.{addressIndexes, plain}
-use Rattle.spec.specs.Count.{Counted, serves, heldBy, hostExit, one, shadowed, unshadowed, request}
+use Rattle.spec.specs.Count.{Counted, serves, heldBy, hostExit, shadowed, unshadowed, request}
 use Rattle.spec.specs.Refusal.{addressFits}
 use Rattle.spec.specs.Run.{State}
 use Rattle.laws.proofs.Lists.{All, all-map, is-true, is-false}
@@ -28,21 +28,16 @@ use Rattle.laws.proofs.Local.{Seen, seen}
 use Rattle.laws.proofs.Granted.{granted-is, walk-same, walk-serves}
 use Rattle.laws.proofs.Parts.{shadow-fault, direct-result}
 use Rattle.laws.proofs.Indexes.{indexes-length, indexes-all}
-use Rattle.laws.proofs.Depth.{PathFits, no-proper-prefix, depth-bound}
+use Rattle.laws.proofs.Depth.{PathFits, no-proper-prefix}
 use Rattle.laws.proofs.Keeps.{Valid, again, fill-valid}
 use Rattle.laws.proofs.Runs.{BookFits, fill-keeps}
 use Rattle.tree.proofs.Paths.{onto}
 use Rattle.tree.proofs.Whole.{Holds, Next}
-use Rattle.area.specs.declared.Pool.{Pool}
-use Rattle.host.specs.declared.HostWalk.{HostWalk}
 use Rattle.host.specs.declared.HostWalk.the-variants as host
-use Rattle.host.specs.Walk.{page}
 use Rattle.host.proofs.Laws.{InGuestArea}
-use Rattle.walk.specs.declared.Walked.{Walked}
 use Rattle.walk.specs.declared.Walked.the-variants as walked
 use Rattle.walk.specs.Memory.{walkedOf}
 use Rattle.walk.proofs.Stands.{Stands, stands-trace, plainWalked, root-walked, table-walked}
-use Rattle.marks.specs.Table.{keys}
 use Rattle.marks.proofs.Book.{depth-book}
 use Rattle.record.specs.declared.Record.{Record}
 use Rattle.record.specs.Record.{configOf}
@@ -54,7 +49,7 @@ use Rattle.drops.proofs.Held.{leafAt}
 use Rattle.drops.proofs.Find.{find-all}
 use Rattle.drops.proofs.Fill.{trail-is, fill-is}
 use Rattle.drops.proofs.Valid.{framesAt, entryOf, entry-thin, valid-frame, inside-area, Stays, stays-same}
-use Rattle.request.specs.Translate.{holding as holdingAt, translation, exitBy, pathIndexes, directOf, servedOf, servesOf, foundOf, foundBy, missedOf, missedBy, filledOf, fillBy, plainOf, translateOf}
+use Rattle.request.specs.Translate.{holding as holdingAt, translation, exitBy, directOf, servedOf, servesOf, foundOf, foundBy, missedOf, missedBy, filledOf, fillBy, plainOf, translateOf}
 use Rattle.request.specs.declared.Held.{Held as Holding}
 use Rattle.record.specs.Record.{headTables}
 use Rattle.tree.proofs.Paths.{Guests}

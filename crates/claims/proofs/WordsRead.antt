@@ -16,7 +16,7 @@ use Rattle.spec.specs.declared.Fault.the-variants.{Absent, Malformed, Protected
 use Rattle.spec.specs.Config.{Config}
 use Rattle.spec.specs.Entry.{present, writable, frameOf, malformed, pageOf, indexes}
 use Rattle.spec.specs.Walk.{Walk, done, fail, host, word, _>>=_, World, Trace, trace}
-use Rattle.spec.specs.Plain.{Place, must, mapped, hosted, entry, next, levels, walk}
+use Rattle.spec.specs.Plain.{Place, must, hosted, entry, next, levels, walk}
 use Rattle.spec.specs.Refusal.{inGuestArea}
 use Rattle.laws.proofs.Lists.{All, all-map, is-true, is-false}
 use Rattle.laws.proofs.Indexes.{indexes-length}
@@ -27,8 +27,8 @@ use Rattle.area.specs.declared.Way.the-variants.{To, Not, Bad}
 use Rattle.area.specs.declared.Look.{Look}
 use Rattle.area.specs.declared.Look.the-variants.{Seen, Broken}
 use Rattle.area.specs.Header.{entryIn}
-use Rattle.area.specs.Pool.{link, hopOf, onWay}
-use Rattle.area.specs.Tree.{topOf, lookOf}
+use Rattle.area.specs.Pool.{hopOf, onWay}
+use Rattle.area.specs.Tree.{lookOf}
 use Rattle.tree.proofs.Invariant.{present-zero}
 use Rattle.tree.proofs.Local.{entriesRead, SameEntry, look-local, Counts, look-count}
 use Rattle.host.specs.declared.HostWalk.{HostWalk}

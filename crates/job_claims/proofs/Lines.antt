@@ -7,14 +7,13 @@ use mathlib.Core.List.{List, [], _∷_, _++_, map}
 use mathlib.Core.Option.{Option, none, some}
 use lib.ListN.{length}
 use native.Mathlib.Decide.{ℕ-discrete}
-use mathlib.Core.Logic.{_≢_}
 use Rattle.spec.specs.declared.Answer.{Answer}
 use Rattle.spec.specs.declared.Answer.the-variants as answer
 use Rattle.spec.specs.Answer.{Line, line}
-use Rattle.spec.specs.Run.{State, step, opened, opening}
+use Rattle.spec.specs.Run.{State, step, opened}
 use Rattle.record.specs.declared.Record.{Record}
-use Rattle.record.specs.Record.{configOf, configBy, zeros}
-use Rattle.record.specs.Open.{refusalOf, firstOf, grantedOf}
+use Rattle.record.specs.Record.{configOf}
+use Rattle.record.specs.Open.{refusalOf}
 use Rattle.record.proofs.Opening.{refused-opening, granted-opening}
 use Rattle.spec.specs.declared.Call.{Call}
 use Rattle.records.specs.declared.Job.{Job}

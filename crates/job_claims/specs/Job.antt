@@ -1,13 +1,13 @@
 -- A job as a list of records: what the unit says to each, and what the specification says. Document 01, "Job program".
 -- Assumes nothing.
 use Prim.Native.Nat.{ℕ, suc}
-use mathlib.Core.Bool.{Bool, true, false, cond}
+use mathlib.Core.Bool.{Bool, cond}
 use mathlib.Core.List.{List, [], _∷_, _++_}
 use mathlib.Core.Option.{Option, none, some}
 use lib.ListN.{length}
 use Rattle.spec.specs.declared.Answer.{Answer}
 use Rattle.spec.specs.Answer as say
-use Rattle.spec.specs.Answer.{Line, line}
+use Rattle.spec.specs.Answer.{Line}
 use Rattle.spec.specs.declared.Call.{Call}
 use Rattle.spec.specs.Run.{State, step, opening}
 use Rattle.record.specs.declared.Record.{Record}

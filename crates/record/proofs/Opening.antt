@@ -1,10 +1,10 @@
 -- What an opening leaves: the answer of the specification, the guest words, a record that breaks no rule, tables of no leaf.
 -- Assumes nothing.
-use mathlib.Core.Path.{_≡_, refl, sym, ap, _∙_}
+use mathlib.Core.Path.{_≡_, refl, sym, _∙_}
 use mathlib.Core.Logic.{_≢_, inl, inr}
 use mathlib.Core.Bool.{Bool, true, false}
 use mathlib.Core.List.{List, [], _∷_}
-use mathlib.Core.Option.{Option, none, some, IsSome}
+use mathlib.Core.Option.{none, some}
 use Prim.Native.Nat.{ℕ, _+_, _*_, _/_}
 use native.Mathlib.Omega.{arith}
 use borrow.Author.Tests.{eq-eqb, ne-eqb}
@@ -19,7 +19,6 @@ use Rattle.area.specs.Pool.{noneOf}
 use Rattle.tree.proofs.Stores.{Beside, beside-drop}
 use Rattle.tree.specs.Run.{get}
 use Rattle.tree.specs.Host.{hostMap}
-use Rattle.tree.proofs.Invariant.{slot}
 use Rattle.tree.proofs.Whole.{Holds, holds-leaves, holds-none}
 use Rattle.host.specs.Map.{hostArea}
 use Rattle.host.proofs.Mapping.{Maps, enter-maps}

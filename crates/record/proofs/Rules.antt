@@ -14,7 +14,7 @@ use Rattle.spec.specs.Refusal.{wordsFit, areasFit, frameFits, marksFit, topFits
 use Rattle.area.specs.declared.Area.{Area}
 use Rattle.area.specs.declared.Pool.{Pool}
 use Rattle.area.specs.Header.{insideOf}
-use Rattle.area.specs.Pool.{link, noneOf}
+use Rattle.area.specs.Pool.{link}
 use Rattle.area.proofs.Laws.{inside-true}
 use Rattle.tree.proofs.Invariant.{slot, inside-is}
 use Rattle.tree.proofs.Whole.{Holds}
@@ -25,7 +25,6 @@ use Rattle.marks.specs.declared.Marks.{Marks}
 use Rattle.marks.specs.Key.{keysFit}
 use Rattle.marks.specs.Reading.{marksOf}
 use Rattle.marks.proofs.Book.{keysOf, marks-fit, all-held}
-use Rattle.record.specs.declared.Pools.{Pools}
 use Rattle.record.specs.declared.Record.{Record}
 use Rattle.record.specs.Record.{levels, layoutOf, configBy, configOf, heldTop, isTable, poolFits, poolsFit, fitsOf, sizesFit, tablesFit, zeros, headOf, headRoot, withHead, withMarks}
 use Rattle.record.specs.Open.{refusalOf}

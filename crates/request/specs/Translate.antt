@@ -19,7 +19,6 @@ use Rattle.area.specs.declared.Went.{Went}
 use Rattle.host.specs.declared.HostWalk.{HostWalk}
 use Rattle.host.specs.declared.HostWalk.the-variants as host
 use Rattle.host.specs.Walk.{page}
-use Rattle.walk.specs.declared.Trail.{Trail}
 use Rattle.walk.specs.declared.Walked.{Walked}
 use Rattle.walk.specs.declared.Walked.the-variants as walked
 use Rattle.walk.specs.Memory.{walkedOf, trailOf}

@@ -2,7 +2,7 @@
 // the word read or written. The word of a load and the word of a store are each touched in one place, `read_word` and `put_word`.
 ghost use mathlib.Core.Path.{_≡_};
 ghost use Prim.Native.Nat.{_<_, _≤_};
-ghost use Rattle.spec.specs.Entry.{pageOf, wordOf};
+ghost use Rattle.spec.specs.Entry.{wordOf};
 ghost use Rattle.words.specs.After.{yields};
 ghost use Rattle.words.specs.Words.{wordIn};
 ghost use Rattle.host.specs.Walk.{LayoutFits, config};

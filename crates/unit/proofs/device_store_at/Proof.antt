@@ -2,7 +2,7 @@ use mathlib.Core.Path.{sym, ap, _∙_}
 use borrow.Author.Tests.{not-true, not-false}
 use Rattle.record.specs.Record.{recordBy, headTables}
 use Rattle.unit.proofs.Laws.{broken, passed, failed}
-use Rattle.unit.proofs.Ranges.{fits-sound, fits-held, fits-levels}
+use Rattle.unit.proofs.Ranges.{fits-sound, fits-levels}
 use Rattle.unit.specs.Calls.{headHeld, servedBy, deviceCall}
 use borrow.Author.Needs.{needs}
 use Rattle.unit.proofs.device_store_at.Statement.{statement}

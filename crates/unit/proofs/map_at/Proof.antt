@@ -1,9 +1,9 @@
 use Rattle.unit.specs.Calls.{changedBy}
 use mathlib.Core.Path.{sym, ap₂, _∙_}
 use borrow.Author.Tests.{not-true, not-false}
-use Rattle.record.specs.Record.{recordBy, headTables}
+use Rattle.record.specs.Record.{recordBy}
 use Rattle.unit.proofs.Laws.{broken, unbroken}
-use Rattle.unit.proofs.Ranges.{fits-sound, fits-held, fits-levels}
+use Rattle.unit.proofs.Ranges.{fits-sound}
 use Rattle.unit.specs.Calls.{mapCall}
 use Rattle.unit.proofs.Ranges.{fits-deep}
 use borrow.Author.Needs.{needs}

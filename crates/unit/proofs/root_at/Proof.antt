@@ -1,8 +1,8 @@
 use mathlib.Core.Path.{sym, _∙_}
 use borrow.Author.Tests.{not-true, not-false}
-use Rattle.record.specs.Record.{recordBy, headTables}
+use Rattle.record.specs.Record.{recordBy}
 use Rattle.unit.proofs.Laws.{broken, passed, failed}
-use Rattle.unit.proofs.Ranges.{fits-sound, fits-held, fits-levels}
+use Rattle.unit.proofs.Ranges.{fits-sound}
 use Rattle.unit.specs.Calls.{rootCall}
 use borrow.Author.Needs.{needs}
 use Rattle.unit.proofs.root_at.Statement.{statement}
