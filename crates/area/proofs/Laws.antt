@@ -5,13 +5,15 @@ use Prim.Native.Nat.{ℕ, zero, suc, _+_, _*_, _-_, _≤_, _<_}
 use native.Mathlib.Omega.{arith}
 use mathlib.Core.Bool.{Bool, true, false, cond}
 use mathlib.Core.List.{List, [], _∷_}
-use lib.Dec.{eqb, ltb, leb}
+use lib.Dec.{ltb, leb}
 use lib.ListN.{length, getD}
 use borrow.Author.Tests.{leb-true, leb-false, le-leb, lt-leb, ltb-true, ltb-false}
 use Rattle.spec.specs.Entry.{present, frameOf, index, indexes}
 use Rattle.words.specs.Words.{zeroed}
 use Rattle.area.specs.declared.Area.{Area}
 use Rattle.area.specs.declared.Pool.{Pool}
+use Rattle.words.specs.After.{After}
+use Rattle.area.specs.declared.Went.{Went}
 use Rattle.area.specs.declared.Way.{Way}
 use Rattle.area.specs.declared.Way.the-variants.{To, Not, Bad}
 use Rattle.area.specs.declared.Look.{Look}
@@ -19,7 +21,7 @@ use Rattle.area.specs.declared.Look.the-variants.{Seen, Broken}
 use Rattle.area.specs.Header.{entryIn, putOf, guestOf, parentOf, slotOf, insideOf, bareOf}
 use Rattle.laws.proofs.Indexes.{indexes-step}
 use Rattle.area.specs.Pool.{hopOf, onWay, end, poolOf, freshOf, freedOf, takeOf}
-use Rattle.area.specs.Tree.{lookOf, headed, tableOf, enterOf, hung, hangOf, descendOf, onward, downOf}
+use Rattle.area.specs.Tree.{lookOf, headed, tableOf, topped, topOf, enterOf, hung, hangOf, descendOf, onward, downOf}
 use Rattle.area.specs.Remove.{unhangOf, shutOf, releaseOf, lastOf, lastIndex}
 
 -- ---- indexes
@@ -105,7 +107,7 @@ unfolding freshOf
 fresh-good a p m = go (ltb (p .fresh) (a .size)) refl
   where
     go : (t : Bool) → ltb (p .fresh) (a .size) ≡ t
-        → AreaGood a (cond t (end (poolOf (p .fresh + 1) (p .free) (p .used + 1)) (To (a .base + p .fresh)) (zeroed m ((a .base + p .fresh) * 512) 512)) (end p Bad m) .result .way)
+        → AreaGood a (cond t (end (poolOf (p .fresh + 1) (p .free) (p .used + 1) (p .top)) (To (a .base + p .fresh)) (zeroed m ((a .base + p .fresh) * 512) 512)) (end p Bad m) .result .way)
     go true q =
         let l = ltb-true (p .fresh) (a .size) q in
         (omega arith, omega arith)
@@ -150,24 +152,22 @@ descend-good a p m guest level f i =
     go Not g = hang-good a p m guest level f i
     go Bad g = tt
 
--- the top table stands at the area's first frame, which need not be below its end
-abbrev pub Fits : Area → Way → Type 0
-Fits a (To f) = f ≤ a .base + a .size
-Fits a Not = Unit {0}
-Fits a Bad = Unit {0}
-
-fits-good : (a : Area) (w : Way) → AreaGood a w → Fits a w
-fits-good a (To f) g = omega arith
-fits-good a Not g = tt
-fits-good a Bad g = tt
-
-pub enter-fits : (a : Area) (p : Pool) (m : List ℕ) (guest : ℕ) → Fits a (enterOf a p m guest .result .way)
-unfolding enterOf
-enter-fits a p m guest = go (eqb (p .fresh) 0)
+pub enter-good : (a : Area) (p : Pool) (m : List ℕ) (guest : ℕ) → AreaGood a (enterOf a p m guest .result .way)
+unfolding enterOf topOf
+enter-good a p m guest = go (hopOf (a .base) (a .size) (p .top)) (hop-good (a .base) (a .size) (p .top))
   where
-    go : (t : Bool) → Fits a (cond t (tableOf a p m guest (a .levels) 0 0) (end p (To (a .base)) m) .result .way)
-    go true = fits-good a (tableOf a p m guest (a .levels) 0 0 .result .way) (table-good a p m guest (a .levels) 0 0)
-    go false = omega arith
+    new : After Went
+    new = tableOf a p m guest (a .levels) 0 0
+
+    top : (w : Way) → AreaGood a w → AreaGood a (topped new w .result .way)
+    top (To f) g = g
+    top Not g = table-good a p m guest (a .levels) 0 0
+    top Bad g = table-good a p m guest (a .levels) 0 0
+
+    go : (w : Way) → AreaGood a w → AreaGood a (onWay w (topped new (new .result .way)) (end p Bad m) (λ f. end p (To f) m) .result .way)
+    go (To f) g = g
+    go Not g = top (new .result .way) (table-good a p m guest (a .levels) 0 0)
+    go Bad g = tt
 
 pub unhang-good : (a : Area) (p : Pool) (m : List ℕ) (f : ℕ) → AreaGood a (unhangOf a p m f .result .way)
 unfolding unhangOf
@@ -227,7 +227,7 @@ release-step a stays p m (suc k) f l =
     let d : suc k - 1 ≡ k = omega arith in
     simp d
 
-pub release-none : (a : Area) (stays : Bool) (p : Pool) (m : List ℕ) (f : ℕ) → releaseOf a stays p m 0 f ≡ shutOf a stays p m
+pub release-none : (a : Area) (stays : Bool) (p : Pool) (m : List ℕ) (f : ℕ) → releaseOf a stays p m 0 f ≡ shutOf stays p m f
 unfolding releaseOf
 release-none a stays p m f = refl
 

@@ -6,7 +6,7 @@ use Prim.Native.Nat.{ℕ, zero, suc, _+_, _*_, _-_, _<_, _≤_}
 use native.Mathlib.Omega.{arith}
 use mathlib.Core.Bool.{Bool, true, false, cond}
 use mathlib.Core.List.{List, [], _∷_}
-use lib.Dec.{eqb, ltb}
+use lib.Dec.{ltb}
 use lib.ListN.{getD, length, length-set}
 use lib.Seq.{getD-set-other}
 use borrow.Author.Tests.{ltb-true}
@@ -19,11 +19,11 @@ use Rattle.area.specs.declared.Pool.{Pool}
 use Rattle.area.specs.declared.Way.{Way}
 use Rattle.area.specs.declared.Way.the-variants.{To, Not, Bad}
 use Rattle.area.specs.Header.{entryIn, putOf, parentOf, slotOf, headOf, insideOf, bareOf}
-use Rattle.area.specs.Pool.{link, hopOf, onWay, end, poolOf, noneOf, freshOf, freedOf, takeOf, giveOf, backOf}
-use Rattle.area.specs.Tree.{topOf, roomOf, headed, tableOf, enterOf, hung, hangOf, descendOf, downOf, placeOf, insertOf}
+use Rattle.area.specs.Pool.{link, hopOf, onWay, end, poolOf, withTop, freshOf, freedOf, takeOf, giveOf, backOf}
+use Rattle.area.specs.Tree.{roomOf, headed, tableOf, topped, topOf, enterOf, hung, hangOf, descendOf, downOf, placeOf, insertOf}
 use Rattle.area.specs.Remove.{unhangOf, shutOf, releaseOf, lastOf, lastIndex, clearOf, removeOf}
 use Rattle.area.specs.Outside.{SameOutside, Narrow}
-use Rattle.area.proofs.Laws.{slot-small, inside-true, AreaGood, hop-good, take-good, table-good, descend-good, unhang-good}
+use Rattle.area.proofs.Laws.{slot-small, inside-true, AreaGood, hop-good, take-good, enter-good, descend-good, unhang-good}
 use Rattle.words.specs.After.{After}
 use Rattle.area.specs.declared.Went.{Went}
 
@@ -94,7 +94,7 @@ module _ (a : Area) where
   take-out p m = go (ltb (p .used) (a .size)) (hopOf (a .base) (a .size) (p .free)) (hop-good (a .base) (a .size) (p .free))
     where
       fresh : (t : Bool) → ltb (p .fresh) (a .size) ≡ t
-          → Kept m (cond t (end (poolOf (p .fresh + 1) (p .free) (p .used + 1)) (To (a .base + p .fresh)) (zeroed m ((a .base + p .fresh) * 512) 512)) (end p Bad m))
+          → Kept m (cond t (end (poolOf (p .fresh + 1) (p .free) (p .used + 1) (p .top)) (To (a .base + p .fresh)) (zeroed m ((a .base + p .fresh) * 512) 512)) (end p Bad m))
       fresh true q =
           let l = ltb-true (p .fresh) (a .size) q in
           zero-out (a .base) (a .size) m (a .base + p .fresh) (omega arith) (omega arith)
@@ -163,101 +163,105 @@ module _ (a : Area) where
       go true false q = same m
       go false u q = same m
 
-  -- the top table is a frame of the area
-  module _ (room : 0 < a .size) where
-    first : In (a .base)
-    first = (omega arith, omega arith)
+  pub enter-out : (p : Pool) (m : List ℕ) (guest : ℕ) → Kept m (enterOf a p m guest)
+  unfolding enterOf topOf
+  enter-out p m guest = go (hopOf (a .base) (a .size) (p .top))
+    where
+      new : After Went
+      new = tableOf a p m guest (a .levels) 0 0
 
-    pub enter-out : (p : Pool) (m : List ℕ) (guest : ℕ) → Kept m (enterOf a p m guest) × AreaGood a (enterOf a p m guest .result .way)
-    unfolding enterOf
-    enter-out p m guest = go (eqb (p .fresh) 0)
-      where
-        go : (t : Bool) → let r = cond t (tableOf a p m guest (a .levels) 0 0) (end p (To (a .base)) m) in Kept m r × AreaGood a (r .result .way)
-        go true = (table-out p m guest (a .levels) 0 0, table-good a p m guest (a .levels) 0 0)
-        go false = (same m, first)
+      top : (w : Way) → Kept m (topped new w)
+      top (To f) = table-out p m guest (a .levels) 0 0
+      top Not = table-out p m guest (a .levels) 0 0
+      top Bad = table-out p m guest (a .levels) 0 0
 
-    pub place-out : (guests : List ℕ) (p : Pool) (m : List ℕ) (i : ℕ) (is : List ℕ) (e : ℕ) → i < 512 → Narrow is → Kept m (placeOf a guests p m i is e)
-    unfolding placeOf
-    place-out guests p m i is e k n = go (step .result .way) (enter-out p m (getD guests 0 0) .1)
-      where
-        step : After Went
-        step = enterOf a p m (getD guests 0 0)
+      go : (w : Way) → Kept m (onWay w (topped new (new .result .way)) (end p Bad m) (λ f. end p (To f) m))
+      go (To f) = same m
+      go Not = top (new .result .way)
+      go Bad = same m
 
-        one : Kept m step
-        one = enter-out p m (getD guests 0 0) .0
+  pub place-out : (guests : List ℕ) (p : Pool) (m : List ℕ) (i : ℕ) (is : List ℕ) (e : ℕ) → i < 512 → Narrow is → Kept m (placeOf a guests p m i is e)
+  unfolding placeOf
+  place-out guests p m i is e k n = go (step .result .way) (enter-good a p m (getD guests 0 0))
+    where
+      step : After Went
+      step = enterOf a p m (getD guests 0 0)
 
-        go : (w : Way) → AreaGood a w
-            → Kept m (onWay w (end (step .result .pool) Bad (step .memory)) (end (step .result .pool) Bad (step .memory)) (λ t. downOf a guests (step .result .pool) (step .memory) 0 t i is e))
-        go (To t) g = after m (step .memory) _ (down-out is guests (step .result .pool) (step .memory) 0 t i e g k n) one
-        go Not g = one
-        go Bad g = one
+      one : Kept m step
+      one = enter-out p m (getD guests 0 0)
 
-    -- an insert changes no word outside the area
-    pub insert-out : (guests : List ℕ) (p : Pool) (m is : List ℕ) (e : ℕ) → Narrow is → Kept m (insertOf a guests p m is e)
-    unfolding insertOf
-    insert-out guests p m [] e n = same m
-    insert-out guests p m (i ∷ is) e n = go (roomOf a p m (i ∷ is))
-      where
-        go : (w : Way) → Kept m (onWay w (end p Not m) (end p Bad m) (λ k. placeOf a guests p m i is e))
-        go (To k) = place-out guests p m i is e (n .0) (n .1)
-        go Not = same m
-        go Bad = same m
+      go : (w : Way) → AreaGood a w
+          → Kept m (onWay w (end (step .result .pool) Bad (step .memory)) (end (step .result .pool) Bad (step .memory)) (λ t. downOf a guests (step .result .pool) (step .memory) 0 t i is e))
+      go (To t) g = after m (step .memory) _ (down-out is guests (step .result .pool) (step .memory) 0 t i e g k n) one
+      go Not g = one
+      go Bad g = one
 
-    pub shut-out : (stays : Bool) (p : Pool) (m : List ℕ) → Kept m (shutOf a stays p m)
-    unfolding shutOf
-    shut-out stays p m = go stays (bareOf m (a .base) 512)
-      where
-        go : (t u : Bool) → Kept m (cond t (end p (To (a .base)) m) (cond u (end noneOf (To (a .base)) (setIn m (a .base) 1 0)) (end p (To (a .base)) m)))
-        go true u = same m
-        go false true = set-out (a .base) (a .size) m (a .base) 1 0 (first .0) (first .1) (omega arith)
-        go false false = same m
+  -- an insert changes no word outside the area
+  pub insert-out : (guests : List ℕ) (p : Pool) (m is : List ℕ) (e : ℕ) → Narrow is → Kept m (insertOf a guests p m is e)
+  unfolding insertOf
+  insert-out guests p m [] e n = same m
+  insert-out guests p m (i ∷ is) e n = go (roomOf a p m (i ∷ is))
+    where
+      go : (w : Way) → Kept m (onWay w (end p Not m) (end p Bad m) (λ k. placeOf a guests p m i is e))
+      go (To k) = place-out guests p m i is e (n .0) (n .1)
+      go Not = same m
+      go Bad = same m
 
-    pub release-out : (k : ℕ) (stays : Bool) (p : Pool) (m : List ℕ) (f : ℕ) → In f → Kept m (releaseOf a stays p m k f)
-    unfolding releaseOf
-    release-out zero stays p m f h = shut-out stays p m
-    release-out (suc k) stays p m f h =
-        go (step .result .way) (unhang-good a p m f) (λ t l. release-out k stays (step .result .pool) (step .memory) t l)
-      where
-        step : After Went
-        step = unhangOf a p m f
+  pub shut-out : (stays : Bool) (p : Pool) (m : List ℕ) (f : ℕ) → In f → Kept m (shutOf stays p m f)
+  unfolding shutOf
+  shut-out stays p m f h = go stays (bareOf m f 512)
+    where
+      go : (t u : Bool) → Kept m (cond t (end p (To f) m) (cond u (end (giveOf (withTop p 0) f) (To f) (backOf m f (p .free))) (end p (To f) m)))
+      go true u = same m
+      go false true = back-out (a .base) (a .size) m f (p .free) (h .0) (h .1)
+      go false false = same m
 
-        one : Kept m step
-        one = unhang-out p m f h
+  pub release-out : (k : ℕ) (stays : Bool) (p : Pool) (m : List ℕ) (f : ℕ) → In f → Kept m (releaseOf a stays p m k f)
+  unfolding releaseOf
+  release-out zero stays p m f h = shut-out stays p m f h
+  release-out (suc k) stays p m f h =
+      go (step .result .way) (unhang-good a p m f) (λ t l. release-out k stays (step .result .pool) (step .memory) t l)
+    where
+      step : After Went
+      step = unhangOf a p m f
 
-        go : (w : Way) → AreaGood a w → ((t : ℕ) → In t → Kept (step .memory) (releaseOf a stays (step .result .pool) (step .memory) k t))
-            → Kept m (onWay w (end (step .result .pool) (To f) (step .memory)) (end (step .result .pool) Bad (step .memory)) (λ t. releaseOf a stays (step .result .pool) (step .memory) k t))
-        go (To t) g next = after m (step .memory) _ (next t g) one
-        go Not g next = one
-        go Bad g next = one
+      one : Kept m step
+      one = unhang-out p m f h
 
-    pub clear-out : (stays : Bool) (p : Pool) (m : List ℕ) (k f i : ℕ) → In f → i < 512 → Kept m (clearOf a stays p m k f i)
-    unfolding clearOf
-    clear-out stays p m k f i h l = go (present (entryIn m f i))
-      where
-        go : (t : Bool) → Kept m (cond t (releaseOf a stays p (putOf m f i 0) k f) (end p Not m))
-        go true =
-            after m (putOf m f i 0) _ (release-out k stays p (putOf m f i 0) f h) (put-out (a .base) (a .size) m f i 0 (h .0) (h .1) l)
-        go false = same m
+      go : (w : Way) → AreaGood a w → ((t : ℕ) → In t → Kept (step .memory) (releaseOf a stays (step .result .pool) (step .memory) k t))
+          → Kept m (onWay w (end (step .result .pool) (To f) (step .memory)) (end (step .result .pool) Bad (step .memory)) (λ t. releaseOf a stays (step .result .pool) (step .memory) k t))
+      go (To t) g next = after m (step .memory) _ (next t g) one
+      go Not g next = one
+      go Bad g next = one
 
-    last-good : (m : List ℕ) (e i : ℕ) (is : List ℕ) → AreaGood a (lastOf (a .base) (a .size) m e i is)
-    unfolding lastOf
-    last-good m e i [] = hop-good (a .base) (a .size) e
-    last-good m e i (j ∷ is) = go (hopOf (a .base) (a .size) e) (λ f. last-good m (entryIn m f i) j is)
-      where
-        go : (w : Way) → ((f : ℕ) → AreaGood a (lastOf (a .base) (a .size) m (entryIn m f i) j is))
-            → AreaGood a (onWay w Not Bad (λ f. lastOf (a .base) (a .size) m (entryIn m f i) j is))
-        go (To f) h = h f
-        go Not h = tt
-        go Bad h = tt
+  pub clear-out : (stays : Bool) (p : Pool) (m : List ℕ) (k f i : ℕ) → In f → i < 512 → Kept m (clearOf a stays p m k f i)
+  unfolding clearOf
+  clear-out stays p m k f i h l = go (present (entryIn m f i))
+    where
+      go : (t : Bool) → Kept m (cond t (releaseOf a stays p (putOf m f i 0) k f) (end p Not m))
+      go true =
+          after m (putOf m f i 0) _ (release-out k stays p (putOf m f i 0) f h) (put-out (a .base) (a .size) m f i 0 (h .0) (h .1) l)
+      go false = same m
 
-    -- a remove changes no word outside the area
-    pub remove-out : (stays : Bool) (p : Pool) (m is : List ℕ) → Narrow is → Kept m (removeOf a stays p m is)
-    unfolding removeOf
-    remove-out stays p m [] n = same m
-    remove-out stays p m (i ∷ is) n =
-        go (lastOf (a .base) (a .size) m (topOf (a .base) (p .fresh)) i is) (last-good m (topOf (a .base) (p .fresh)) i is)
-      where
-        go : (w : Way) → AreaGood a w → Kept m (onWay w (end p Not m) (end p Bad m) (λ f. clearOf a stays p m (length is) f (lastIndex i is)))
-        go (To f) g = clear-out stays p m (length is) f (lastIndex i is) g (narrow-last i is (n .0) (n .1))
-        go Not g = same m
-        go Bad g = same m
+  last-good : (m : List ℕ) (e i : ℕ) (is : List ℕ) → AreaGood a (lastOf (a .base) (a .size) m e i is)
+  unfolding lastOf
+  last-good m e i [] = hop-good (a .base) (a .size) e
+  last-good m e i (j ∷ is) = go (hopOf (a .base) (a .size) e) (λ f. last-good m (entryIn m f i) j is)
+    where
+      go : (w : Way) → ((f : ℕ) → AreaGood a (lastOf (a .base) (a .size) m (entryIn m f i) j is))
+          → AreaGood a (onWay w Not Bad (λ f. lastOf (a .base) (a .size) m (entryIn m f i) j is))
+      go (To f) h = h f
+      go Not h = tt
+      go Bad h = tt
+
+  -- a remove changes no word outside the area
+  pub remove-out : (stays : Bool) (p : Pool) (m is : List ℕ) → Narrow is → Kept m (removeOf a stays p m is)
+  unfolding removeOf
+  remove-out stays p m [] n = same m
+  remove-out stays p m (i ∷ is) n =
+      go (lastOf (a .base) (a .size) m (p .top) i is) (last-good m (p .top) i is)
+    where
+      go : (w : Way) → AreaGood a w → Kept m (onWay w (end p Not m) (end p Bad m) (λ f. clearOf a stays p m (length is) f (lastIndex i is)))
+      go (To f) g = clear-out stays p m (length is) f (lastIndex i is) g (narrow-last i is (n .0) (n .1))
+      go Not g = same m
+      go Bad g = same m

@@ -21,9 +21,13 @@ highOf m f k = wordIn m f k / 4503599627370496
 unfoldable pub putOf : List ℕ → ℕ → ℕ → ℕ → List ℕ
 putOf m f i e = setIn m f i (wordIn m f i / 4503599627370496 * 4503599627370496 + e % 4503599627370496)
 
+-- a frame number in the bits of words i and i + 1
+abbrev pub frameAt : List ℕ → ℕ → ℕ → ℕ
+frameAt m f i = highOf m f i % 4096 + highOf m f (i + 1) % 16 * 4096
+
 -- the host frame of the guest table
 unfoldable pub guestOf : List ℕ → ℕ → ℕ
-guestOf m f = highOf m f 0 % 4096 + highOf m f 1 % 16 * 4096
+guestOf m f = frameAt m f 0
 
 -- the level of the table; 0 says that the frame is no table
 unfoldable pub levelOf : List ℕ → ℕ → ℕ
@@ -31,7 +35,7 @@ levelOf m f = highOf m f 1 / 16 % 8
 
 -- the frame of the table above
 unfoldable pub parentOf : List ℕ → ℕ → ℕ
-parentOf m f = highOf m f 2 % 4096 + highOf m f 3 % 16 * 4096
+parentOf m f = frameAt m f 2
 
 -- the index of its entry there
 unfoldable pub slotOf : List ℕ → ℕ → ℕ

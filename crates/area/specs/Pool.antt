@@ -32,23 +32,27 @@ onWay Bad x y next = y
 abbrev pub end : Pool → Way → List ℕ → After Went
 end p d m = yields (record { pool = p; way = d }) m
 
-abbrev pub poolOf : ℕ → ℕ → ℕ → Pool
-poolOf n l u = record { fresh = n; free = l; used = u }
+abbrev pub poolOf : ℕ → ℕ → ℕ → ℕ → Pool
+poolOf n l u t = record { fresh = n; free = l; used = u; top = t }
 
 -- nothing is in use; "all held paths are dropped"
 unfoldable pub noneOf : Pool
-noneOf = poolOf 0 0 0
+noneOf = poolOf 0 0 0 0
+
+-- with another top table
+unfoldable pub withTop : Pool → ℕ → Pool
+withTop p t = poolOf (p .fresh) (p .free) (p .used) t
 
 -- the next frame that was never handed out
 unfoldable pub freshOf : Area → Pool → List ℕ → After Went
 freshOf a p m =
     cond (ltb (p .fresh) (a .size))
-    (end (poolOf (p .fresh + 1) (p .free) (p .used + 1)) (To (a .base + p .fresh)) (zeroed m ((a .base + p .fresh) * 512) 512))
+    (end (poolOf (p .fresh + 1) (p .free) (p .used + 1) (p .top)) (To (a .base + p .fresh)) (zeroed m ((a .base + p .fresh) * 512) 512))
     (end p Bad m)
 
 -- the first of the freed frames, whose word 0 links to the next
 unfoldable pub freedOf : Pool → List ℕ → ℕ → After Went
-freedOf p m f = end (poolOf (p .fresh) (wordIn m f 0) (p .used + 1)) (To f) (zeroed m (f * 512) 512)
+freedOf p m f = end (poolOf (p .fresh) (wordIn m f 0) (p .used + 1) (p .top)) (To f) (zeroed m (f * 512) 512)
 
 -- a frame of zeros; Not if all are in use, Bad if the list of freed frames leads out of the area
 unfoldable pub takeOf : Area → Pool → List ℕ → After Went
@@ -59,7 +63,7 @@ takeOf a p m =
 
 -- a frame becomes the first of the freed ones
 unfoldable pub giveOf : Pool → ℕ → Pool
-giveOf p f = poolOf (p .fresh) (link f) (p .used - 1)
+giveOf p f = poolOf (p .fresh) (link f) (p .used - 1) (p .top)
 
 -- its word 0 links to the next, and it is no table any more
 unfoldable pub backOf : List ℕ → ℕ → ℕ → List ℕ

@@ -5,14 +5,12 @@ use mathlib.Core.Bool.{Bool, cond}
 use mathlib.Core.List.{List, [], _∷_}
 use lib.ListN.{length}
 use Rattle.spec.specs.Entry.{present}
-use Rattle.words.specs.Words.{setIn}
 use Rattle.area.specs.declared.Area.{Area}
 use Rattle.area.specs.declared.Pool.{Pool}
 use Rattle.area.specs.declared.Way.{Way}
 use Rattle.area.specs.declared.Way.the-variants.{To, Not, Bad}
 use Rattle.area.specs.Header.{entryIn, putOf, parentOf, slotOf, insideOf, bareOf}
-use Rattle.area.specs.Pool.{hopOf, onWay, end, noneOf, giveOf, backOf}
-use Rattle.area.specs.Tree.{topOf}
+use Rattle.area.specs.Pool.{hopOf, onWay, end, withTop, giveOf, backOf}
 use Rattle.words.specs.After.{After}
 use Rattle.area.specs.declared.Went.{Went}
 
@@ -25,15 +23,15 @@ unhangOf a p m f =
     (end p Bad m))
     (end p Not m)
 
--- the top table goes too if it is empty, unless it stays; and with it everything
-unfoldable pub shutOf : Area → Bool → Pool → List ℕ → After Went
-shutOf a stays p m =
-    cond stays (end p (To (a .base)) m)
-    (cond (bareOf m (a .base) 512) (end noneOf (To (a .base)) (setIn m (a .base) 1 0)) (end p (To (a .base)) m))
+-- the top table f goes too if it is empty, unless it stays
+unfoldable pub shutOf : Bool → Pool → List ℕ → ℕ → After Went
+shutOf stays p m f =
+    cond stays (end p (To f) m)
+    (cond (bareOf m f 512) (end (giveOf (withTop p 0) f) (To f) (backOf m f (p .free))) (end p (To f) m))
 
 -- table f and those above it, k of them below the top one, as far as they are empty
 unfoldable pub releaseOf : Area → Bool → Pool → List ℕ → ℕ → ℕ → After Went
-releaseOf a stays p m zero f = shutOf a stays p m
+releaseOf a stays p m zero f = shutOf stays p m f
 releaseOf a stays p m (suc k) f =
     let t = unhangOf a p m f in
     onWay (t .result .way) (end (t .result .pool) (To f) (t .memory)) (end (t .result .pool) Bad (t .memory))
@@ -57,5 +55,5 @@ clearOf a stays p m k f i = cond (present (entryIn m f i)) (releaseOf a stays p 
 unfoldable pub removeOf : Area → Bool → Pool → List ℕ → List ℕ → After Went
 removeOf a stays p m [] = end p Not m
 removeOf a stays p m (i ∷ is) =
-    onWay (lastOf (a .base) (a .size) m (topOf (a .base) (p .fresh)) i is) (end p Not m) (end p Bad m)
+    onWay (lastOf (a .base) (a .size) m (p .top) i is) (end p Not m) (end p Bad m)
     (λ f. clearOf a stays p m (length is) f (lastIndex i is))

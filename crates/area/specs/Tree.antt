@@ -4,7 +4,7 @@ use Prim.Native.Nat.{ℕ, _+_, _-_}
 use mathlib.Core.Bool.{cond}
 use mathlib.Core.List.{List, [], _∷_}
 use lib.ListN.{getD, length}
-use lib.Dec.{eqb, leb}
+use lib.Dec.{leb}
 use Rattle.area.specs.declared.Area.{Area}
 use Rattle.area.specs.declared.Pool.{Pool}
 use Rattle.area.specs.declared.Way.{Way}
@@ -12,13 +12,9 @@ use Rattle.area.specs.declared.Way.the-variants.{To, Not, Bad}
 use Rattle.area.specs.declared.Look.{Look}
 use Rattle.area.specs.declared.Look.the-variants.{Seen, Broken}
 use Rattle.area.specs.Header.{entryIn, putOf, headOf}
-use Rattle.area.specs.Pool.{link, hopOf, onWay, end, takeOf}
+use Rattle.area.specs.Pool.{link, hopOf, onWay, end, withTop, takeOf}
 use Rattle.words.specs.After.{After, yields}
 use Rattle.area.specs.declared.Went.{Went}
-
--- the entry of the top table, which stands in the area's first frame once a frame is handed out
-unfoldable pub topOf : ℕ → ℕ → ℕ
-topOf b fresh = cond (eqb fresh 0) 0 (link b)
 
 -- on from the entry e, n words read so far
 unfoldable pub lookOf : ℕ → ℕ → List ℕ → ℕ → List ℕ → ℕ → Look
@@ -31,7 +27,7 @@ roomBy a p k Broken = Bad
 
 -- how many tables a path lacks; Not if the area has no room for them
 unfoldable pub roomOf : Area → Pool → List ℕ → List ℕ → Way
-roomOf a p m is = roomBy a p (length is) (lookOf (a .base) (a .size) m (topOf (a .base) (p .fresh)) is 0)
+roomOf a p m is = roomBy a p (length is) (lookOf (a .base) (a .size) m (p .top) is 0)
 
 -- the frame that was handed out becomes a table
 abbrev pub headed : After Went → Way → ℕ → ℕ → ℕ → ℕ → After Went
@@ -45,9 +41,20 @@ tableOf a p m guest level parent slot =
     let t = takeOf a p m in
     headed t (t .result .way) guest level parent slot
 
+abbrev pub topped : After Went → Way → After Went
+topped t (To f) = end (withTop (t .result .pool) (link f)) (To f) (t .memory)
+topped t Not = t
+topped t Bad = t
+
+-- a table is handed out and becomes the top one
+unfoldable pub topOf : Area → Pool → List ℕ → ℕ → After Went
+topOf a p m guest =
+    let t = tableOf a p m guest (a .levels) 0 0 in
+    topped t (t .result .way)
+
 -- the top table, handed out if there is none
 unfoldable pub enterOf : Area → Pool → List ℕ → ℕ → After Went
-enterOf a p m guest = cond (eqb (p .fresh) 0) (tableOf a p m guest (a .levels) 0 0) (end p (To (a .base)) m)
+enterOf a p m guest = onWay (hopOf (a .base) (a .size) (p .top)) (topOf a p m guest) (end p Bad m) (λ f. end p (To f) m)
 
 abbrev pub hung : After Went → Way → ℕ → ℕ → After Went
 hung t (To h) f i = yields (t .result) (putOf (t .memory) f i (link h))

@@ -3,24 +3,26 @@ ghost use mathlib.Core.Path.{_≡_};
 ghost use Prim.Native.Nat.{_+_, _-_, _<_, _≤_};
 ghost use lib.Dec.{leb};
 ghost use Rattle.spec.specs.Entry.{index, indexes};
-ghost use Rattle.area.specs.Header.{entryIn, highOf, putOf, guestOf, levelOf, parentOf, slotOf, headOf, insideOf, bareOf};
-ghost use Rattle.area.specs.Pool.{hopOf, noneOf, freshOf, freedOf, takeOf, giveOf, backOf};
+ghost use Rattle.area.specs.Header.{frameAt, entryIn, highOf, putOf, guestOf, levelOf, parentOf, slotOf, headOf, insideOf, bareOf};
+ghost use Rattle.area.specs.Pool.{hopOf, noneOf, withTop, freshOf, freedOf, takeOf, giveOf, backOf};
 ghost use Rattle.area.specs.Tree.{topOf, lookOf, roomOf, tableOf, enterOf, hangOf, descendOf, downOf, placeOf, insertOf};
 ghost use Rattle.area.specs.Remove.{unhangOf, shutOf, releaseOf, lastOf, clearOf, removeOf};
 ghost use Rattle.words.specs.After.{yields};
 
-// The area: its first frame, the number of its frames, the levels of the tree. The top table is the first frame.
+// The area: its first frame, the number of its frames, the levels of the tree.
 pub struct Area {
     pub base: u64,
     pub size: u64,
     pub levels: u64,
 }
 
-// What is handed out: frames so far, the first freed frame (as an entry, or 0), tables in use.
+// What is handed out: frames so far, the first freed frame (as an entry, or 0), tables in use; and the entry of the tree's top
+// table, 0 where there is none. The top table is where the pool says and in no frame of its own: several trees may share an area.
 pub struct Pool {
     pub fresh: u64,
     pub free: u64,
     pub used: u64,
+    pub top: u64,
 }
 
 // Where an entry, or a call for a table, leads. Not: no entry, no table free, no such path. Bad: a frame outside the area.
@@ -74,14 +76,22 @@ pub fn put_entry(mem: &mut [u64], f: u64, i: u64, e: u64)
     );
 }
 
+// A frame number in the high bits of words i and i + 1.
+fn frame_at(mem: &[u64], f: u64, i: u64) -> u64
+    requires { ⌜ (f < 1099511627776) × (i < 511) ⌝ }
+    ensures { λ r. ⌜ r ≡ frameAt (now (mem .entry)) f i ⌝ }
+{
+    let a = high(mem, f, i);
+    let b = high(mem, f, i + 1);
+    a % 4096 + b % 16 * 4096
+}
+
 // The host frame of the guest table that a table stands for.
 pub fn guest(mem: &[u64], f: u64) -> u64
     requires { ⌜ f < 1099511627776 ⌝ }
     ensures { λ r. ⌜ r ≡ guestOf (now (mem .entry)) f ⌝ }
 {
-    let a = high(mem, f, 0);
-    let b = high(mem, f, 1);
-    a % 4096 + b % 16 * 4096
+    frame_at(mem, f, 0)
 }
 
 // The level of a table; 0 for a frame that is no table.
@@ -97,9 +107,7 @@ pub fn parent(mem: &[u64], f: u64) -> u64
     requires { ⌜ f < 1099511627776 ⌝ }
     ensures { λ r. ⌜ r ≡ parentOf (now (mem .entry)) f ⌝ }
 {
-    let a = high(mem, f, 2);
-    let b = high(mem, f, 3);
-    a % 4096 + b % 16 * 4096
+    frame_at(mem, f, 2)
 }
 
 // The index of a table's entry in the table above.
@@ -175,7 +183,16 @@ pub fn no_tables() -> Pool
         fresh: 0,
         free: 0,
         used: 0,
+        top: 0,
     }
+}
+
+// The pool with another top table.
+fn with_top(mut p: Pool, top: u64) -> Pool
+    ensures { λ r. ⌜ r ≡ withTop p top ⌝ }
+{
+    p.top = top;
+    p
 }
 
 // The next frame that was never handed out.
@@ -191,6 +208,7 @@ pub fn take_fresh(a: Area, p: Pool, mem: &mut [u64]) -> Went
                 fresh: p.fresh + 1,
                 free: p.free,
                 used: p.used + 1,
+                top: p.top,
             },
             way: Way::To(frame),
         }
@@ -214,6 +232,7 @@ pub fn take_freed(p: Pool, mem: &mut [u64], f: u64) -> Went
             fresh: p.fresh,
             free: next,
             used: p.used + 1,
+            top: p.top,
         },
         way: Way::To(f),
     }
@@ -251,12 +270,14 @@ pub fn given(p: Pool, f: u64) -> Pool
             fresh: p.fresh,
             free: f * 4096 + 1,
             used: 0,
+            top: p.top,
         }
     } else {
         Pool {
             fresh: p.fresh,
             free: f * 4096 + 1,
             used: p.used - 1,
+            top: p.top,
         }
     }
 }
@@ -278,14 +299,6 @@ pub fn index_at(g: u64, k: u64) -> u64
     ensures { λ r. ⌜ r ≡ index k g ⌝ }
 {
     entry::index_of(g, k) as u64
-}
-
-// The entry of the top table, by the number of frames handed out.
-pub fn top(base: u64, fresh: u64) -> u64
-    requires { ⌜ base < 1099511627776 ⌝ }
-    ensures { λ r. ⌜ r ≡ topOf base fresh ⌝ }
-{
-    if fresh == 0 { 0 } else { base * 4096 + 1 }
 }
 
 // The entry at the end of the path of the k low indexes of g, on from the entry e; 0 if a table is missing on the way.
@@ -331,7 +344,7 @@ pub fn room(a: Area, p: Pool, mem: &[u64], g: u64, k: u64) -> Way
     requires { ⌜ (a .base + a .size < 1099511627776) × (k ≤ 7) ⌝ }
     ensures { λ r. ⌜ r ≡ roomOf a p (now (mem .entry)) (indexes k g) ⌝ }
 {
-    match lookup(a.base, a.size, top(a.base, p.fresh), mem, g, k) {
+    match lookup(a.base, a.size, p.top, mem, g, k) {
         Look::Seen { entry: e, reads: n } => {
             if fits(a.size, p.used, k - n) {
                 Way::To(k - n)
@@ -368,18 +381,39 @@ pub fn new_table(
     }
 }
 
+// A table is handed out and becomes the top one.
+fn new_top(a: Area, p: Pool, mem: &mut [u64], guest: u64) -> Went
+    requires { ⌜ a .base + a .size < 1099511627776 ⌝ }
+    ensures { λ r. ⌜ yields r (now (mem .exit)) ≡ topOf a p (now (mem .entry)) guest ⌝ }
+{
+    let went = new_table(a, p, mem, guest, a.levels, 0, 0);
+    let way = went.way;
+    let q = went.pool;
+    match way {
+        Way::To(f) => Went {
+            pool: with_top(q, f * 4096 + 1),
+            way: Way::To(f),
+        },
+        Way::Not => went,
+        Way::Bad => went,
+    }
+}
+
 // The top table, handed out if there is none.
 pub fn enter(a: Area, p: Pool, mem: &mut [u64], guest: u64) -> Went
     requires { ⌜ a .base + a .size < 1099511627776 ⌝ }
     ensures { λ r. ⌜ yields r (now (mem .exit)) ≡ enterOf a p (now (mem .entry)) guest ⌝ }
 {
-    if p.fresh == 0 {
-        new_table(a, p, mem, guest, a.levels, 0, 0)
-    } else {
-        Went {
+    match hop(a.base, a.size, p.top) {
+        Way::To(f) => Went {
             pool: p,
-            way: Way::To(a.base),
-        }
+            way: Way::To(f),
+        },
+        Way::Not => new_top(a, p, mem, guest),
+        Way::Bad => Went {
+            pool: p,
+            way: Way::Bad,
+        },
     }
 }
 
@@ -540,27 +574,27 @@ pub fn unhang(a: Area, p: Pool, mem: &mut [u64], f: u64) -> Went
     }
 }
 
-// The top table goes too if it is empty, unless it stays; and with it everything.
-pub fn shut(a: Area, stays: bool, p: Pool, mem: &mut [u64]) -> Went
-    requires { ⌜ a .base + a .size < 1099511627776 ⌝ }
-    ensures { λ r. ⌜ yields r (now (mem .exit)) ≡ shutOf a stays p (now (mem .entry)) ⌝ }
+// The top table f goes too if it is empty, unless it stays.
+pub fn shut(stays: bool, p: Pool, mem: &mut [u64], f: u64) -> Went
+    requires { ⌜ f < 1099511627776 ⌝ }
+    ensures { λ r. ⌜ yields r (now (mem .exit)) ≡ shutOf stays p (now (mem .entry)) f ⌝ }
 {
     if stays {
         return Went {
             pool: p,
-            way: Way::To(a.base),
+            way: Way::To(f),
         };
     }
-    if bare(mem, a.base) {
-        words::set_in(mem, a.base, 1, 0);
+    if bare(mem, f) {
+        back(mem, f, p.free);
         Went {
-            pool: no_tables(),
-            way: Way::To(a.base),
+            pool: given(with_top(p, 0), f),
+            way: Way::To(f),
         }
     } else {
         Went {
             pool: p,
-            way: Way::To(a.base),
+            way: Way::To(f),
         }
     }
 }
@@ -596,7 +630,7 @@ pub fn release(a: Area, stays: bool, p: Pool, mem: &mut [u64], k: u64, f: u64) -
         }
         links -= 1;
     }
-    shut(a, stays, cur, mem)
+    shut(stays, cur, mem, t)
 }
 
 // The table that holds the last entry of the path of the k low indexes of g, on from the entry e.
@@ -644,7 +678,7 @@ pub fn remove(a: Area, stays: bool, p: Pool, mem: &mut [u64], g: u64, k: u64) ->
     requires { ⌜ (a .base + a .size < 1099511627776) × (1 ≤ k) × (k ≤ 7) ⌝ }
     ensures { λ r. ⌜ yields r (now (mem .exit)) ≡ removeOf a stays p (now (mem .entry)) (indexes k g) ⌝ }
 {
-    match last_table(a.base, a.size, top(a.base, p.fresh), mem, g, k) {
+    match last_table(a.base, a.size, p.top, mem, g, k) {
         Way::To(f) => clear(a, stays, p, mem, k - 1, f, index_at(g, 0)),
         Way::Not => Went {
             pool: p,

@@ -15,7 +15,8 @@ use Rattle.spec.specs.Config.{Config}
 use Rattle.spec.specs.Entry.{wordOf}
 use Rattle.spec.specs.Plain.{upper}
 use Rattle.spec.specs.Book.{Held, Book, depth, find, dropWord, watched}
-use Rattle.spec.specs.Call.{Call, addressIndexes}
+use Rattle.spec.specs.declared.Call.{Call}
+use Rattle.spec.specs.Call.{addressIndexes}
 use Rattle.spec.specs.Count.{serves, one}
 use Rattle.spec.specs.Refusal.{addressFits, wordAligned}
 use Rattle.spec.specs.Run.{State, after, opened}
@@ -43,18 +44,20 @@ use Rattle.drops.proofs.Held.{leafAt}
 use Rattle.drops.proofs.Watch.{watched-is}
 use Rattle.drops.proofs.Drops.{drop-word}
 use Rattle.drops.proofs.Valid.{entryOf}
-use Rattle.request.specs.Translate.{translation, exitBy, servesOf, foundOf}
-use Rattle.request.specs.Store as put
-use Rattle.request.specs.Store.{storeOf}
+use Rattle.request.specs.Translate.{exitBy, servesOf, foundOf}
+use Rattle.request.specs.declared.Held.{Held as Holding}
+use Rattle.request.specs.Access as put
+use Rattle.request.specs.Access.{loadOf, putOf, storeOf}
+use Rattle.record.specs.Record.{headTables}
 use Rattle.request.proofs.Fits.{ArrivedIn}
-use Rattle.request.proofs.Leaves.{translate-leaves, store-leaves}
-use Rattle.unit.specs.Calls.{ended, refused, withHeld, depthAt, addressOk, translatedOf, loadBy, loadOf, writtenBy, storeBy, storeCall, openCall}
+use Rattle.request.proofs.Leaves.{translate-leaves, put-leaves}
+use Rattle.unit.specs.Calls.{hostTop, heldOf, rootOf, headHeld, ended, refused, withHeld, depthAt, addressOk, translatedOf, loadCall, storeCall, openCall}
 use Rattle.claims.specs.Run.{guestArea, unitAfter}
 use Rattle.claims.specs.Counted.{SameWords, SameStore, countedOf, touchedBy, touchedOf, HeldOrPlain, References, Touches, Refuses, SameTables}
 use Rattle.claims.proofs.Invariant.{longer, frames, Inv}
 use Rattle.claims.proofs.Moves.{shadow-drop}
 use Rattle.claims.proofs.Puts.{area-store}
-use Rattle.claims.proofs.Paths.{path-upper}
+use Rattle.claims.proofs.Paths.{path-upper, loadedBy, storedBy, writtenIn}
 use Rattle.claims.proofs.Found as found
 use Rattle.claims.proofs.Translates.{serves-is}
 use Rattle.claims.proofs.Demands.{after-run}
@@ -66,10 +69,10 @@ use Rattle.unit.specs.declared.Reply.{Reply}
 use Rattle.request.specs.declared.Put.{Put}
 use Rattle.shadow.specs.declared.Left.{Left}
 
-written-counts : (r : Record) (top n e : ℕ) (x : After Put) (k : ℕ) → n ≡ k → References k (writtenBy r top n e x .result .answer)
-written-counts r top n e x k q = go (x .result .ok)
+written-counts : (r : Record) (h : Holding) (n e : ℕ) (x : After Put) (k : ℕ) → n ≡ k → References k (writtenIn r h n e x (x .result .ok) .result .answer)
+written-counts r h n e x k q = go (x .result .ok)
   where
-    go : (b : Bool) → References k (cond b (ended (withHeld r (x .result .pool) top) (answer.Done n (e + x .result .exits)) (x .memory)) (refused r 11 (x .memory)) .result .answer)
+    go : (b : Bool) → References k (writtenIn r h n e x b .result .answer)
     go true = q
     go false = tt
 
@@ -96,13 +99,13 @@ module _ (s : State) (r : Record) (m : List ℕ) (inv : Inv s r m) (a : ℕ) whe
   reaches st ok h = go (leb deep (c .levels)) refl h
     where
       at : depthAt r a ≡ deep
-      at = depth-book c (r .marks) (s .book) (omega arith) (inv .word) (inv .marks) a (is-true (addressFits c a) (and-left (addressFits c a) (wordAligned a) (subst T (sym ok) tt)))
+      at = depth-book c (r .guest .marks) (s .book) (let z = found.rules s r m inv .sizes .deep in omega arith) (inv .word) (inv .marks) a (is-true (addressFits c a) (and-left (addressFits c a) (wordAligned a) (subst T (sym ok) tt)))
 
       by : deep ≤ c .levels → (o : Option Held) → find path (s .book .held) ≡ o → T (serves st deep o) → Reaches r st a m
       by low none e k = absurd k
       by low (some h) e k =
           held (page (frames r m (onto [] path))) (h .right) (subst (λ x. x ≤ c .levels) (sym at) low)
-          (ap (foundOf c m (r .shadow .fresh) (r .top) a) at ∙ found.found-some s r m inv a low h e)
+          (ap (foundOf c m (heldOf r) a) at ∙ found.found-some s r m inv a low h e)
           (ap (λ x. servesOf st x (h .right)) at ∙ sym (serves-is s r m inv st a deep h) ∙ is-true (serves st deep (some h)) k)
 
       go : (b : Bool) → leb deep (c .levels) ≡ b → T (serves st deep (find (upper c deep (addressIndexes c a)) (s .book .held))) ⊎ (c .levels < deep) → Reaches r st a m
@@ -114,40 +117,40 @@ module _ (s : State) (r : Record) (m : List ℕ) (inv : Inv s r m) (a : ℕ) whe
 
   -- ---- load
 
-  same-unit : withHeld r (r .shadow) (r .top) ≡ r
-  unfolding withHeld
+  same-unit : withHeld r (heldOf r) ≡ r
+  unfolding headHeld headTables
   same-unit = refl
 
   -- what a load says through such a translation
-  load-says : (n : List ℕ) (x : Walked) → SameWords m n (touchedBy a x) → loadBy r a (read.left r false a x n) x ≡ ended r (loadBy r a (read.left r false a x m) x .result .answer) n
+  load-says : (n : List ℕ) (x : Walked) → SameWords m n (touchedBy a x) → loadedBy r a (read.left r false a x n) x ≡ ended r (loadedBy r a (read.left r false a x m) x .result .answer) n
   load-says n (walked.Arrived t w k) h = ap₂ (λ u v. ended u (answer.Value v k 0) n) same-unit (h .0)
   load-says n (walked.Faulted y k) h = ap (λ u. ended u (answer.Faulted y k (exitBy (walked.Faulted y k))) n) same-unit
-  load-says n walked.Damaged h = refl
+  load-says n walked.Damaged h = ap (λ u. ended u (answer.Refused 11) n) same-unit
 
   -- a memory of the same length is not refused with 3
   load-fits : (n : List ℕ) → length n ≡ length m
-      → loadOf r n a ≡ cond (addressOk r a) (loadBy r a (translatedOf r n false a) (translatedOf r n false a .result .walked)) (refused r 4 n)
-  unfolding loadOf
-  load-fits n e = ap (λ b. cond b (cond (addressOk r a) (loadBy r a (translatedOf r n false a) (translatedOf r n false a .result .walked)) (refused r 4 n)) (refused r 3 n)) (ap (fitsOf r) e ∙ inv .fits)
+      → loadCall r n a ≡ cond (addressOk r a) (loadedBy r a (translatedOf r n false a) (translatedOf r n false a .result .walked)) (refused r 4 n)
+  unfolding loadCall loadOf translatedOf
+  load-fits n e = ap (λ b. cond b (cond (addressOk r a) (loadedBy r a (translatedOf r n false a) (translatedOf r n false a .result .walked)) (refused r 4 n)) (refused r 3 n)) (ap (fitsOf r) e ∙ inv .fits)
 
   -- "its value or fault, its references and its exits stay the same", whatever memory n of that length holds elsewhere; and the
   -- record and the memory stay as they are
   pub words-counted-load : HeldOrPlain c (s .book) false a → (n : List ℕ) → length n ≡ length m → SameWords m n (countedOf r m false a) → SameWords m n (touchedOf r m false a)
-      → loadOf r n a ≡ ended r (loadOf r m a .result .answer) n
+      → loadCall r n a ≡ ended r (loadCall r m a .result .answer) n
   unfolding touchedOf
   words-counted-load h n e counted touched =
       load-fits n e ∙ go (addressOk r a) refl ∙ sym (ap (λ (x : After Reply). ended r (x .result .answer) n) (load-fits m refl))
     where
       said : List ℕ → After Reply
-      said k = loadBy r a (translatedOf r k false a) (translatedOf r k false a .result .walked)
+      said k = loadedBy r a (translatedOf r k false a) (translatedOf r k false a .result .walked)
 
       go : (b : Bool) → addressOk r a ≡ b → cond b (said n) (refused r 4 n) ≡ ended r (cond b (said m) (refused r 4 m) .result .answer) n
       go false q = refl
       go true q =
           let l = alike r false a m n (reaches false q h) counted in
-          ap (λ (o : After Translated). loadBy r a o (o .result .walked)) (l .altered)
+          ap (λ (o : After Translated). loadedBy r a o (o .result .walked)) (l .altered)
           ∙ load-says n (l .walked) (subst (λ (o : After Translated). SameWords m n (touchedBy a (o .result .walked))) (l .before) touched)
-          ∙ sym (ap (λ (o : After Translated). ended r (loadBy r a o (o .result .walked) .result .answer) n) (l .before))
+          ∙ sym (ap (λ (o : After Translated). ended r (loadedBy r a o (o .result .walked) .result .answer) n) (l .before))
 
   -- ---- the words counted are as many as the references
 
@@ -163,11 +166,11 @@ module _ (s : State) (r : Record) (m : List ℕ) (inv : Inv s r m) (a : ℕ) whe
           let l = alike r st a m m (reaches st q h) (all-any _ (countedOf r m st a) (λ x. refl)) in
           subst (λ (o : After Translated). References (length (countedOf r m st a)) (by o (o .result .walked) .result .answer)) (sym (l .before)) (said (l .walked) (l .count))
 
-  pub load-counted : HeldOrPlain c (s .book) false a → References (length (countedOf r m false a)) (loadOf r m a .result .answer)
+  pub load-counted : HeldOrPlain c (s .book) false a → References (length (countedOf r m false a)) (loadCall r m a .result .answer)
   load-counted h =
-      subst (λ (x : After Reply). References (length (countedOf r m false a)) (x .result .answer)) (sym (load-fits m refl)) (counts false h (loadBy r a) said)
+      subst (λ (x : After Reply). References (length (countedOf r m false a)) (x .result .answer)) (sym (load-fits m refl)) (counts false h (loadedBy r a) said)
     where
-      said : (x : Walked) → Reads (length (countedOf r m false a)) x → References (length (countedOf r m false a)) (loadBy r a (read.left r false a x m) x .result .answer)
+      said : (x : Walked) → Reads (length (countedOf r m false a)) x → References (length (countedOf r m false a)) (loadedBy r a (read.left r false a x m) x .result .answer)
       said (walked.Arrived t w k) q = q
       said (walked.Faulted y k) q = q
       said walked.Damaged q = tt
@@ -175,50 +178,50 @@ module _ (s : State) (r : Record) (m : List ℕ) (inv : Inv s r m) (a : ℕ) whe
   -- ---- store
   module _ (v : ℕ) where
     store-fits : (n : List ℕ) → length n ≡ length m
-        → storeCall r n a v ≡ cond (addressOk r a) (storeBy r a v (translatedOf r n true a) (translatedOf r n true a .result .walked)) (refused r 4 n)
-    unfolding storeCall
-    store-fits n e = ap (λ b. cond b (cond (addressOk r a) (storeBy r a v (translatedOf r n true a) (translatedOf r n true a .result .walked)) (refused r 4 n)) (refused r 3 n)) (ap (fitsOf r) e ∙ inv .fits)
+        → storeCall r n a v ≡ cond (addressOk r a) (storedBy r a v (translatedOf r n true a) (translatedOf r n true a .result .walked)) (refused r 4 n)
+    unfolding storeCall storeOf translatedOf
+    store-fits n e = ap (λ b. cond b (cond (addressOk r a) (storedBy r a v (translatedOf r n true a) (translatedOf r n true a .result .walked)) (refused r 4 n)) (refused r 3 n)) (ap (fitsOf r) e ∙ inv .fits)
 
     pub store-counted : HeldOrPlain c (s .book) true a → References (length (countedOf r m true a)) (storeCall r m a v .result .answer)
     store-counted h =
-        subst (λ (x : After Reply). References (length (countedOf r m true a)) (x .result .answer)) (sym (store-fits m refl)) (counts true h (storeBy r a v) said)
+        subst (λ (x : After Reply). References (length (countedOf r m true a)) (x .result .answer)) (sym (store-fits m refl)) (counts true h (storedBy r a v) said)
       where
-        said : (x : Walked) → Reads (length (countedOf r m true a)) x → References (length (countedOf r m true a)) (storeBy r a v (read.left r true a x m) x .result .answer)
-        said (walked.Arrived t w k) q = written-counts r (r .top) k 0 (storeOf c m (r .shadow) (t .0) (wordOf a) v) (length (countedOf r m true a)) q
+        said : (x : Walked) → Reads (length (countedOf r m true a)) x → References (length (countedOf r m true a)) (storedBy r a v (read.left r true a x m) x .result .answer)
+        said (walked.Arrived t w k) q = written-counts r (heldOf r) k 0 (putOf c m (r .pools .shadow) (t .0) (wordOf a) v) (length (countedOf r m true a)) q
         said (walked.Faulted y k) q = q
         said walked.Damaged q = tt
 
     -- what a store to word i of the guest frame t leaves on a memory
     module _ (t : ℕ) (there : InGuestArea c t) (k : ℕ) where
       abbrev putOn : List ℕ → After Put
-      putOn n = storeOf c n (r .shadow) t (wordOf a) v
+      putOn n = putOf c n (r .pools .shadow) t (wordOf a) v
 
       abbrev leftOn : List ℕ → After Reply
-      leftOn n = writtenBy r (r .top) k 0 (putOn n)
+      leftOn n = writtenIn r (heldOf r) k 0 (putOn n) (putOn n .result .ok)
 
       put-area : (n : List ℕ) (b : Bool) → putOn n .result .ok ≡ b → guestArea r (leftOn n .memory) ≡ guestArea r (cond b (setIn n t (wordOf a) v) n)
       put-area n b q =
-          ap (λ x. guestArea r (cond x (ended (withHeld r (putOn n .result .pool) (r .top)) (answer.Done k (0 + putOn n .result .exits)) (putOn n .memory)) (refused r 11 (putOn n .memory)) .memory)) q
+          ap (λ x. guestArea r (writtenIn r (heldOf r) k 0 (putOn n) x .memory)) q
           ∙ either b ∙ ap (λ x. guestArea r (cond x (setIn n t (wordOf a) v) n)) q
         where
           same : guestArea r (putOn n .memory) ≡ guestArea r (cond (putOn n .result .ok) (setIn n t (wordOf a) v) n)
-          same = shadow-drop c (outside-beside c (store-leaves c n (r .shadow) t (wordOf a) v (found.rules s r m inv .shadow .0) .same))
+          same = shadow-drop c (outside-beside c (put-leaves c n (r .pools .shadow) t (wordOf a) v (found.rules s r m inv .shadow .0) .same))
 
-          either : (x : Bool) → guestArea r (cond x (ended (withHeld r (putOn n .result .pool) (r .top)) (answer.Done k (0 + putOn n .result .exits)) (putOn n .memory)) (refused r 11 (putOn n .memory)) .memory)
+          either : (x : Bool) → guestArea r (writtenIn r (heldOf r) k 0 (putOn n) x .memory)
               ≡ guestArea r (cond (putOn n .result .ok) (setIn n t (wordOf a) v) n)
           either true = same
           either false = same
 
       touches : (n : List ℕ) → putOn n .result .ok ≡ true → Touches r n k (0 + putOn n .result .exits) t (wordOf a) v (leftOn n)
       touches n q = record {
-        says = ap (λ b. cond b (ended (withHeld r (putOn n .result .pool) (r .top)) (answer.Done k (0 + putOn n .result .exits)) (putOn n .memory)) (refused r 11 (putOn n .memory)) .result .answer) q;
+        says = ap (λ b. writtenIn r (heldOf r) k 0 (putOn n) b .result .answer) q;
         area = put-area n true q ∙ area-store c n t (wordOf a) v (there .0);
       }
 
       refuses : (n : List ℕ) → putOn n .result .ok ≡ false → Refuses r n (leftOn n)
       refuses n q = record {
-        says = ap (λ b. cond b (ended (withHeld r (putOn n .result .pool) (r .top)) (answer.Done k (0 + putOn n .result .exits)) (putOn n .memory)) (refused r 11 (putOn n .memory)) .result .answer) q;
-        unit = ap (λ b. cond b (ended (withHeld r (putOn n .result .pool) (r .top)) (answer.Done k (0 + putOn n .result .exits)) (putOn n .memory)) (refused r 11 (putOn n .memory)) .result .unit) q;
+        says = ap (λ b. writtenIn r (heldOf r) k 0 (putOn n) b .result .answer) q;
+        unit = ap (λ b. writtenIn r (heldOf r) k 0 (putOn n) b .result .unit) q ∙ same-unit;
         area = put-area n false q;
       }
 
@@ -231,19 +234,19 @@ module _ (s : State) (r : Record) (m : List ℕ) (inv : Inv s r m) (a : ℕ) whe
 
       -- no shadow word is altered: the tables hold what they held, and no damage is met
       whole-tables : (n : List ℕ) → length n ≡ length m → SameTables c m n → (putOn n .result .ok ≡ true) × (putOn n .result .exits ≡ one (watched t (longer (s .book .held))))
-      unfolding storeOf
-      whole-tables n e same = subst (λ b. (putOn n .result .ok ≡ true) × (putOn n .result .exits ≡ one b)) (watched-is tables (found.held-entries s r m inv) t) (go (watchedOf c n (r .shadow .fresh) t))
+      unfolding putOf
+      whole-tables n e same = subst (λ b. (putOn n .result .ok ≡ true) × (putOn n .result .exits ≡ one b)) (watched-is tables (found.held-entries s r m inv) t) (go (watchedOf c n (r .pools .shadow .fresh) t))
         where
-          tables : Holds (shadowArea c) false (r .shadow) n (leafAt (entryOf c (frames r m)) (longer (s .book .held))) (frames r m)
+          tables : Holds (shadowArea c) false (r .pools .shadow) n (leafAt (entryOf c (frames r m)) (longer (s .book .held))) (frames r m)
           tables = holds-memory (inv .shadow) n e (λ f lo hi. same f hi)
 
-          scanned : Dropped c n (leafAt (entryOf c (frames r m)) (dropWord t (wordOf a) (longer (s .book .held)))) (frames r m) (scanOf c (Word (page t) (wordOf a)) (r .shadow) n)
+          scanned : Dropped c n (leafAt (entryOf c (frames r m)) (dropWord t (wordOf a) (longer (s .book .held)))) (frames r m) (scanOf c (Word (page t) (wordOf a)) (r .pools .shadow) n)
           scanned = drop-word tables (found.held-entries s r m inv) t (wordOf a) (word-fits a)
 
           go : (b : Bool)
-              → let x = cond b (put.writtenBy (r .shadow) t (wordOf a) v (scanOf c (Word (page t) (wordOf a)) (r .shadow) n)) (put.stored (r .shadow) 0 true (setIn n t (wordOf a) v)) in
+              → let x = cond b (put.putBy (r .pools .shadow) t (wordOf a) v (scanOf c (Word (page t) (wordOf a)) (r .pools .shadow) n)) (put.stored (r .pools .shadow) 0 true (setIn n t (wordOf a) v)) in
               (x .result .ok ≡ true) × (x .result .exits ≡ one b)
-          go true = subst (λ (o : After Left). (put.writtenBy (r .shadow) t (wordOf a) v o .result .ok ≡ true) × (put.writtenBy (r .shadow) t (wordOf a) v o .result .exits ≡ 1)) (sym (scanned .done)) (refl, refl)
+          go true = subst (λ (o : After Left). (put.putBy (r .pools .shadow) t (wordOf a) v o .result .ok ≡ true) × (put.putBy (r .pools .shadow) t (wordOf a) v o .result .exits ≡ 1)) (sym (scanned .done)) (refl, refl)
           go false = (refl, refl)
 
       same-touches : (n : List ℕ) → length n ≡ length m → SameTables c m n → Touches r n k (0 + putOn m .result .exits) t (wordOf a) v (leftOn n)
@@ -255,7 +258,7 @@ module _ (s : State) (r : Record) (m : List ℕ) (inv : Inv s r m) (a : ℕ) whe
     -- the frame that a granted translation arrives at lies in the guest area
     arrives : ArrivedIn c (translatedOf r m true a .result .walked)
     unfolding translatedOf
-    arrives = translate-leaves c (omega (arith, found.rules s r m inv .sizes .shadows)) m true (r .shadow) (found.rules s r m inv .shadow .0) (r .top) (found.rules s r m inv .top) (r .root) a (depthAt r a) .arrived
+    arrives = translate-leaves c (hostTop r) m true (heldOf r) (found.rules s r m inv .shadow .0, found.rules s r m inv .held) (rootOf r) a (depthAt r a) .arrived
 
     pub words-counted-store : HeldOrPlain c (s .book) true a → (k e : ℕ) → storeCall r m a v .result .answer ≡ answer.Done k e
         → (n : List ℕ) → length n ≡ length m → SameWords m n (countedOf r m true a) → SameStore r m n a v k e
@@ -263,10 +266,10 @@ module _ (s : State) (r : Record) (m : List ℕ) (inv : Inv s r m) (a : ℕ) whe
     words-counted-store h k e done n long counted = go (addressOk r a) refl
       where
         said : List ℕ → After Reply
-        said x = storeBy r a v (translatedOf r x true a) (translatedOf r x true a .result .walked)
+        said x = storedBy r a v (translatedOf r x true a) (translatedOf r x true a .result .walked)
 
         by : (x : Walked) → translatedOf r m true a ≡ read.left r true a x m → translatedOf r n true a ≡ read.left r true a x n → ArrivedIn c x
-            → storeCall r m a v ≡ storeBy r a v (read.left r true a x m) x → storeCall r n a v ≡ storeBy r a v (read.left r true a x n) x → SameStore r m n a v k e
+            → storeCall r m a v ≡ storedBy r a v (read.left r true a x m) x → storeCall r n a v ≡ storedBy r a v (read.left r true a x n) x → SameStore r m n a v k e
         by (walked.Faulted y j) p q i f g =
             let z : answer.Faulted y j (exitBy (walked.Faulted y j)) ≡ answer.Done k e = sym (ap (λ (x : After Reply). x .result .answer) f) ∙ done in
             let x : _≡_ {A = ℕ} 0 1 = cc in absurd (omega arith)
@@ -298,8 +301,8 @@ module _ (s : State) (r : Record) (m : List ℕ) (inv : Inv s r m) (a : ℕ) whe
         go true q =
             let l = alike r true a m n (reaches true q h) counted in
             by (l .walked) (l .before) (l .altered) (subst (λ (o : After Translated). ArrivedIn c (o .result .walked)) (l .before) arrives)
-            (store-fits m refl ∙ ap (λ b. cond b (said m) (refused r 4 m)) q ∙ ap (λ (o : After Translated). storeBy r a v o (o .result .walked)) (l .before))
-            (store-fits n long ∙ ap (λ b. cond b (said n) (refused r 4 n)) q ∙ ap (λ (o : After Translated). storeBy r a v o (o .result .walked)) (l .altered))
+            (store-fits m refl ∙ ap (λ b. cond b (said m) (refused r 4 m)) q ∙ ap (λ (o : After Translated). storedBy r a v o (o .result .walked)) (l .before))
+            (store-fits n long ∙ ap (λ b. cond b (said n) (refused r 4 n)) q ∙ ap (λ (o : After Translated). storedBy r a v o (o .result .walked)) (l .altered))
 
 -- a load through any held path
 pub held-load : (c : Config) (b : Book) (a : ℕ) (h : Held) → find (upper c (depth (b .marks) (addressIndexes c a)) (addressIndexes c a)) (b .held) ≡ some h → HeldOrPlain c b false a
@@ -340,7 +343,7 @@ module _ (m : List ℕ) (h s : ℕ) (xs : List Call) (granted : refusalOf (lengt
   -- word it loads: its value or fault, its references and its exits stay the same"
   pub run-counted-load : (a : ℕ) → HeldOrPlain config book false a
       → (n : List ℕ) → length n ≡ length memory → SameWords memory n (countedOf unit memory false a) → SameWords memory n (touchedOf unit memory false a)
-      → loadOf unit n a ≡ ended unit (loadOf unit memory a .result .answer) n
+      → loadCall unit n a ≡ ended unit (loadCall unit memory a .result .answer) n
   run-counted-load a k = words-counted-load (after xs (opened (configBy (length m) h s) m)) unit memory stands a (here false a k)
 
   -- "A store that is granted through a held path or at d = 5 touches, after such a change, the same word or, only if host or
@@ -350,7 +353,7 @@ module _ (m : List ℕ) (h s : ℕ) (xs : List Call) (granted : refusalOf (lengt
   run-counted-store a v k e q = words-counted-store (after xs (opened (configBy (length m) h s) m)) unit memory stands a v (here true a q) k e
 
   -- those words are as many as the references of the answer
-  pub run-counted-words : (a : ℕ) → (HeldOrPlain config book false a → References (length (countedOf unit memory false a)) (loadOf unit memory a .result .answer))
+  pub run-counted-words : (a : ℕ) → (HeldOrPlain config book false a → References (length (countedOf unit memory false a)) (loadCall unit memory a .result .answer))
       × ((v : ℕ) → HeldOrPlain config book true a → References (length (countedOf unit memory true a)) (storeCall unit memory a v .result .answer))
   run-counted-words a =
       let st = after xs (opened (configBy (length m) h s) m) in

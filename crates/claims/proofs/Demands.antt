@@ -6,13 +6,14 @@ use mathlib.Core.List.{List, [], _∷_}
 use lib.ListN.{length}
 use Rattle.spec.specs.declared.Answer.the-variants as answer
 use Rattle.spec.specs.Config.{Config}
-use Rattle.spec.specs.Call.{Call, root, map, unmap, setMark, clearMark, load, store, device}
+use Rattle.spec.specs.declared.Call.{Call}
+use Rattle.spec.specs.declared.Call.the-variants.{Root as root, Map as map, Unmap as unmap, SetMark as setMark, ClearMark as clearMark, Load as load, Store as store, Device as device}
 use Rattle.spec.specs.Run.{State, step, run, after, opened}
 use Rattle.record.specs.declared.Record.{Record}
 use Rattle.record.specs.Record.{configOf, configBy}
 use Rattle.record.specs.Open.{refusalOf, firstOf, grantedOf}
-use Rattle.unit.specs.Calls.{ended, openCall}
-use Rattle.claims.specs.Run.{callOf, unitRun, unitAfter, runOf, machineRun}
+use Rattle.unit.specs.Calls.{openCall, callOf}
+use Rattle.claims.specs.Run.{unitRun, unitAfter, machineRun}
 use Rattle.claims.proofs.Invariant.{Inv, Follows, at}
 use Rattle.claims.proofs.Opens.{opened-inv, granted-call}
 use Rattle.claims.proofs.Remaps.{root-follows, map-follows, unmap-follows}

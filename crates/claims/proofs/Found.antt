@@ -1,34 +1,31 @@
 -- The held path of an address: what the unit finds is what the book holds.
 -- Assumes nothing.
 use mathlib.Core.Path.{_≡_, refl, sym, ap, ap₂, _∙_, subst}
-use mathlib.Core.Logic.{_≢_, _⊎_, inl, inr}
-use Prim.Native.Nat.{ℕ, zero, suc, _+_, _-_, _*_, _/_, _^_, _<_, _≤_}
+use Prim.Native.Nat.{ℕ, _-_, _*_, _/_, _^_, _<_, _≤_}
 use native.Mathlib.Omega.{arith}
-use mathlib.Core.Bool.{Bool, true, false, not, _||_, cond}
+use mathlib.Core.Bool.{Bool, true, false, cond}
 use mathlib.Core.List.{List, [], _∷_}
-use mathlib.Core.Option.{Option, none, some}
-use lib.Dec.{T, eqb, leb, ltb, lt→ltb, ltb→lt}
-use borrow.Author.Tests.{lt-ltb, le-ltb, ltb-false, eq-eqb, ne-eqb}
+use mathlib.Core.Option.{none, some}
+use lib.Dec.{T, eqb, ltb, ltb→lt}
+use borrow.Author.Tests.{lt-ltb, ltb-false, ne-eqb}
 use lib.ListN.{length}
 use Rattle.spec.specs.declared.Fault.{Fault}
-use Rattle.spec.specs.Config.{Config, guestBase, frameBits}
+use Rattle.spec.specs.Config.{Config, frameBits}
 use Rattle.spec.specs.Entry.{frameOf, writable, indexes, pageOf}
-use Rattle.spec.specs.Prefix.{same, begins, keep}
-use Rattle.spec.specs.Walk.{World, Trace, Result, granted, failed, trace}
-use Rattle.spec.specs.Plain.{Place, hosted, levels, walk, upper}
+use Rattle.spec.specs.Prefix.{same}
+use Rattle.spec.specs.Walk.{granted, trace}
+use Rattle.spec.specs.Plain.{Place, hosted, levels, walk}
 use Rattle.spec.specs.Machine.{Machine, world}
-use Rattle.spec.specs.Book.{Held, Book, Mark, find, depth}
+use Rattle.spec.specs.Book.{Held, find, depth}
 use Rattle.spec.specs.Call.{addressIndexes}
-use Rattle.spec.specs.Count.{serves}
 use Rattle.spec.specs.Run.{State}
-use Rattle.laws.proofs.Lists.{All, all-map, all-keep, is-true, is-false, same-is}
+use Rattle.laws.proofs.Lists.{all-map, all-keep, same-is}
 use Rattle.laws.proofs.Local.{Seen, seen}
-use Rattle.laws.proofs.Granted.{granted-is, through, walk-serves}
-use Rattle.laws.proofs.Indexes.{indexes-length, indexes-all}
+use Rattle.laws.proofs.Granted.{granted-is, through}
+use Rattle.laws.proofs.Indexes.{indexes-length}
 use Rattle.laws.proofs.Depth.{PathFits, no-proper-prefix, fill-fits}
 use Rattle.laws.proofs.Keeps.{Valid, again}
-use Rattle.laws.proofs.Runs.{BookFits}
-use Rattle.tree.proofs.Paths.{onto, Small}
+use Rattle.tree.proofs.Paths.{onto}
 use Rattle.tree.proofs.Find.{steps}
 use Rattle.tree.proofs.Hosts.{indexes-small}
 use Rattle.tree.proofs.Whole as tree
@@ -36,21 +33,22 @@ use Rattle.host.specs.declared.HostWalk.{HostWalk}
 use Rattle.host.specs.declared.HostWalk.the-variants as host
 use Rattle.host.specs.Walk.{page}
 use Rattle.host.proofs.Laws.{InGuestArea}
-use Rattle.walk.specs.Memory.{memoryWorld}
 use Rattle.walk.proofs.Stands.{Stands}
 use Rattle.record.specs.declared.Record.{Record}
 use Rattle.record.specs.Record.{configOf}
 use Rattle.record.proofs.Rules.{Fits, fits-layout}
-use Rattle.shadow.specs.Held.{shadowArea, heldOf, entryFor}
+use Rattle.shadow.specs.Held as shadow
+use Rattle.shadow.specs.Held.{shadowArea}
 use Rattle.shadow.proofs.Parts.{entry-frame, entry-writable}
 use Rattle.drops.proofs.Held.{leafAt, HeldEntries}
 use Rattle.drops.proofs.Find.{answerFound, held-is, find-all, Apart, path-fits}
 use Rattle.drops.proofs.Drops.{namedIn}
 use Rattle.drops.proofs.Fill.{frame-small}
 use Rattle.drops.proofs.Valid.{framesAt, entryOf, valid-entries, valid-frame, inside-area}
-use Rattle.request.specs.Translate.{pathIndexes, foundOf, servesOf}
+use Rattle.request.specs.Translate.{pathIndexes, foundOf}
+use Rattle.unit.specs.Calls.{hostTop, heldOf}
 use Rattle.claims.proofs.Invariant.{longer, topBy, frames, Inv, stands}
-use Rattle.claims.proofs.Paths.{path-upper, walk-above}
+use Rattle.claims.proofs.Paths.{path-upper}
 
 -- ---- lists of held paths
 
@@ -96,14 +94,14 @@ module _ (s : State) (r : Record) (m : List ℕ) (inv : Inv s r m) where
   pub few : cfg .frames ≤ 65536
   few = rules .sizes .frames
 
-  pub memory-stands : Stands cfg mach m
-  memory-stands = stands cfg mach (r .host) m (inv .maps) (inv .area)
+  pub memory-stands : Stands cfg mach (hostTop r) m
+  memory-stands = stands cfg mach (r .pools .host) m (inv .maps) (inv .area)
 
   -- the entries of the held paths, with the record's root
-  pub held-entries : HeldEntries cfg (frames r m) (namedIn m (frames r m)) (r .root) (entryOf cfg (frames r m)) (longer (s .book .held))
+  pub held-entries : HeldEntries cfg (frames r m) (namedIn m (frames r m)) (r .guest .root .0) (entryOf cfg (frames r m)) (longer (s .book .held))
   held-entries =
-      subst (λ x. HeldEntries cfg (framesAt cfg m x) (namedIn m (framesAt cfg m x)) x (entryOf cfg (framesAt cfg m x)) (longer (s .book .held))) (sym (inv .root))
-      (valid-entries cfg mach m memory-stands root-small few (longer (s .book .held))
+      subst (λ x. HeldEntries cfg (framesAt cfg (hostTop r) m x) (namedIn m (framesAt cfg (hostTop r) m x)) x (entryOf cfg (framesAt cfg (hostTop r) m x)) (longer (s .book .held))) (sym (inv .root))
+      (valid-entries cfg mach (hostTop r) m memory-stands root-small few (longer (s .book .held))
       (all-map (λ h. Valid cfg mach h × T (ltb 0 (length (h .path)))) (Valid cfg mach) (longer (s .book .held)) (λ h k. k .0)
       (all-keep (Valid cfg mach) (λ (h : Held). ltb 0 (length (h .path))) (s .book .held) (inv .valid))))
 
@@ -139,7 +137,7 @@ module _ (s : State) (r : Record) (m : List ℕ) (inv : Inv s r m) where
       path-empty l = let z : cfg .levels - deep ≡ 0 = omega arith in ap (λ n. indexes n (pageOf a / 2 ^ (9 * deep))) z
 
       frame-thin : (q : List ℕ) → frames r m q < 1099511627776
-      frame-thin q = let k = frame-small cfg m few (r .root) q in omega arith
+      frame-thin q = let k = frame-small cfg (hostTop r) m few (r .guest .root .0) q in omega arith
 
       -- a held path of no index: every guest entry so far is writable, and it leads to the root's frame, which is not 0
       empty-right : (h : Held) → Valid cfg mach h → h .path ≡ [] → h .right ≡ true
@@ -152,24 +150,24 @@ module _ (s : State) (r : Record) (m : List ℕ) (inv : Inv s r m) where
 
       frame-held : (h : Held) → Valid cfg mach h → InGuestArea cfg (frames r m (onto [] (h .path)))
       frame-held h v =
-          let i = inside-area cfg mach m memory-stands root-small few h v in
-          subst (InGuestArea cfg) (sym (ap (λ x. framesAt cfg m x (onto [] (h .path))) (inv .root) ∙ valid-frame cfg mach m memory-stands root-small few h v)) i
+          let i = inside-area cfg mach (hostTop r) m memory-stands root-small few h v in
+          subst (InGuestArea cfg) (sym (ap (λ x. framesAt cfg (hostTop r) m x (onto [] (h .path))) (inv .root) ∙ valid-frame cfg mach (hostTop r) m memory-stands root-small few h v)) i
 
       abbrev pub found : HostWalk
-      found = foundOf cfg m (r .shadow .fresh) (r .top) a deep
+      found = foundOf cfg m (heldOf r) a deep
 
       pub found-none : find path (s .book .held) ≡ none → (n : ℕ) × (found ≡ host.Absent n)
       unfolding foundOf
       found-none e = go (ltb deep (cfg .levels)) refl
         where
           go : (b : Bool) → ltb deep (cfg .levels) ≡ b
-              → (n : ℕ) × (cond b (heldOf cfg m (r .shadow .fresh) path) (cond (eqb (r .top) 0) (host.Absent 0) (host.Found (page (r .top)) true)) ≡ host.Absent n)
+              → (n : ℕ) × (cond b (shadow.heldOf cfg m (r .pools .shadow .top) path) (cond (eqb (r .guest .held .0) 0) (host.Absent 0) (host.Found (r .guest .held) true)) ≡ host.Absent n)
           go true q =
               let l : 0 < length path = let k = ltb→lt deep (cfg .levels) (subst T (sym q) tt) in omega (arith, path-length) in
               (steps (inv .shadow .tabs) [] path, held-is (inv .shadow) held-entries path (path-free l) ∙ ap (λ o. answerFound (entryOf cfg (frames r m)) o (steps (inv .shadow .tabs) [] path)) (find-longer path (s .book .held) l ∙ e))
           go false q =
               let l : cfg .levels ≤ deep = ltb-false deep (cfg .levels) q in
-              let z : r .top ≡ 0 = inv .top ∙ ap (topBy (frames r m [])) (ap (λ p. find p (s .book .held)) (sym (path-empty l)) ∙ e) in
+              let z : r .guest .held .0 ≡ 0 = inv .top ∙ ap (topBy (frames r m [])) (ap (λ p. find p (s .book .held)) (sym (path-empty l)) ∙ e) in
               (0, rw z)
 
       pub found-some : (h : Held) → find path (s .book .held) ≡ some h → found ≡ host.Found (page (frames r m (onto [] path))) (h .right)
@@ -183,7 +181,7 @@ module _ (s : State) (r : Record) (m : List ℕ) (inv : Inv s r m) where
           at = find-path path (s .book .held) h e
 
           go : (b : Bool) → ltb deep (cfg .levels) ≡ b
-              → cond b (heldOf cfg m (r .shadow .fresh) path) (cond (eqb (r .top) 0) (host.Absent 0) (host.Found (page (r .top)) true)) ≡ host.Found (page (frames r m (onto [] path))) (h .right)
+              → cond b (shadow.heldOf cfg m (r .pools .shadow .top) path) (cond (eqb (r .guest .held .0) 0) (host.Absent 0) (host.Found (r .guest .held) true)) ≡ host.Found (page (frames r m (onto [] path))) (h .right)
           go true q =
               let l : 0 < length path = let k = ltb→lt deep (cfg .levels) (subst T (sym q) tt) in omega (arith, path-length) in
               let w = entryOf cfg (frames r m) in
@@ -197,8 +195,8 @@ module _ (s : State) (r : Record) (m : List ℕ) (inv : Inv s r m) where
           go false q =
               let l : cfg .levels ≤ deep = ltb-false deep (cfg .levels) q in
               let none : path ≡ [] = path-empty l in
-              let top : r .top ≡ frames r m [] = inv .top ∙ ap (topBy (frames r m [])) (ap (λ p. find p (s .book .held)) (sym none) ∙ e) in
+              let top : r .guest .held .0 ≡ frames r m [] = inv .top ∙ ap (topBy (frames r m [])) (ap (λ p. find p (s .book .held)) (sym none) ∙ e) in
               let here : frames r m (onto [] path) ≡ frames r m [] = ap (λ p. frames r m (onto [] p)) none in
               let i : InGuestArea cfg (frames r m []) = subst (λ p. InGuestArea cfg (frames r m (onto [] p))) (at ∙ none) (frame-held h v) in
-              let k : eqb (r .top) 0 ≡ false = ne-eqb (r .top) 0 (λ z. omega (arith, i .0, top, rules .sizes .hosts)) in
+              let k : eqb (r .guest .held .0) 0 ≡ false = ne-eqb (r .guest .held .0) 0 (λ z. omega (arith, i .0, top, rules .sizes .hosts)) in
               rw (k, here, top, empty-right h v (at ∙ none))

@@ -13,7 +13,7 @@ use Rattle.spec.specs.Prefix.{keep}
 use Rattle.spec.specs.Plain.{Place}
 use Rattle.spec.specs.Machine.{Machine, lookup}
 use Rattle.spec.specs.Book.{Held, find}
-use Rattle.spec.specs.Call.{Call}
+use Rattle.spec.specs.declared.Call.{Call}
 use Rattle.spec.specs.Run.{State, step}
 use Rattle.laws.proofs.Lists.{All}
 use Rattle.laws.proofs.Asks.{AnswerIn}
@@ -27,12 +27,13 @@ use Rattle.walk.proofs.Stands.{Stands}
 use Rattle.marks.specs.Reading.{marksOf}
 use Rattle.marks.proofs.Order.{SameMembers}
 use Rattle.record.specs.declared.Record.{Record}
-use Rattle.record.specs.Record.{levels, configOf, fitsOf}
+use Rattle.record.specs.Record.{configOf, fitsOf}
 use Rattle.shadow.specs.Held.{shadowArea}
 use Rattle.drops.proofs.Held.{leafAt}
 use Rattle.drops.proofs.Valid.{framesAt, entryOf}
 use Rattle.words.specs.After.{After}
 use Rattle.unit.specs.declared.Reply.{Reply}
+use Rattle.unit.specs.Calls.{hostTop}
 
 -- the held paths that stand in the shadow tables: those with an index; the one of no index stands in the record
 abbrev pub longer : List Held → List Held
@@ -44,22 +45,22 @@ topBy f (some h) = f
 
 -- the host frames by prefix, as a walk over memory reaches them
 abbrev pub frames : Record → List ℕ → List ℕ → ℕ
-frames r m = framesAt (configOf r) m (r .root)
+frames r m = framesAt (configOf r) (hostTop r) m (r .guest .root .0)
 
 pub record Inv (s : State) (r : Record) (m : List ℕ) : Type 0 where
   pub fits : fitsOf r (length m) ≡ true
-  pub word : r .marks .set < 2 ^ 64
-  pub root : r .root ≡ s .machine .root
-  pub maps : Maps (configOf r) (s .machine .mappings) (r .host) m
+  pub word : r .guest .marks .set < 2 ^ 64
+  pub root : r .guest .root .0 ≡ s .machine .root
+  pub maps : Maps (configOf r) (s .machine .mappings) (r .pools .host) m
   pub area : drop (512 * guestBase (configOf r)) m ≡ s .machine .area
   pub book : BookFits (configOf r) (s .book)
   pub valid : All (Valid (configOf r) (s .machine)) (s .book .held)
-  pub marks : SameMembers (marksOf levels (r .marks)) (s .book .marks)
-  pub shadow : Holds (shadowArea (configOf r)) false (r .shadow) m (leafAt (entryOf (configOf r) (frames r m)) (longer (s .book .held))) (frames r m)
-  pub top : r .top ≡ topBy (frames r m []) (find [] (s .book .held))
+  pub marks : SameMembers (marksOf (r .layout .levels) (r .guest .marks)) (s .book .marks)
+  pub shadow : Holds (shadowArea (configOf r)) false (r .pools .shadow) m (leafAt (entryOf (configOf r) (frames r m)) (longer (s .book .held))) (frames r m)
+  pub top : r .guest .held .0 ≡ topBy (frames r m []) (find [] (s .book .held))
 
 -- the host tables and the guest area stand for the machine
-pub stands : (c : Config) (s : Machine) (p : Pool) (m : List ℕ) → Maps c (s .mappings) p m → drop (512 * guestBase c) m ≡ s .area → Stands c s m
+pub stands : (c : Config) (s : Machine) (p : Pool) (m : List ℕ) → Maps c (s .mappings) p m → drop (512 * guestBase c) m ≡ s .area → Stands c s (p .top) m
 stands c s p m h e = record {
   tables = walk-is c (s .mappings) p m h;
   inside = λ g. go g (lookup g (s .mappings)) refl;

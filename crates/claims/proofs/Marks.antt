@@ -2,7 +2,7 @@
 -- Assumes nothing.
 use mathlib.Core.Path.{_≡_, refl, sym, ap, ap₂, _∙_, subst}
 use mathlib.Core.Logic.{_⊎_, inl}
-use Prim.Native.Nat.{ℕ, zero, suc, _+_, _-_, _*_, _/_, _^_, _<_, _≤_}
+use Prim.Native.Nat.{ℕ, _+_, _-_, _*_, _/_, _^_, _<_, _≤_}
 use native.Mathlib.Omega.{arith}
 use native.Mathlib.Decide.{decLe}
 use borrow.Author.Tests.{ltb-true, ltb-false, ne-eqb}
@@ -14,11 +14,13 @@ use lib.Count.{ones}
 use lib.Pow.{pow-mono, pow-pos}
 use lib.ListN.{length, take}
 use Rattle.spec.specs.Config.{Config}
-use Rattle.spec.specs.Entry.{pageOf, index, indexes}
+use Rattle.spec.specs.Entry.{pageOf, indexes}
 use Rattle.spec.specs.Prefix.{begins, any, keep}
 use Rattle.spec.specs.Book.{Mark, Held, markAt, sameMark, find, dropPrefix}
 use Rattle.spec.specs.Call as outcome
-use Rattle.spec.specs.Call.{Call, setMark, clearMark, addressIndexes, machineStep}
+use Rattle.spec.specs.declared.Call.{Call}
+use Rattle.spec.specs.declared.Call.the-variants.{SetMark as setMark, ClearMark as clearMark}
+use Rattle.spec.specs.Call.{addressIndexes, machineStep}
 use Rattle.spec.specs.Count.{bookStep}
 use Rattle.spec.specs.Refusal.{allOf, markFits, tests, refusal}
 use Rattle.spec.specs.Run.{State}
@@ -28,7 +30,6 @@ use Rattle.laws.proofs.Runs.{BookFits}
 use Rattle.entry.specs.Levels.{ofLevels}
 use Rattle.laws.proofs.Indexes.{indexes-length, indexes-take}
 use Rattle.tree.proofs.Hosts.{indexes-small}
-use Rattle.tree.proofs.Paths.{Small}
 use Rattle.host.proofs.Laws.{InGuestArea}
 use Rattle.walk.proofs.Stands.{Stands}
 use Rattle.marks.specs.declared.Marks.{Marks}
@@ -44,17 +45,19 @@ use Rattle.marks.proofs.Reading as reading
 use Rattle.marks.proofs.Reading.{key-fits}
 use Rattle.marks.proofs.Book.{keysOf, page-small, marks-fit, may-set, may-clear, set-refused, clear-refused, set-granted, clear-granted}
 use Rattle.record.specs.declared.Record.{Record}
-use Rattle.record.specs.Record.{levels, configOf, withMarks}
-use Rattle.record.proofs.Rules.{Fits, fits-marks, fits-keys}
+use Rattle.entry.specs.declared.HostPhysical.{HostPhysical}
+use Rattle.host.specs.Walk.{page}
+use Rattle.record.specs.Record.{configOf, headTables, withMarks}
+use Rattle.record.proofs.Rules.{Fits, fits-marks, fits-keys, holds-pool}
 use Rattle.shadow.specs.Drop.{dropPrefixOf}
 use Rattle.drops.proofs.Scan.{Dropped}
 use Rattle.drops.proofs.Held.{leafAt}
 use Rattle.drops.proofs.Drops.{prefix-all, drop-prefix}
 use Rattle.drops.proofs.Valid.{framesAt, entryOf, valid-entries, stays-same}
-use Rattle.unit.specs.Calls.{refused, withHeld, judged, markedOf, setMarkCall, clearMarkCall}
+use Rattle.unit.specs.Calls.{hostTop, headHeld, heldAfter, refused, withHeld, judged, markedOf, setMarkCall, clearMarkCall}
 use Rattle.claims.proofs.Invariant.{longer, topBy, Inv, Follows, stands}
 use Rattle.shadow.specs.declared.Left.{Left}
-use Rattle.claims.proofs.Moves.{Moved, dropped-left, after, follows-no, follows-ok, after-fits, first-positive, invariant, inv-fits, inv-stands, inv-root, inv-shadow, inv-top, fits-held, holds-pool, maps-beside, shadow-drop, shadow-on, top-on, longer-keep, all-longer, all-kept, find-keep}
+use Rattle.claims.proofs.Moves.{Moved, dropped-left, after, follows-no, follows-ok, after-fits, first-positive, invariant, inv-fits, inv-stands, inv-root, inv-shadow, inv-top, fits-held, maps-beside, shadow-drop, shadow-on, top-on, longer-keep, all-longer, all-kept, find-keep}
 use Rattle.words.specs.After.{After}
 
 -- ---- the rule of marks, whatever their order
@@ -135,21 +138,21 @@ none-of (i ∷ is) e = absurd (omega arith)
 
 -- ---- the drop, for any table that holds the book's marks after the call
 module _ (s : State) (r : Record) (m : List ℕ) (h : Inv s r m) (a n : ℕ) (t : Marks) (ms : List Mark)
-    (word : t .set < 2 ^ 64) (rule : keysFit levels (keysOf t) ≡ true) (agree : SameMembers (marksOf levels t) ms)
-    (book : BookFits (configOf r) (record { marks = ms; held = dropPrefix (take (levels - n) (addressIndexes (configOf r) a)) (s .book .held) })) where
+    (word : t .set < 2 ^ 64) (rule : keysFit (r .layout .levels) (keysOf t) ≡ true) (agree : SameMembers (marksOf (r .layout .levels) t) ms)
+    (book : BookFits (configOf r) (record { marks = ms; held = dropPrefix (take ((r .layout .levels) - n) (addressIndexes (configOf r) a)) (s .book .held) })) where
   p : List ℕ
-  p = take (levels - n) (addressIndexes (configOf r) a)
+  p = take ((r .layout .levels) - n) (addressIndexes (configOf r) a)
 
   is : List ℕ
-  is = indexes (levels - n) (pageOf a / 2 ^ (9 * n))
+  is = indexes ((r .layout .levels) - n) (pageOf a / 2 ^ (9 * n))
 
   same : is ≡ p
   unfolding p is
-  same = taken levels n (pageOf a)
+  same = taken (r .layout .levels) n (pageOf a)
 
-  long : length p ≡ levels - n
+  long : length p ≡ (r .layout .levels) - n
   unfolding is
-  long = sym (ap length same) ∙ indexes-length (levels - n) (pageOf a / 2 ^ (9 * n))
+  long = sym (ap length same) ∙ indexes-length ((r .layout .levels) - n) (pageOf a / 2 ^ (9 * n))
 
   held : List Held
   held = s .book .held
@@ -158,62 +161,62 @@ module _ (s : State) (r : Record) (m : List ℕ) (h : Inv s r m) (a n : ℕ) (t 
   left = dropPrefix p held
 
   F : List ℕ → ℕ
-  F = framesAt (configOf r) m (s .machine .root)
+  F = framesAt (configOf r) (hostTop r) m (s .machine .root)
 
-  top : ℕ
-  top = cond (ltb n levels) (r .top) 0
+  top : HostPhysical
+  top = heldAfter (r .layout .levels) n (r .guest .held)
 
   abbrev marked : State
-  marked = record { config = configOf r; machine = s .machine; book = record { marks = ms; held = dropPrefix (take (levels - n) (addressIndexes (configOf r) a)) (s .book .held) } }
+  marked = record { config = configOf r; machine = s .machine; book = record { marks = ms; held = dropPrefix (take ((r .layout .levels) - n) (addressIndexes (configOf r) a)) (s .book .held) } }
 
-  drops : Dropped (configOf r) m (leafAt (entryOf (configOf r) F) (longer left)) F (dropPrefixOf (configOf r) (r .shadow) m is)
+  drops : Dropped (configOf r) m (leafAt (entryOf (configOf r) F) (longer left)) F (dropPrefixOf (configOf r) (r .pools .shadow) m is)
   unfolding F held left is
   drops =
-      let entries = valid-entries (configOf r) (s .machine) m (inv-stands h) (inv-root h) (h .maps .few) (longer held) (all-longer _ held (h .valid)) in
-      let d = drop-prefix (inv-shadow h) entries is (omega (arith, indexes-length (levels - n) (pageOf a / 2 ^ (9 * n)))) (indexes-small (levels - n) (pageOf a / 2 ^ (9 * n))) in
-      subst (λ hs. Dropped (configOf r) m (leafAt (entryOf (configOf r) F) hs) F (dropPrefixOf (configOf r) (r .shadow) m is))
+      let entries = valid-entries (configOf r) (s .machine) (hostTop r) m (inv-stands h) (inv-root h) (h .maps .few) (longer held) (all-longer _ held (h .valid)) in
+      let d = drop-prefix (inv-shadow h) entries is (omega (arith, indexes-length ((r .layout .levels) - n) (pageOf a / 2 ^ (9 * n)))) (indexes-small ((r .layout .levels) - n) (pageOf a / 2 ^ (9 * n))) in
+      subst (λ hs. Dropped (configOf r) m (leafAt (entryOf (configOf r) F) hs) F (dropPrefixOf (configOf r) (r .pools .shadow) m is))
       (ap (λ q. dropPrefix q (longer held)) same ∙ sym (longer-keep (λ x. not (begins p (x .path))) held)) d
 
-  top-fits : (top ≡ 0) ⊎ InGuestArea (configOf r) top
+  top-fits : (top .0 ≡ 0) ⊎ InGuestArea (configOf r) (top .0)
   unfolding top
-  top-fits = go (ltb n levels)
+  top-fits = go (ltb n (r .layout .levels))
     where
-      go : (b : Bool) → (cond b (r .top) 0 ≡ 0) ⊎ InGuestArea (configOf r) (cond b (r .top) 0)
-      go true = inv-fits h .top
+      go : (b : Bool) → (cond b (r .guest .held) (page 0) .0 ≡ 0) ⊎ InGuestArea (configOf r) (cond b (r .guest .held) (page 0) .0)
+      go true = inv-fits h .held
       go false = inl refl
 
   -- "4 and 5 keep none": then the path of no index goes
-  top-is : top ≡ topBy (F []) (find [] left)
+  top-is : top .0 ≡ topBy (F []) (find [] left)
   unfolding top F left held
-  top-is = go (ltb n levels) refl
+  top-is = go (ltb n (r .layout .levels)) refl
     where
-      go : (b : Bool) → ltb n levels ≡ b → cond b (r .top) 0 ≡ topBy (F []) (find [] (dropPrefix p held))
+      go : (b : Bool) → ltb n (r .layout .levels) ≡ b → cond b (r .guest .held) (page 0) .0 ≡ topBy (F []) (find [] (dropPrefix p held))
       go true e =
-          let some = ltb-true n levels e in
+          let some = ltb-true n (r .layout .levels) e in
           inv-top h ∙ sym (ap (topBy (F [])) (find-keep (λ x. not (begins p (x .path))) held (all-any _ held (λ x q. begins-none p (x .path) (omega (arith, long)) q))))
       go false e =
-          let l = ltb-false n levels e in
+          let l = ltb-false n (r .layout .levels) e in
           let none : p ≡ [] = none-of p (omega (arith, long)) in
           sym (ap (λ q. topBy (F []) (find [] (dropPrefix q held))) none ∙ ap (λ hs. topBy (F []) (find [] hs)) (prefix-all held))
 
-  kept : {o : After Left} (d : Dropped (configOf r) m (leafAt (entryOf (configOf r) F) (longer left)) F o) → Inv marked (withHeld (withMarks r t) (d .pool) top) (d .memory)
-  unfolding withHeld withMarks F held left p
+  kept : {o : After Left} (d : Dropped (configOf r) m (leafAt (entryOf (configOf r) F) (longer left)) F o) → Inv marked (withHeld (withMarks r t) (record { pool = d .pool; frame = top })) (d .memory)
+  unfolding headHeld headTables withMarks F held left p
   kept d =
       let c = configOf r in
       let valid = all-kept (Valid c (s .machine)) (λ x. not (begins p (x .path))) held (h .valid) in
       let maps = maps-beside c (d .beside) (h .maps) in
       let area = shadow-drop c (d .beside) ∙ h .area in
-      let now : Stands c (s .machine) (d .memory) = stands c (s .machine) (r .host) (d .memory) maps area in
+      let now : Stands c (s .machine) (hostTop r) (d .memory) = stands c (s .machine) (r .pools .host) (d .memory) maps area in
       let staying = all-map _ _ left (λ x v. stays-same c (s .machine) x v) valid in
       let marks = marks-fit c t word (omega arith) ∙ rule in
-      invariant marked (withHeld (withMarks r t) (d .pool) top) (d .memory)
-      (subst (Fits (withHeld (withMarks r t) (d .pool) top)) (sym (d .beside .len)) (fits-held (fits-marks (inv-fits h) t marks) (d .pool) top (holds-pool (d .holds)) top-fits))
+      invariant marked (withHeld (withMarks r t) (record { pool = d .pool; frame = top })) (d .memory)
+      (subst (Fits (withHeld (withMarks r t) (record { pool = d .pool; frame = top }))) (sym (d .beside .len)) (fits-held (fits-marks (inv-fits h) t marks) (record { pool = d .pool; frame = top }) (holds-pool (d .holds)) top-fits))
       word (h .root) maps area book valid agree
-      (shadow-on left (s .machine) (s .machine) m (d .memory) (inv-stands h) now (inv-root h) (inv-root h) (h .maps .few) staying (d .holds))
-      (top-is ∙ top-on c left (s .machine) (s .machine) m (d .memory) (inv-stands h) now (inv-root h) (inv-root h) (h .maps .few) staying)
+      (shadow-on left (s .machine) (s .machine) (hostTop r) (hostTop r) m (d .memory) (inv-stands h) now (inv-root h) (inv-root h) (h .maps .few) staying (d .holds))
+      (top-is ∙ top-on c left (s .machine) (s .machine) (hostTop r) (hostTop r) m (d .memory) (inv-stands h) now (inv-root h) (inv-root h) (h .maps .few) staying)
 
   marked-left : Moved marked r (markedOf r m a n t)
-  unfolding markedOf is top withHeld withMarks
+  unfolding markedOf is top headHeld headTables withMarks
   marked-left = dropped-left drops marked r (withMarks r t) top refl (kept drops)
 
 -- ---- set and clear
@@ -232,29 +235,32 @@ module _ (s : State) (r : Record) (m : List ℕ) (h : Inv s r m) (a n : ℕ) whe
           let above = first-positive (tests (configOf r) x (s .machine) (s .book)) k positive q in
           rw (ne-eqb k 0 (λ z. omega arith)) (follows-no x k h q)
 
-  whole : keysFit levels (keysOf (r .marks)) ≡ true
+  whole : keysFit (r .layout .levels) (keysOf (r .guest .marks)) ≡ true
   whole = fits-keys (h .word) (inv-fits h)
+
+  few : r .layout .levels < 7
+  few = let z = inv-fits h .sizes .deep in omega arith
 
   pub set-mark-follows : Follows (setMark a n) s r (setMarkCall r m a n)
   unfolding setMarkCall tests machineStep bookStep
   set-mark-follows =
-      let same = set-refused (configOf r) (r .marks) (s .book) (omega arith) (h .word) (h .marks) (s .machine) a n refl in
-      by-refusal (setMark a n) (withKey (r .marks) (keyOf n (pageOf a))) (setRefusal levels (keysOf (r .marks)) a n) same
+      let same = set-refused (configOf r) (r .guest .marks) (s .book) few (h .word) (h .marks) (s .machine) a n refl in
+      by-refusal (setMark a n) (withKey (r .guest .marks) (keyOf n (pageOf a))) (setRefusal (r .layout .levels) (keysOf (r .guest .marks)) a n) same
       (omega arith, (omega arith, (omega arith, (omega arith, tt)))) refl
       (λ e.
-      let free : number (setRefusal levels (keysOf (r .marks)) a n) ≡ 0 = ap number (same ∙ e) in
-      marked-left s r m h a n (withKey (r .marks) (keyOf n (pageOf a))) (markAt (configOf r) n (addressIndexes (configOf r) a) ∷ s .book .marks)
-      (set-word levels (r .marks) a n (h .word)) (set-rule levels (r .marks) a n (h .word) (omega arith) whole free)
-      (set-granted (configOf r) (r .marks) (s .book) (omega arith) (h .word) (h .marks) a n free) (after-fits (configOf r) (setMark a n) s e (h .book)))
+      let free : number (setRefusal (r .layout .levels) (keysOf (r .guest .marks)) a n) ≡ 0 = ap number (same ∙ e) in
+      marked-left s r m h a n (withKey (r .guest .marks) (keyOf n (pageOf a))) (markAt (configOf r) n (addressIndexes (configOf r) a) ∷ s .book .marks)
+      (set-word (r .layout .levels) (r .guest .marks) a n (h .word)) (set-rule (r .layout .levels) (r .guest .marks) a n (h .word) few whole free)
+      (set-granted (configOf r) (r .guest .marks) (s .book) few (h .word) (h .marks) a n free) (after-fits (configOf r) (setMark a n) s e (h .book)))
 
   pub clear-mark-follows : Follows (clearMark a n) s r (clearMarkCall r m a n)
   unfolding clearMarkCall tests machineStep bookStep
   clear-mark-follows =
-      let same = clear-refused (configOf r) (r .marks) (s .book) (omega arith) (h .word) (h .marks) (s .machine) a n in
-      by-refusal (clearMark a n) (withoutKey (r .marks) (keyOf n (pageOf a))) (clearRefusal levels (keysOf (r .marks)) a n) same
+      let same = clear-refused (configOf r) (r .guest .marks) (s .book) few (h .word) (h .marks) (s .machine) a n in
+      by-refusal (clearMark a n) (withoutKey (r .guest .marks) (keyOf n (pageOf a))) (clearRefusal (r .layout .levels) (keysOf (r .guest .marks)) a n) same
       (omega arith, (omega arith, (omega arith, tt))) refl
       (λ e.
-      let free : number (clearRefusal levels (keysOf (r .marks)) a n) ≡ 0 = ap number (same ∙ e) in
-      marked-left s r m h a n (withoutKey (r .marks) (keyOf n (pageOf a))) (keep (λ y. not (sameMark (markAt (configOf r) n (addressIndexes (configOf r) a)) y)) (s .book .marks))
-      (clear-word levels (r .marks) a n (h .word)) (clear-rule levels (r .marks) a n (h .word) (omega arith) whole free)
-      (clear-granted (configOf r) (r .marks) (s .book) (omega arith) (h .word) (h .marks) a n whole free) (after-fits (configOf r) (clearMark a n) s e (h .book)))
+      let free : number (clearRefusal (r .layout .levels) (keysOf (r .guest .marks)) a n) ≡ 0 = ap number (same ∙ e) in
+      marked-left s r m h a n (withoutKey (r .guest .marks) (keyOf n (pageOf a))) (keep (λ y. not (sameMark (markAt (configOf r) n (addressIndexes (configOf r) a)) y)) (s .book .marks))
+      (clear-word (r .layout .levels) (r .guest .marks) a n (h .word)) (clear-rule (r .layout .levels) (r .guest .marks) a n (h .word) few whole free)
+      (clear-granted (configOf r) (r .guest .marks) (s .book) few (h .word) (h .marks) a n whole free) (after-fits (configOf r) (clearMark a n) s e (h .book)))

@@ -18,7 +18,8 @@ use Rattle.spec.specs.Book.{Held, find}
 use Rattle.spec.specs.Answer as say
 use Rattle.spec.specs.Answer.{line}
 use Rattle.spec.specs.Call as outcome
-use Rattle.spec.specs.Call.{Call, machineStep}
+use Rattle.spec.specs.declared.Call.{Call}
+use Rattle.spec.specs.Call.{machineStep}
 use Rattle.spec.specs.Count.{bookStep}
 use Rattle.spec.specs.Refusal.{firstFailed, refusal}
 use Rattle.spec.specs.Run.{State, step}
@@ -26,7 +27,6 @@ use Rattle.laws.proofs.Lists.{All, all-map, all-keep}
 use Rattle.laws.proofs.Trail.{frameIn, frameAt}
 use Rattle.laws.proofs.Keeps.{Valid}
 use Rattle.laws.proofs.Runs.{BookFits, step-fits}
-use Rattle.area.specs.declared.Area.{Area}
 use Rattle.area.specs.declared.Pool.{Pool}
 use Rattle.area.specs.Pool.{noneOf}
 use Rattle.tree.proofs.Stores.{Beside, beside-drop}
@@ -39,57 +39,55 @@ use Rattle.walk.proofs.Stands.{Stands}
 use Rattle.marks.specs.Reading.{marksOf}
 use Rattle.marks.proofs.Order.{SameMembers}
 use Rattle.record.specs.declared.Record.{Record}
-use Rattle.record.specs.Record.{levels, configOf}
-use Rattle.record.proofs.Rules.{Fits, PoolFits, fits-layout, fits-true}
+use Rattle.entry.specs.declared.HostPhysical.{HostPhysical}
+use Rattle.record.specs.Record.{configOf, headTables}
+use Rattle.request.specs.declared.Held.{Held as Holding}
+use Rattle.record.proofs.Rules.{Table, Fits, PoolFits, fits-layout, fits-true}
 use Rattle.shadow.specs.Held.{shadowArea}
 use Rattle.shadow.specs.declared.Left.{Left}
 use Rattle.drops.proofs.Scan.{Dropped}
 use Rattle.drops.proofs.Held.{leafAt, leaf-none}
 use Rattle.drops.proofs.Valid.{framesAt, entryOf, valid-entry, Stays, holds-on}
-use Rattle.unit.specs.Calls.{withHeld, withHost, refused, droppedBy}
+use Rattle.unit.specs.Calls.{hostTop, headHeld, headHost, withHeld, withHost, refused, droppedBy}
 use Rattle.claims.proofs.Invariant.{longer, topBy, frames, Inv, Follows, stands, at}
 use Rattle.words.specs.After.{After}
 use Rattle.unit.specs.declared.Reply.{Reply}
 
 -- ---- the record
--- an area that holds leaves keeps a pool in its ranges
-pub holds-pool : {a : Area} {stays : Bool} {p : Pool} {m : List ℕ} {lv guest : List ℕ → ℕ} → Holds a stays p m lv guest → PoolFits (a .size) p
-holds-pool h = (h .tables .room, omega (arith, h .tables .count))
-
 module _ {r : Record} {len : ℕ} (f : Fits r len) where
-  -- with other shadow tables, another frame held at depth N
-  pub fits-held : (p : Pool) (top : ℕ) → PoolFits (r .shadows) p → (top ≡ 0) ⊎ InGuestArea (configOf r) top → Fits (withHeld r p top) len
-  unfolding withHeld
-  fits-held p top pool held = record {
+  -- with other paths held
+  pub fits-held : (h : Holding) → PoolFits (r .layout .hosts) (r .layout .shadows) (h .pool) → (h .frame .0 ≡ 0) ⊎ InGuestArea (configOf r) (h .frame .0) → Fits (withHeld r h) len
+  unfolding headHeld headTables
+  fits-held h pool held = record {
     long = f .long;
     sizes = f .sizes;
-    layout = f .layout;
     root = f .root;
     marks = f .marks;
-    top = held;
+    held = held;
+    top = f .top;
     host = f .host;
     shadow = pool;
   }
 
   -- with other host tables
-  pub fits-host : (p : Pool) → PoolFits (r .hosts) p → Fits (withHost r p) len
-  unfolding withHost
-  fits-host p pool = record {
+  pub fits-host : (p : Pool) → PoolFits 0 (r .layout .hosts) p → Table 0 (r .layout .hosts) (p .top) → Fits (withHost r p) len
+  unfolding headHost headTables
+  fits-host p pool top = record {
     long = f .long;
     sizes = f .sizes;
-    layout = f .layout;
     root = f .root;
     marks = f .marks;
-    top = f .top;
+    held = f .held;
+    top = top;
     host = pool;
     shadow = f .shadow;
   }
 
   -- where shadow tables may stand: in the memory
-  pub fits-room : (r .hosts + r .shadows ≤ 65536) × ((r .hosts + r .shadows) * 512 ≤ len)
+  pub fits-room : (r .layout .hosts + r .layout .shadows ≤ 65536) × ((r .layout .hosts + r .layout .shadows) * 512 ≤ len)
   fits-room =
       let z = f .sizes in
-      (omega (arith, z .guest, z .frames), omega (arith, f .long, z .guest, z .whole))
+      (omega (arith, z .guest, z .frames), omega (arith, f .long, z .guest))
 
 -- ---- memory
 -- a change in the shadow tables alone
@@ -115,28 +113,28 @@ module _ {s : State} {r : Record} {m : List ℕ} (h : Inv s r m) where
   pub inv-fits : Fits r (length m)
   inv-fits = fits-layout r (length m) (h .fits)
 
-  pub inv-stands : Stands (configOf r) (s .machine) m
-  inv-stands = stands (configOf r) (s .machine) (r .host) m (h .maps) (h .area)
+  pub inv-stands : Stands (configOf r) (s .machine) (hostTop r) m
+  inv-stands = stands (configOf r) (s .machine) (r .pools .host) m (h .maps) (h .area)
 
   pub inv-root : s .machine .root < 2 ^ frameBits (configOf r)
   inv-root = subst (λ x. x < 2 ^ frameBits (configOf r)) (h .root) (inv-fits .root)
 
   -- the shadow tables and the held frame, by the machine's root
-  pub inv-shadow : let F = framesAt (configOf r) m (s .machine .root) in
-      Holds (shadowArea (configOf r)) false (r .shadow) m (leafAt (entryOf (configOf r) F) (longer (s .book .held))) F
-  inv-shadow = subst (λ x. let F = framesAt (configOf r) m x in Holds (shadowArea (configOf r)) false (r .shadow) m (leafAt (entryOf (configOf r) F) (longer (s .book .held))) F) (h .root) (h .shadow)
+  pub inv-shadow : let F = framesAt (configOf r) (hostTop r) m (s .machine .root) in
+      Holds (shadowArea (configOf r)) false (r .pools .shadow) m (leafAt (entryOf (configOf r) F) (longer (s .book .held))) F
+  inv-shadow = subst (λ x. let F = framesAt (configOf r) (hostTop r) m x in Holds (shadowArea (configOf r)) false (r .pools .shadow) m (leafAt (entryOf (configOf r) F) (longer (s .book .held))) F) (h .root) (h .shadow)
 
-  pub inv-top : r .top ≡ topBy (framesAt (configOf r) m (s .machine .root) []) (find [] (s .book .held))
-  inv-top = subst (λ x. r .top ≡ topBy (framesAt (configOf r) m x []) (find [] (s .book .held))) (h .root) (h .top)
+  pub inv-top : r .guest .held .0 ≡ topBy (framesAt (configOf r) (hostTop r) m (s .machine .root) []) (find [] (s .book .held))
+  inv-top = subst (λ x. r .guest .held .0 ≡ topBy (framesAt (configOf r) (hostTop r) m x []) (find [] (s .book .held))) (h .root) (h .top)
 
 -- the invariant, by the machine's root
-pub invariant : (s : State) (r : Record) (m : List ℕ) → Fits r (length m) → r .marks .set < 2 ^ 64 → r .root ≡ s .machine .root
-    → Maps (configOf r) (s .machine .mappings) (r .host) m → drop (512 * guestBase (configOf r)) m ≡ s .machine .area
+pub invariant : (s : State) (r : Record) (m : List ℕ) → Fits r (length m) → r .guest .marks .set < 2 ^ 64 → r .guest .root .0 ≡ s .machine .root
+    → Maps (configOf r) (s .machine .mappings) (r .pools .host) m → drop (512 * guestBase (configOf r)) m ≡ s .machine .area
     → BookFits (configOf r) (s .book) → All (Valid (configOf r) (s .machine)) (s .book .held)
-    → SameMembers (marksOf levels (r .marks)) (s .book .marks)
-    → (let F = framesAt (configOf r) m (s .machine .root) in
-    Holds (shadowArea (configOf r)) false (r .shadow) m (leafAt (entryOf (configOf r) F) (longer (s .book .held))) F)
-    → r .top ≡ topBy (framesAt (configOf r) m (s .machine .root) []) (find [] (s .book .held)) → Inv s r m
+    → SameMembers (marksOf (r .layout .levels) (r .guest .marks)) (s .book .marks)
+    → (let F = framesAt (configOf r) (hostTop r) m (s .machine .root) in
+    Holds (shadowArea (configOf r)) false (r .pools .shadow) m (leafAt (entryOf (configOf r) F) (longer (s .book .held))) F)
+    → r .guest .held .0 ≡ topBy (framesAt (configOf r) (hostTop r) m (s .machine .root) []) (find [] (s .book .held)) → Inv s r m
 invariant s r m fits word root maps area book valid marks shadow top = record {
   fits = fits-true r (length m) fits;
   word = word;
@@ -146,14 +144,14 @@ invariant s r m fits word root maps area book valid marks shadow top = record {
   book = book;
   valid = valid;
   marks = marks;
-  shadow = subst (λ x. let F = framesAt (configOf r) m x in Holds (shadowArea (configOf r)) false (r .shadow) m (leafAt (entryOf (configOf r) F) (longer (s .book .held))) F) (sym root) shadow;
-  top = subst (λ x. r .top ≡ topBy (framesAt (configOf r) m x []) (find [] (s .book .held))) (sym root) top;
+  shadow = subst (λ x. let F = framesAt (configOf r) (hostTop r) m x in Holds (shadowArea (configOf r)) false (r .pools .shadow) m (leafAt (entryOf (configOf r) F) (longer (s .book .held))) F) (sym root) shadow;
+  top = subst (λ x. r .guest .held .0 ≡ topBy (framesAt (configOf r) (hostTop r) m x []) (find [] (s .book .held))) (sym root) top;
 }
 
 -- the host frame of the root's guest table
-pub frame-root : (c : Config) (s : Machine) (m : List ℕ) → Stands c s m → s .root < 2 ^ frameBits c → framesAt c m (s .root) [] ≡ frameIn (lookup (s .root) (s .mappings))
+pub frame-root : (c : Config) (s : Machine) (ht : ℕ) (m : List ℕ) → Stands c s ht m → s .root < 2 ^ frameBits c → framesAt c ht m (s .root) [] ≡ frameIn (lookup (s .root) (s .mappings))
 unfolding frameAt memoryWorld
-frame-root c s m st b = ap (λ x. frameIn (placeOf x)) (st .tables (s .root) b) ∙ go (lookup (s .root) (s .mappings))
+frame-root c s ht m st b = ap (λ x. frameIn (placeOf x)) (st .tables (s .root) b) ∙ go (lookup (s .root) (s .mappings))
   where
     go : (o : Option Place) → frameIn (placeOf (answerBy (hostCost c (s .mappings) (s .root)) o)) ≡ frameIn o
     go none = refl
@@ -218,30 +216,30 @@ pub shadow-none : {r : Record} {len : ℕ} → Fits r len → (m : List ℕ) →
     → Holds (shadowArea (configOf r)) false noneOf m (leafAt w []) F
 shadow-none {r = r} f m e w F =
     let k = fits-room f in
-    holds-leaves (holds-none (shadowArea (configOf r)) F m (k .0) (omega arith) (omega (arith, e, k .1))) (leafAt w []) (λ y. sym (leaf-none w y))
+    holds-leaves (holds-none (shadowArea (configOf r)) F m (k .0) (omega (arith, f .sizes .deep)) (omega (arith, e, k .1))) (leafAt w []) (λ y. sym (leaf-none w y))
 
 -- the held paths that stay from one machine to the next
-pub shadow-on : {c : Config} {p : Pool} {o : List ℕ} (hs : List Held) (s t : Machine) (m n : List ℕ) → Stands c s m → Stands c t n
+pub shadow-on : {c : Config} {p : Pool} {o : List ℕ} (hs : List Held) (s t : Machine) (hm hn : ℕ) (m n : List ℕ) → Stands c s hm m → Stands c t hn n
     → s .root < 2 ^ frameBits c → t .root < 2 ^ frameBits c → c .frames ≤ 65536 → All (Stays c s t) hs
-    → Holds (shadowArea c) false p o (leafAt (entryOf c (framesAt c m (s .root))) (longer hs)) (framesAt c m (s .root))
-    → Holds (shadowArea c) false p o (leafAt (entryOf c (framesAt c n (t .root))) (longer hs)) (framesAt c n (t .root))
-shadow-on {c = c} hs s t m n sm tn bs bt few a h = holds-on (longer hs) s t m n sm tn bs bt few (all-longer (Stays c s t) hs a) h
+    → Holds (shadowArea c) false p o (leafAt (entryOf c (framesAt c hm m (s .root))) (longer hs)) (framesAt c hm m (s .root))
+    → Holds (shadowArea c) false p o (leafAt (entryOf c (framesAt c hn n (t .root))) (longer hs)) (framesAt c hn n (t .root))
+shadow-on {c = c} hs s t hm hn m n sm tn bs bt few a h = holds-on (longer hs) s t hm hn m n sm tn bs bt few (all-longer (Stays c s t) hs a) h
 
 -- the held frame of the path of no index stays too
-pub top-on : (c : Config) (hs : List Held) (s t : Machine) (m n : List ℕ) → Stands c s m → Stands c t n
+pub top-on : (c : Config) (hs : List Held) (s t : Machine) (hm hn : ℕ) (m n : List ℕ) → Stands c s hm m → Stands c t hn n
     → s .root < 2 ^ frameBits c → t .root < 2 ^ frameBits c → c .frames ≤ 65536 → All (Stays c s t) hs
-    → topBy (framesAt c m (s .root) []) (find [] hs) ≡ topBy (framesAt c n (t .root) []) (find [] hs)
-top-on c hs s t m n sm tn bs bt few a = go (find [] hs) refl
+    → topBy (framesAt c hm m (s .root) []) (find [] hs) ≡ topBy (framesAt c hn n (t .root) []) (find [] hs)
+top-on c hs s t hm hn m n sm tn bs bt few a = go (find [] hs) refl
   where
-    go : (o : Option Held) → find [] hs ≡ o → topBy (framesAt c m (s .root) []) o ≡ topBy (framesAt c n (t .root) []) o
+    go : (o : Option Held) → find [] hs ≡ o → topBy (framesAt c hm m (s .root) []) o ≡ topBy (framesAt c hn n (t .root) []) o
     go none e = refl
     go (some x) e =
         let v = find-all (Stays c s t) [] hs x a e in
-        let before = (valid-entry c s m sm bs few x (v .before)) .uses in
-        let after = (valid-entry c t n tn bt few x (v .after)) .uses in
+        let before = (valid-entry c s hm m sm bs few x (v .before)) .uses in
+        let after = (valid-entry c t hn n tn bt few x (v .after)) .uses in
         let roots : s .root ≡ t .root = head-eq-of-cons-eq (sym before ∙ after) in
         let found : lookup (t .root) (t .mappings) ≡ lookup (t .root) (s .mappings) = (subst (All (λ g. lookup g (t .mappings) ≡ lookup g (s .mappings))) after (v .mapped)) .0 in
-        frame-root c s m sm bs ∙ ap (λ g. frameIn (lookup g (s .mappings))) roots ∙ sym (ap frameIn found) ∙ sym (frame-root c t n tn bt)
+        frame-root c s hm m sm bs ∙ ap (λ g. frameIn (lookup g (s .mappings))) roots ∙ sym (ap frameIn found) ∙ sym (frame-root c t hn n tn bt)
 
 -- the invariant asks nothing of the configuration that a state carries
 pub at-inv : {c : Config} {s : State} {r : Record} {m : List ℕ} → Inv s r m → Inv (at c s) r m
@@ -261,9 +259,9 @@ pub record Moved (t : State) (r : Record) (e : After Reply) : Type 0 where
   pub next : Inv t (e .result .unit) (e .memory)
 
 -- after a drop
-pub dropped-left : {c : Config} {m : List ℕ} {lv guest : List ℕ → ℕ} {t : After Left} (d : Dropped c m lv guest t) (s : State) (r next : Record) (top : ℕ)
-    → configOf (withHeld next (d .pool) top) ≡ configOf r → Inv s (withHeld next (d .pool) top) (d .memory) → Moved s r (droppedBy r next top t)
-dropped-left d s r next top e h = rw (d .done) (record { config = e; says = refl; next = h })
+pub dropped-left : {c : Config} {m : List ℕ} {lv guest : List ℕ → ℕ} {t : After Left} (d : Dropped c m lv guest t) (s : State) (r next : Record) (f : HostPhysical)
+    → configOf (withHeld next (record { pool = d .pool; frame = f })) ≡ configOf r → Inv s (withHeld next (record { pool = d .pool; frame = f })) (d .memory) → Moved s r (droppedBy r next f t)
+dropped-left d s r next f e h = rw (d .done) (record { config = e; says = refl; next = h })
 
 -- machine and book after a call that is granted
 abbrev pub after : Config → Call → State → State

@@ -13,7 +13,9 @@ use Rattle.spec.specs.Answer.{Line}
 use Rattle.spec.specs.Config.{Config}
 use Rattle.spec.specs.Machine.{Machine}
 use Rattle.spec.specs.Book.{Book}
-use Rattle.spec.specs.Call.{Call, root, map, unmap, setMark, clearMark, load, store, device, Outcome, ok, done, value, fault, machineStep}
+use Rattle.spec.specs.declared.Call.{Call}
+use Rattle.spec.specs.declared.Call.the-variants.{Root as root, Map as map, Unmap as unmap, SetMark as setMark, ClearMark as clearMark, Load as load, Store as store, Device as device}
+use Rattle.spec.specs.Call.{Outcome, ok, done, value, fault, machineStep}
 use Rattle.spec.specs.Count.{bookStep}
 use Rattle.spec.specs.Refusal.{tests, refusal}
 use Rattle.spec.specs.Run.{State, lineOf, answered, step, run, opened}

@@ -10,10 +10,8 @@ use borrow.Author.Tests.{ne-eqb}
 use lib.ListN.{length}
 use Rattle.spec.specs.declared.Answer.the-variants as answer
 use Rattle.spec.specs.Answer.{line}
-use Rattle.spec.specs.Config.{Config}
 use Rattle.spec.specs.Run.{opened, opening}
 use Rattle.laws.proofs.Runs.{opened-fits}
-use Rattle.tree.specs.Run.{get}
 use Rattle.tree.specs.Host.{hostMap}
 use Rattle.tree.proofs.Claim.{leaves}
 use Rattle.tree.proofs.Whole.{holds-leaves}
@@ -27,7 +25,7 @@ use Rattle.record.proofs.Rules.{granted-sized}
 use Rattle.record.proofs.Opening.{refused-opening, refused-open, granted-opening, granted-open, granted-fits, granted-guest, granted-host, granted-shadow}
 use Rattle.drops.proofs.Held.{leafAt, leaf-none}
 use Rattle.drops.proofs.Valid.{framesAt, entryOf}
-use Rattle.unit.specs.Calls.{ended, refused, openCall}
+use Rattle.unit.specs.Calls.{hostTop, ended, refused, openCall}
 use Rattle.claims.proofs.Invariant.{Inv}
 
 -- "a refused one returns one of zeros"
@@ -49,10 +47,10 @@ open-says m h s = go (ℕ-discrete (refusalOf (length m) h s) 0)
 
 -- "It starts with the opening's H, S and guest area, nothing mapped, root 0"
 module _ (m : List ℕ) (h s : ℕ) (grant : refusalOf (length m) h s ≡ 0) where
-  maps : let k = grantedOf m h s in Maps (configBy (length m) h s) [] (k .result .host) (k .memory)
+  maps : let k = grantedOf m h s in Maps (configBy (length m) h s) [] (k .result .pools .host) (k .memory)
   maps = record {
     deep = omega arith;
-    few = granted-sized (length m) h s grant .frames;
+    few = granted-sized (length m) h s grant .0 .frames;
     holds = holds-leaves (granted-host m h s grant) (leaves (hostMap (configBy (length m) h s) [])) (no-leaves (configBy (length m) h s));
     frames = tt;
     inside = tt;
@@ -62,7 +60,7 @@ module _ (m : List ℕ) (h s : ℕ) (grant : refusalOf (length m) h s ≡ 0) whe
   unfolding grantedOf firstOf tableOf
   opened-inv =
       let c = configBy (length m) h s in
-      let F = framesAt c (grantedOf m h s .memory) 0 in
+      let F = framesAt c (hostTop (grantedOf m h s .result)) (grantedOf m h s .memory) 0 in
       record {
         fits = granted-fits m h s grant;
         word = omega arith;

@@ -1,9 +1,9 @@
--- The indexes of an address in its two parts, and a walk above level 1.
+-- The indexes of an address in its two parts, a walk above level 1, and the reply of a request by its translation.
 -- Assumes nothing.
-use mathlib.Core.Path.{_≡_, refl, sym, ap, ap₂, _∙_, subst}
-use Prim.Native.Nat.{ℕ, zero, suc, pred, _+_, _-_, _*_, _/_, _^_, _<_, _≤_}
+use mathlib.Core.Path.{_≡_, refl, sym, ap, _∙_}
+use Prim.Native.Nat.{ℕ, pred, _+_, _-_, _*_, _/_, _^_, _<_, _≤_}
 use native.Mathlib.Omega.{arith}
-use mathlib.Core.Bool.{Bool, true, false, _&&_}
+use mathlib.Core.Bool.{Bool, true, false, _&&_, cond}
 use mathlib.Core.List.{List, [], _∷_, _++_}
 use lib.Dec.{eqb}
 use borrow.Author.Tests.{ne-eqb}
@@ -12,17 +12,26 @@ use lib.Seq.{drop-append-seam}
 use Rattle.spec.specs.declared.Fault.{Fault}
 use Rattle.spec.specs.declared.Fault.the-variants as fault
 use Rattle.spec.specs.Config.{Config}
-use Rattle.spec.specs.Entry.{index, indexes, pageOf}
-use Rattle.spec.specs.Walk.{Walk, Result, granted, failed, _>>=_}
+use Rattle.spec.specs.Entry.{indexes, pageOf}
+use Rattle.spec.specs.Walk.{Result, granted, failed, _>>=_}
 use Rattle.spec.specs.Plain.{Place, entry, next, levels, walk, hosted, upper}
 use Rattle.spec.specs.Call.{addressIndexes}
 use Rattle.spec.specs.Count.{hostExit}
-use Rattle.laws.proofs.Lists.{All}
 use Rattle.laws.proofs.Bind.{bind-cong}
 use Rattle.laws.proofs.Indexes.{indexes-length, indexes-split, indexes-take}
-use Rattle.entry.proofs.Entries.{index-fits}
 use Rattle.walk.proofs.Stands.{plainWalked}
 use Rattle.request.specs.Translate.{exitBy, pathIndexes}
+use Rattle.request.specs.Access.{loadBy, storeBy, serving, refused}
+use Rattle.request.specs.declared.Held.{Held as Holding}
+use Rattle.request.specs.declared.Put.{Put}
+use Rattle.request.specs.declared.Translated.{Translated}
+use Rattle.spec.specs.declared.Answer.the-variants as answer
+use Rattle.walk.specs.declared.Walked.{Walked}
+use Rattle.words.specs.After.{After}
+use Rattle.record.specs.declared.Record.{Record}
+use Rattle.record.specs.Record.{configOf}
+use Rattle.unit.specs.declared.Reply.{Reply}
+use Rattle.unit.specs.Calls.{heldOf, servedBy}
 
 -- the path of an address at depth d, and the indexes below it
 pub path-upper : (c : Config) (d a : ℕ) → d ≤ c .levels → upper c d (addressIndexes c a) ≡ pathIndexes c d a
@@ -67,3 +76,16 @@ exit-is (failed (fault.Malformed l)) n = refl
 exit-is (failed (fault.Protected l)) n = refl
 exit-is (failed (fault.HostAbsent g)) n = refl
 exit-is (failed (fault.HostReadOnly g)) n = refl
+
+-- ---- the replies of requests, by their translation
+
+abbrev pub loadedBy : Record → ℕ → After Translated → Walked → After Reply
+loadedBy r a o w = servedBy r (loadBy (heldOf r) a o w)
+
+abbrev pub storedBy : Record → ℕ → ℕ → After Translated → Walked → After Reply
+storedBy r a v o w = servedBy r (storeBy (configOf r) (heldOf r) a v o w)
+
+-- a store that came to its word, by whether the drops before it met no damage
+abbrev pub writtenIn : Record → Holding → ℕ → ℕ → After Put → Bool → After Reply
+writtenIn r h n e x b =
+    servedBy r (cond b (serving (record { pool = x .result .pool; frame = h .frame }) (answer.Done n (e + x .result .exits)) (x .memory)) (refused (heldOf r) 11 (x .memory)))

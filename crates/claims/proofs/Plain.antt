@@ -3,6 +3,7 @@
 -- Assumes nothing.
 use mathlib.Core.Path.{_≡_, refl, sym, ap, ap₂, _∙_, subst}
 use Prim.Native.Nat.{ℕ, suc, _+_, _*_, _≤_}
+use native.Mathlib.Nat.{le-of-eq, mul-le-mul}
 use native.Mathlib.Omega.{arith}
 use mathlib.Core.Bool.{Bool, true, false}
 use mathlib.Core.List.{List}
@@ -19,7 +20,9 @@ use Rattle.spec.specs.Walk.{Result, granted, failed}
 use Rattle.spec.specs.Plain.{Place, walk}
 use Rattle.spec.specs.Machine.{Machine, place, wordIn}
 use Rattle.spec.specs.Book.{depth}
-use Rattle.spec.specs.Call.{Call, load, store, addressIndexes, plain, access}
+use Rattle.spec.specs.declared.Call.{Call}
+use Rattle.spec.specs.declared.Call.the-variants.{Load as load, Store as store}
+use Rattle.spec.specs.Call.{addressIndexes, plain, access}
 use Rattle.spec.specs.Count.{Counted, request, storing}
 use Rattle.spec.specs.Run.{State, lineOf, step, after, opened}
 use Rattle.laws.proofs.Counts.{request-count}
@@ -31,13 +34,13 @@ use Rattle.walk.specs.Memory.{walkedOf}
 use Rattle.walk.proofs.Stands.{plainWalked, same-word, root-walked}
 use Rattle.marks.proofs.Book.{depth-book}
 use Rattle.record.specs.declared.Record.{Record}
-use Rattle.record.specs.Record.{levels, configOf, configBy}
+use Rattle.record.specs.Record.{configOf, configBy}
 use Rattle.record.specs.Open.{refusalOf}
-use Rattle.unit.specs.Calls.{refused, addressOk, depthAt, loadOf, storeCall}
-use Rattle.claims.specs.Run.{callOf, guestArea, runOf}
+use Rattle.unit.specs.Calls.{hostTop, rootOf, refused, addressOk, depthAt, loadCall, storeCall, callOf}
+use Rattle.claims.specs.Run.{guestArea, runOf}
 use Rattle.claims.proofs.Invariant.{Inv, at}
 use Rattle.laws.proofs.Indexes.{indexes-all}
-use Rattle.claims.proofs.Found.{memory-stands, root-small}
+use Rattle.claims.proofs.Found.{rules, memory-stands, root-small}
 use Rattle.claims.proofs.Requests.{page-in, fits-of, load-step, store-step}
 use Rattle.claims.proofs.Demands.{follows, after-run}
 use Rattle.words.specs.After.{After}
@@ -64,14 +67,14 @@ touched (some v) area k = set area k v
 
 -- the plain two-level walk of a over the guest's and the host's tables as they stand in the memory
 abbrev pub plainWalk : Record → List ℕ → Bool → ℕ → Walked
-plainWalk r m st a = walkedOf (configOf r) m 0 (walk (configOf r) st (r .root) (indexes (configOf r .levels) (pageOf a)))
+plainWalk r m st a = walkedOf (configOf r) (hostTop r) m 0 (walk (configOf r) st (rootOf r) (indexes (configOf r .levels) (pageOf a)))
 
 -- e is what a request leaves that is granted at its word of host frame t. "A granted request reads (4 − d) + 5d words": N + N·d with
 -- the depth d of its address, and at most 24 with four levels
 pub record Granted (r : Record) (m : List ℕ) (a : ℕ) (v : Option ℕ) (e : After Reply) (t : ℕ) : Type 0 where
   pub exits : ℕ
-  pub says : line (e .result .answer) ≡ grantedLine v (words.wordIn m t (wordOf a)) (levels + levels * depthAt r a) exits
-  pub most : levels + levels * depthAt r a ≤ levels + levels * suc levels
+  pub says : line (e .result .answer) ≡ grantedLine v (words.wordIn m t (wordOf a)) (configOf r .levels + configOf r .levels * depthAt r a) exits
+  pub most : configOf r .levels + configOf r .levels * depthAt r a ≤ configOf r .levels + configOf r .levels * suc (configOf r .levels)
   pub area : guestArea r (e .memory) ≡ touched v (guestArea r m) (place (configOf r) t (wordOf a))
 
 -- and one that meets the fault y
@@ -105,24 +108,24 @@ module _ (s : State) (r : Record) (m : List ℕ) (inv : Inv s r m) where
   plain-is : (st : Bool) (a : ℕ) → plainWalk r m st a ≡ plainWalked ((plain c mach st a) .result) ((plain c mach st a) .count)
   unfolding plain
   plain-is st a =
-      ap (λ x. walkedOf c m 0 (walk c st x (addressIndexes c a))) (inv .root)
-      ∙ root-walked c mach m (memory-stands s r m inv) st (mach .root) (addressIndexes c a) (root-small s r m inv) (indexes-all (c .levels) (pageOf a))
+      ap (λ x. walkedOf c (hostTop r) m 0 (walk c st x (addressIndexes c a))) (inv .root)
+      ∙ root-walked c mach (hostTop r) m (memory-stands s r m inv) st (mach .root) (addressIndexes c a) (root-small s r m inv) (indexes-all (c .levels) (pageOf a))
 
   module _ (a : ℕ) (ok : addressOk r a ≡ true) where
     deep : depthAt r a ≡ depth (s .book .marks) (addressIndexes c a)
-    deep = depth-book c (r .marks) (s .book) (omega arith) (inv .word) (inv .marks) a (fits-of s r m inv a ok)
+    deep = depth-book c (r .guest .marks) (s .book) (let z = rules s r m inv .sizes .deep in omega arith) (inv .word) (inv .marks) a (fits-of s r m inv a ok)
 
     -- the book's count before a word is stored
     abbrev cost : Bool → Counted
     cost st = request c mach (s .book) st a (depth (s .book .marks) (addressIndexes c a))
 
-    reads : (st : Bool) (p : Place) → (plain c mach st a) .result ≡ granted p → (cost st) .references ≡ levels + levels * depthAt r a
+    reads : (st : Bool) (p : Place) → (plain c mach st a) .result ≡ granted p → (cost st) .references ≡ c .levels + c .levels * depthAt r a
     reads st p e =
         request-count c mach (s .book) st a (depth (s .book .marks) (addressIndexes c a)) p (depth-bound (c .levels) (s .book .marks) (addressIndexes c a) (inv .book .marks)) e
-        ∙ ap (λ d. levels + levels * d) (sym deep)
+        ∙ ap (λ d. c .levels + c .levels * d) (sym deep)
 
-    few : levels + levels * depthAt r a ≤ levels + levels * suc levels
-    few = let l = depth-bound (c .levels) (s .book .marks) (addressIndexes c a) (inv .book .marks) in omega (arith, deep, l)
+    few : c .levels + c .levels * depthAt r a ≤ c .levels + c .levels * suc (c .levels)
+    few = let l = depth-bound (c .levels) (s .book .marks) (addressIndexes c a) (inv .book .marks) in let k : c .levels * depthAt r a ≤ c .levels * suc (c .levels) = mul-le-mul (le-of-eq refl) (omega (arith, deep, l)) in omega (arith, k)
 
     -- the specification's step, by the walk's result
     abbrev stepBy : Option ℕ → Result Fault Place → Line × List ℕ
@@ -154,7 +157,7 @@ module _ (s : State) (r : Record) (m : List ℕ) (inv : Inv s r m) where
     unfolding access storing
     granted-by none p q =
         let d = does none (granted p) q in
-        let w = same-word c mach m (memory-stands s r m inv) (p .0) (wordOf a) (page-in s r m inv false a p q) in
+        let w = same-word c mach (hostTop r) m (memory-stands s r m inv) (p .0) (wordOf a) (page-in s r m inv false a p q) in
         record {
           exits = (cost false) .exits;
           says = ap (λ o. o .0) d ∙ ap₂ (λ x n. say.value x n ((cost false) .exits)) (sym w) (reads false p q);
@@ -190,7 +193,7 @@ module _ (s : State) (r : Record) (m : List ℕ) (inv : Inv s r m) where
 
   -- an address that does not fit is refused
   unfit-refused : (a : ℕ) (v : Option ℕ) → addressOk r a ≡ false → callOf (requestAt a v) r m ≡ refused r 4 m
-  unfolding callOf loadOf storeCall
+  unfolding callOf loadCall storeCall
   unfit-refused a none q = rw (inv .fits, q)
   unfit-refused a (some v) q = rw (inv .fits, q)
 

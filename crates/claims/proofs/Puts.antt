@@ -1,32 +1,31 @@
 -- A store to a word of the guest area, with the paths that it drops, is the machine's store and the book's drop.
 -- Assumes nothing.
 use mathlib.Core.Path.{_≡_, refl, sym, ap, ap₂, _∙_, subst}
-use mathlib.Core.Logic.{_≢_, _⊎_, inl, inr}
-use Prim.Native.Nat.{ℕ, _+_, _-_, _*_, _^_, _<_, _≤_}
+use mathlib.Core.Logic.{inr}
+use Prim.Native.Nat.{ℕ, _+_, _-_, _*_, _<_, _≤_}
 use native.Mathlib.Omega.{arith}
 use mathlib.Core.Bool.{Bool, true, false, not, _&&_, _||_, cond}
 use mathlib.Core.List.{List, [], _∷_}
-use mathlib.Core.Option.{Option, none, some}
-use lib.Dec.{T, eqb, eqb-refl, ltb}
+use mathlib.Core.Option.{none}
+use lib.Dec.{T, eqb, ltb}
 use lib.ListN.{length, drop, set, length-set}
 use lib.Seq.{drop-set-add}
-use borrow.Author.Tests.{lt-ltb, le-ltb, ltb-false}
-use Rattle.spec.specs.Config.{Config, guestBase, frameBits}
-use Rattle.spec.specs.Prefix.{any, keep}
+use borrow.Author.Tests.{ltb-false}
+use Rattle.spec.specs.Config.{Config, guestBase}
+use Rattle.spec.specs.Prefix.{any}
 use Rattle.spec.specs.Machine.{Machine, Mapping, place, stored}
-use Rattle.spec.specs.Book.{Held, Book, find, holding, dropWord, watched, readsFrame, readsWord}
+use Rattle.spec.specs.Book.{Held, find, holding, dropWord, watched, readsFrame, readsWord}
 use Rattle.spec.specs.Count.{one}
 use Rattle.spec.specs.Run.{State}
-use Rattle.laws.proofs.Lists.{All, all-map, all-keep, all-both, is-true, is-false, or-cases}
+use Rattle.laws.proofs.Lists.{All, all-map, all-keep}
 use Rattle.laws.proofs.Trail.{readsFrom}
 use Rattle.laws.proofs.Keeps.{Valid}
-use Rattle.laws.proofs.Runs.{BookFits, kept-fits}
+use Rattle.laws.proofs.Runs.{kept-fits}
 use Rattle.words.specs.Words.{setIn}
 use Rattle.area.specs.declared.Pool.{Pool}
 use Rattle.tree.proofs.Stores.{Beside, beside-refl}
 use Rattle.tree.proofs.Whole.{Holds, holds-store}
 use Rattle.host.specs.Walk.{page}
-use Rattle.host.specs.Map.{hostArea}
 use Rattle.host.proofs.Laws.{InGuestArea}
 use Rattle.host.proofs.Mapping.{Maps}
 use Rattle.walk.proofs.Stands.{Stands}
@@ -36,17 +35,19 @@ use Rattle.record.proofs.Rules.{Fits}
 use Rattle.shadow.specs.declared.Cut.the-variants.{Word}
 use Rattle.shadow.specs.Held.{shadowArea}
 use Rattle.shadow.specs.Cut.{watchedOf}
-use Rattle.shadow.specs.Drop.{outcome, scanOf}
+use Rattle.shadow.specs.Drop.{scanOf}
 use Rattle.drops.proofs.Scan.{Dropped}
-use Rattle.drops.proofs.Held.{leafAt, HeldEntry}
+use Rattle.drops.proofs.Held.{leafAt}
 use Rattle.drops.proofs.Watch.{watched-is}
 use Rattle.drops.proofs.Drops.{drop-word, empty-word, empty-frame}
 use Rattle.drops.proofs.Valid.{framesAt, entryOf, valid-entry, Stays, stays-store}
-use Rattle.request.specs.Store as put
-use Rattle.request.specs.Store.{storeOf, writtenBy}
-use Rattle.unit.specs.Calls.{withHeld}
+use Rattle.request.specs.Access as put
+use Rattle.request.specs.Access.{putOf, putBy}
+use Rattle.record.specs.Record.{headTables}
+use Rattle.record.proofs.Rules.{holds-pool}
+use Rattle.unit.specs.Calls.{hostTop, headHeld, withHeld}
 use Rattle.claims.proofs.Invariant.{longer, topBy, frames, Inv, stands}
-use Rattle.claims.proofs.Moves.{holds-pool, fits-held, maps-beside, shadow-drop, invariant, shadow-on, longer-keep, all-kept, find-keep, inv-shadow, inv-top, frame-root}
+use Rattle.claims.proofs.Moves.{fits-held, maps-beside, shadow-drop, invariant, shadow-on, longer-keep, find-keep, inv-top, frame-root}
 use Rattle.claims.proofs.Found as found
 use Rattle.words.specs.After.{After}
 use Rattle.request.specs.declared.Put.{Put}
@@ -120,7 +121,7 @@ pub record Puts (s : State) (r : Record) (t i v : ℕ) (x : After Put) : Type 0 
   pub pool : Pool
   pub memory : List ℕ
   pub done : x ≡ put.stored pool (one (watched t (s .book .held))) true memory
-  pub next : Inv (record { config = configOf r; machine = stored (configOf r) (s .machine) t i v; book = holding (s .book) (dropWord t i (s .book .held)) }) (withHeld r pool (r .top)) memory
+  pub next : Inv (record { config = configOf r; machine = stored (configOf r) (s .machine) t i v; book = holding (s .book) (dropWord t i (s .book .held)) }) (withHeld r (record { pool = pool; frame = r .guest .held })) memory
 
 module _ (s : State) (r : Record) (m : List ℕ) (inv : Inv s r m) (t i v : ℕ) (word : i < 512) (there : InGuestArea (configOf r) t) where
   abbrev c : Config
@@ -129,40 +130,43 @@ module _ (s : State) (r : Record) (m : List ℕ) (inv : Inv s r m) (t i v : ℕ)
   abbrev mach : Machine
   mach = s .machine
 
+  abbrev ht : ℕ
+  ht = hostTop r
+
   abbrev kept : List Held
   kept = dropWord t i (s .book .held)
 
   -- the path of no index reads no word
-  empty-reads : All (λ (h : Held). h .path ≡ [] → h .reads ≡ readsFrom (framesAt c m (mach .root)) [] (h .path)) (s .book .held)
+  empty-reads : All (λ (h : Held). h .path ≡ [] → h .reads ≡ readsFrom (framesAt c ht m (mach .root)) [] (h .path)) (s .book .held)
   empty-reads = all-map (Valid c mach) _ (s .book .held)
-      (λ h k e. (valid-entry c mach m (found.memory-stands s r m inv) (found.root-small s r m inv) (found.few s r m inv) h k) .reads) (inv .valid)
+      (λ h k e. (valid-entry c mach ht m (found.memory-stands s r m inv) (found.root-small s r m inv) (found.few s r m inv) h k) .reads) (inv .valid)
 
-  watched-same : watchedOf c m (r .shadow .fresh) t ≡ watched t (s .book .held)
+  watched-same : watchedOf c m (r .pools .shadow .fresh) t ≡ watched t (s .book .held)
   watched-same =
       watched-is (inv .shadow) (found.held-entries s r m inv) t
-      ∙ watched-longer t (s .book .held) (all-map _ _ (s .book .held) (λ h k e. empty-frame h e (framesAt c m (mach .root)) (k e) t) empty-reads)
+      ∙ watched-longer t (s .book .held) (all-map _ _ (s .book .held) (λ h k e. empty-frame h e (framesAt c ht m (mach .root)) (k e) t) empty-reads)
 
   -- from shadow tables that hold the kept paths, and a memory that differs in them alone, to the invariant after the store
   stored-next : (p : Pool) (n : List ℕ) → Beside (shadowArea c) m n
       → Holds (shadowArea c) false p n (leafAt (entryOf c (frames r m)) (longer kept)) (frames r m)
-      → Inv (record { config = c; machine = stored c mach t i v; book = holding (s .book) kept }) (withHeld r p (r .top)) (setIn n t i v)
-  unfolding withHeld
+      → Inv (record { config = c; machine = stored c mach t i v; book = holding (s .book) kept }) (withHeld r (record { pool = p; frame = r .guest .held })) (setIn n t i v)
+  unfolding headHeld headTables
   stored-next p n b h =
-      invariant (record { config = c; machine = stored c mach t i v; book = holding (s .book) kept }) (withHeld r p (r .top)) (setIn n t i v)
-      (subst (Fits (withHeld r p (r .top))) (sym (length-set n (t * 512 + i) v ∙ b .len)) (fits-held (found.rules s r m inv) p (r .top) (holds-pool h) (found.rules s r m inv .top)))
+      invariant (record { config = c; machine = stored c mach t i v; book = holding (s .book) kept }) (withHeld r (record { pool = p; frame = r .guest .held })) (setIn n t i v)
+      (subst (Fits (withHeld r (record { pool = p; frame = r .guest .held }))) (sym (length-set n (t * 512 + i) v ∙ b .len)) (fits-held (found.rules s r m inv) (record { pool = p; frame = r .guest .held }) (holds-pool h) (found.rules s r m inv .held)))
       (inv .word) (inv .root) maps area (kept-fits c (s .book) (λ h. not (readsWord t i h)) (inv .book)) (all-map (Stays c mach (stored c mach t i v)) _ kept (λ h k. k .after) stays) (inv .marks)
-      (shadow-on kept mach (stored c mach t i v) m (setIn n t i v) (found.memory-stands s r m inv) now (found.root-small s r m inv) (found.root-small s r m inv) (found.few s r m inv) stays
-      (holds-store (subst (λ x. Holds (shadowArea c) false p n (leafAt (entryOf c (framesAt c m x)) (longer kept)) (framesAt c m x)) (inv .root) h) t i v word (inr (there .0))))
+      (shadow-on kept mach (stored c mach t i v) ht ht m (setIn n t i v) (found.memory-stands s r m inv) now (found.root-small s r m inv) (found.root-small s r m inv) (found.few s r m inv) stays
+      (holds-store (subst (λ x. Holds (shadowArea c) false p n (leafAt (entryOf c (framesAt c ht m x)) (longer kept)) (framesAt c ht m x)) (inv .root) h) t i v word (inr (there .0))))
       top
     where
-      maps : Maps c (mach .mappings) (r .host) (setIn n t i v)
+      maps : Maps c (mach .mappings) (r .pools .host) (setIn n t i v)
       maps = maps-store c t i v word (let k = there .0 in omega arith) (maps-beside c b (inv .maps))
 
       area : drop (512 * guestBase c) (setIn n t i v) ≡ set (mach .area) (place c t i) v
       area = area-store c n t i v (there .0) ∙ ap (λ xs. set xs (place c t i) v) (shadow-drop c b ∙ inv .area)
 
-      now : Stands c (stored c mach t i v) (setIn n t i v)
-      now = stands c (stored c mach t i v) (r .host) (setIn n t i v) maps area
+      now : Stands c (stored c mach t i v) ht (setIn n t i v)
+      now = stands c (stored c mach t i v) (r .pools .host) (setIn n t i v) maps area
 
       stays : All (Stays c mach (stored c mach t i v)) kept
       stays = all-map (λ h. Valid c mach h × T (not (readsWord t i h))) _ kept
@@ -171,35 +175,35 @@ module _ (s : State) (r : Record) (m : List ℕ) (inv : Inv s r m) (t i v : ℕ)
 
       same-find : find [] kept ≡ find [] (s .book .held)
       same-find = find-keep (λ h. not (readsWord t i h)) (s .book .held)
-          (all-map _ _ (s .book .held) (λ h k e. ap not (empty-word h e (framesAt c m (mach .root)) (k e) t i)) empty-reads)
+          (all-map _ _ (s .book .held) (λ h k e. ap not (empty-word h e (framesAt c ht m (mach .root)) (k e) t i)) empty-reads)
 
-      top : r .top ≡ topBy (framesAt c (setIn n t i v) (mach .root) []) (find [] kept)
-      top = inv-top inv ∙ ap₂ topBy (frame-root c mach m (found.memory-stands s r m inv) (found.root-small s r m inv) ∙ sym (frame-root c (stored c mach t i v) (setIn n t i v) now (found.root-small s r m inv))) (sym same-find)
+      top : r .guest .held .0 ≡ topBy (framesAt c ht (setIn n t i v) (mach .root) []) (find [] kept)
+      top = inv-top inv ∙ ap₂ topBy (frame-root c mach ht m (found.memory-stands s r m inv) (found.root-small s r m inv) ∙ sym (frame-root c (stored c mach t i v) ht (setIn n t i v) now (found.root-small s r m inv))) (sym same-find)
 
-  pub puts : Puts s r t i v (storeOf c m (r .shadow) t i v)
-  unfolding storeOf
+  pub puts : Puts s r t i v (putOf c m (r .pools .shadow) t i v)
+  unfolding putOf
   puts = go (watched t (s .book .held)) refl
     where
-      scanned : Dropped c m (leafAt (entryOf c (frames r m)) (dropWord t i (longer (s .book .held)))) (frames r m) (scanOf c (Word (page t) i) (r .shadow) m)
+      scanned : Dropped c m (leafAt (entryOf c (frames r m)) (dropWord t i (longer (s .book .held)))) (frames r m) (scanOf c (Word (page t) i) (r .pools .shadow) m)
       scanned = drop-word (inv .shadow) (found.held-entries s r m inv) t i word
 
       tables : List Held → Type 0
-      tables l = Holds (shadowArea c) false (r .shadow) m (leafAt (entryOf c (frames r m)) l) (frames r m)
+      tables l = Holds (shadowArea c) false (r .pools .shadow) m (leafAt (entryOf c (frames r m)) l) (frames r m)
 
       go : (b : Bool) → watched t (s .book .held) ≡ b
-          → Puts s r t i v (cond (watchedOf c m (r .shadow .fresh) t) (writtenBy (r .shadow) t i v (scanOf c (Word (page t) i) (r .shadow) m)) (put.stored (r .shadow) 0 true (setIn m t i v)))
+          → Puts s r t i v (cond (watchedOf c m (r .pools .shadow .fresh) t) (putBy (r .pools .shadow) t i v (scanOf c (Word (page t) i) (r .pools .shadow) m)) (put.stored (r .pools .shadow) 0 true (setIn m t i v)))
       go true e = record {
         pool = scanned .pool;
         memory = setIn (scanned .memory) t i v;
-        done = ap (λ b. cond b (writtenBy (r .shadow) t i v (scanOf c (Word (page t) i) (r .shadow) m)) (put.stored (r .shadow) 0 true (setIn m t i v))) (watched-same ∙ e)
-            ∙ ap (writtenBy (r .shadow) t i v) (scanned .done) ∙ ap (λ b. put.stored (scanned .pool) (one b) true (setIn (scanned .memory) t i v)) (sym e);
+        done = ap (λ b. cond b (putBy (r .pools .shadow) t i v (scanOf c (Word (page t) i) (r .pools .shadow) m)) (put.stored (r .pools .shadow) 0 true (setIn m t i v))) (watched-same ∙ e)
+            ∙ ap (putBy (r .pools .shadow) t i v) (scanned .done) ∙ ap (λ b. put.stored (scanned .pool) (one b) true (setIn (scanned .memory) t i v)) (sym e);
         next = stored-next (scanned .pool) (scanned .memory) (scanned .beside)
             (subst (λ l. Holds (shadowArea c) false (scanned .pool) (scanned .memory) (leafAt (entryOf c (frames r m)) l) (frames r m)) (sym (longer-keep (λ h. not (readsWord t i h)) (s .book .held))) (scanned .holds));
       }
       go false e = record {
-        pool = r .shadow;
+        pool = r .pools .shadow;
         memory = setIn m t i v;
-        done = ap (λ b. cond b (writtenBy (r .shadow) t i v (scanOf c (Word (page t) i) (r .shadow) m)) (put.stored (r .shadow) 0 true (setIn m t i v))) (watched-same ∙ e)
-            ∙ ap (λ b. put.stored (r .shadow) (one b) true (setIn m t i v)) (sym e);
-        next = stored-next (r .shadow) m (beside-refl (shadowArea c) m) (subst tables (ap longer (sym (drop-unwatched t i (s .book .held) e))) (inv .shadow));
+        done = ap (λ b. cond b (putBy (r .pools .shadow) t i v (scanOf c (Word (page t) i) (r .pools .shadow) m)) (put.stored (r .pools .shadow) 0 true (setIn m t i v))) (watched-same ∙ e)
+            ∙ ap (λ b. put.stored (r .pools .shadow) (one b) true (setIn m t i v)) (sym e);
+        next = stored-next (r .pools .shadow) m (beside-refl (shadowArea c) m) (subst tables (ap longer (sym (drop-unwatched t i (s .book .held) e))) (inv .shadow));
       }

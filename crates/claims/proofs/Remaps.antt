@@ -5,7 +5,7 @@ use mathlib.Core.Logic.{_≢_, _⊎_, inl, inr}
 use Prim.Native.Nat.{ℕ, pred, _*_, _^_, _<_, _≤_}
 use native.Mathlib.Omega.{arith}
 use borrow.Author.Tests.{ltb-true, leb-false, eqb-true, eqb-false, ne-eqb}
-use mathlib.Core.Bool.{Bool, true, false, not, _||_, cond}
+use mathlib.Core.Bool.{Bool, true, false, not, cond}
 use mathlib.Core.List.{List, [], _∷_}
 use mathlib.Core.Option.{Option, none, some}
 use lib.Dec.{T, eqb, leb}
@@ -20,7 +20,8 @@ use Rattle.spec.specs.Walk.{Walk, World, Trace, granted, trace}
 use Rattle.spec.specs.Plain.{Place, hosted, levels, walk}
 use Rattle.spec.specs.Machine.{Machine, Mapping, lookup, isMapped, with, without, hostTables, hostCost, remapped, world}
 use Rattle.spec.specs.Book.{Held, find, holding, usesMapping, dropMapping}
-use Rattle.spec.specs.Call.{root, map, unmap, machineStep}
+use Rattle.spec.specs.declared.Call.the-variants.{Root as root, Map as map, Unmap as unmap}
+use Rattle.spec.specs.Call.{machineStep}
 use Rattle.spec.specs.Count.{bookStep}
 use Rattle.spec.specs.Refusal.{firstFailed, frameFits, inGuestArea, tests, refusal}
 use Rattle.spec.specs.Run.{State}
@@ -36,7 +37,7 @@ use Rattle.area.specs.Pool.{noneOf}
 use Rattle.area.specs.Tree.{insertOf}
 use Rattle.area.specs.Remove.{removeOf}
 use Rattle.tree.specs.Host.{hostEntry}
-use Rattle.tree.proofs.Change.{some-inj, not-some, differ}
+use Rattle.tree.proofs.Change.{some-inj, not-some}
 use Rattle.tree.proofs.Stores.{Beside, beside-refl, beside-place}
 use Rattle.tree.proofs.Whole.{Holds, holds-beside}
 use Rattle.tree.proofs.Hosts.{host-full, host-absent}
@@ -46,8 +47,9 @@ use Rattle.host.proofs.Laws.{InGuestArea}
 use Rattle.host.proofs.Mapping.{Maps, Step, answerBy, answerOf, walk-is, map-is, unmap-is, unmapped-lookup}
 use Rattle.walk.proofs.Stands.{Stands}
 use Rattle.record.specs.declared.Record.{Record}
-use Rattle.record.specs.Record.{configOf, withRoot}
-use Rattle.record.proofs.Rules.{Fits, fits-root}
+use Rattle.record.specs.Record.{configOf, headOf, headRoot, headTables, withHead}
+use Rattle.record.proofs.Rules.{Fits, fits-root, holds-pool, holds-top}
+use Rattle.request.specs.declared.Held.{Held as Holding}
 use Rattle.shadow.specs.declared.Cut.the-variants.{Names}
 use Rattle.shadow.specs.Held.{shadowArea}
 use Rattle.shadow.specs.Drop.{scanOf}
@@ -55,10 +57,10 @@ use Rattle.drops.proofs.Scan.{Dropped}
 use Rattle.drops.proofs.Held.{leafAt, HeldEntry, HeldEntries}
 use Rattle.drops.proofs.Drops.{namedIn, guestFrame, mapping-all, drop-mapping, empty-mapping}
 use Rattle.drops.proofs.Valid.{framesAt, entryOf, valid-entries, Stays, stays-mapping}
-use Rattle.unit.specs.Calls.{ended, refused, withHeld, withHost, droppedBy, unmappedOf, mappedBy, rootCall, mapCall, unmapCall}
+use Rattle.unit.specs.Calls.{hostTop, headHeld, headHost, nothing, ended, refused, withHeld, withHost, droppedBy, unmappedOf, mappedBy, rootCall, mapCall, unmapCall}
 use Rattle.claims.proofs.Invariant.{longer, topBy, Inv, Follows, stands}
 use Rattle.shadow.specs.declared.Left.{Left}
-use Rattle.claims.proofs.Moves.{Moved, dropped-left, after, follows-no, follows-ok, after-fits, first-positive, invariant, inv-fits, inv-stands, inv-root, inv-shadow, inv-top, fits-held, fits-host, holds-pool, maps-beside, shadow-drop, host-drop, shadow-none, shadow-on, top-on, keep-all, longer-keep, all-longer, find-keep}
+use Rattle.claims.proofs.Moves.{Moved, dropped-left, after, follows-no, follows-ok, after-fits, first-positive, invariant, inv-fits, inv-stands, inv-root, inv-shadow, inv-top, fits-held, fits-host, maps-beside, shadow-drop, host-drop, shadow-none, shadow-on, top-on, keep-all, longer-keep, all-longer, find-keep}
 use Rattle.words.specs.After.{After}
 use Rattle.unit.specs.declared.Reply.{Reply}
 use Rattle.host.specs.declared.Change.{Change}
@@ -68,17 +70,17 @@ no-place e = let z : _≡_ {A = ℕ} 0 1 = cc in omega arith
 
 -- ---- root
 root-left : (s : State) (r : Record) (m : List ℕ) → Inv s r m → (g : ℕ) → frameFits (configOf r) g ≡ true
-    → Moved (after (configOf r) (root g) s) r (ended (withRoot (withHeld r noneOf 0) g) answer.Ok m)
-unfolding withHeld withRoot machineStep bookStep refusal tests
+    → Moved (after (configOf r) (root g) s) r (ended (withHead r (headRoot (headHeld (headOf r) nothing) g)) answer.Ok m)
+unfolding headHeld headTables headRoot machineStep bookStep refusal tests
 root-left s r m h g e =
     let f = inv-fits h in
-    let F = framesAt (configOf r) m g in
+    let F = framesAt (configOf r) (hostTop r) m g in
     let none = shadow-none f m refl (entryOf (configOf r) F) F in
     record {
       config = refl;
       says = refl;
-      next = invariant (after (configOf r) (root g) s) (withRoot (withHeld r noneOf 0) g) m
-          (fits-root (fits-held f noneOf 0 (holds-pool none) (inl refl)) g (ltb-true g (2 ^ frameBits (configOf r)) e))
+      next = invariant (after (configOf r) (root g) s) (withHead r (headRoot (headHeld (headOf r) nothing) g)) m
+          (fits-root (fits-held f nothing (holds-pool none) (inl refl)) g (ltb-true g (2 ^ frameBits (configOf r)) e))
           (h .word) refl (h .maps) (h .area) (after-fits (configOf r) (root g) s (rw e) (h .book)) tt (h .marks) none refl;
     }
 
@@ -87,7 +89,7 @@ pub root-follows : (s : State) (r : Record) (m : List ℕ) → Inv s r m → (g 
 unfolding rootCall refusal tests machineStep
 root-follows s r m h g = rw (h .fits) (go (frameFits (configOf r) g) refl)
   where
-    go : (b : Bool) → frameFits (configOf r) g ≡ b → Follows (root g) s r (cond b (ended (withRoot (withHeld r noneOf 0) g) answer.Ok m) (refused r 8 m))
+    go : (b : Bool) → frameFits (configOf r) g ≡ b → Follows (root g) s r (cond b (ended (withHead r (headRoot (headHeld (headOf r) nothing) g)) answer.Ok m) (refused r 8 m))
     go true e = follows-ok (root g) s r _ (rw e) refl (root-left s r m h g e)
     go false e = follows-no (root g) 8 h (rw e)
 
@@ -142,7 +144,7 @@ module _ (s : State) (r : Record) (m : List ℕ) (h : Inv s r m) (g : ℕ) (ys :
   left = dropMapping g held
 
   F : List ℕ → ℕ
-  F = framesAt (configOf r) m (s .machine .root)
+  F = framesAt (configOf r) (hostTop r) m (s .machine .root)
 
   staying : All (Stays c (s .machine) (remapped (s .machine) ys)) left
   unfolding c left held
@@ -150,50 +152,50 @@ module _ (s : State) (r : Record) (m : List ℕ) (h : Inv s r m) (g : ℕ) (ys :
       (all-keep (Valid c (s .machine)) (λ x. not (usesMapping g x)) held (h .valid))
 
   -- with shadow tables that hold what the drop leaves
-  moved : (q : Pool) (top : ℕ) (o : List ℕ) → Beside (shadowArea (configOf r)) n o → (top ≡ 0) ⊎ InGuestArea (configOf r) top
-      → Holds (shadowArea (configOf r)) false q o (leafAt (entryOf (configOf r) F) (longer left)) F → top ≡ topBy (F []) (find [] left)
-      → Inv changedState (withHeld (withHost r p) q top) o
-  unfolding withHeld withHost c left held F
-  moved q top o k fits holds is =
+  moved : (q : Holding) (o : List ℕ) → Beside (shadowArea (configOf r)) n o → (q .frame .0 ≡ 0) ⊎ InGuestArea (configOf r) (q .frame .0)
+      → Holds (shadowArea (configOf r)) false (q .pool) o (leafAt (entryOf (configOf r) F) (longer left)) F → q .frame .0 ≡ topBy (F []) (find [] left)
+      → Inv changedState (withHeld (withHost r p) q) o
+  unfolding headHeld headHost headTables c left held F
+  moved q o k fits holds is =
       let old = inv-fits h in
       let after : Maps c ys p o = maps-beside c k maps in
       let area = shadow-drop c k ∙ host-drop c beside ∙ h .area in
-      let now : Stands c (changedState .machine) o = stands c (changedState .machine) p o after area in
+      let now : Stands c (changedState .machine) (p .top) o = stands c (changedState .machine) p o after area in
       let few = h .maps .few in
       let long : length m ≡ length o = sym (k .len ∙ beside .len) in
-      invariant changedState (withHeld (withHost r p) q top) o
-      (subst (Fits (withHeld (withHost r p) q top)) long (fits-held (fits-host old p (holds-pool (after .holds))) q top (holds-pool holds) fits))
+      invariant changedState (withHeld (withHost r p) q) o
+      (subst (Fits (withHeld (withHost r p) q)) long (fits-held (fits-host old p (holds-pool (after .holds)) (holds-top (after .holds))) q (holds-pool holds) fits))
       (h .word) (h .root) after area book (all-map _ _ left (λ x v. v .after) staying) (h .marks)
-      (shadow-on left (s .machine) (changedState .machine) m o (inv-stands h) now (inv-root h) (inv-root h) few staying holds)
-      (is ∙ top-on c left (s .machine) (changedState .machine) m o (inv-stands h) now (inv-root h) (inv-root h) few staying)
+      (shadow-on left (s .machine) (changedState .machine) (hostTop r) (p .top) m o (inv-stands h) now (inv-root h) (inv-root h) few staying holds)
+      (is ∙ top-on c left (s .machine) (changedState .machine) (hostTop r) (p .top) m o (inv-stands h) now (inv-root h) (inv-root h) few staying)
 
   entries : (hs : List Held) → All (Valid (configOf r) (s .machine)) hs
       → HeldEntries (configOf r) F (namedIn m F) (s .machine .root) (entryOf (configOf r) F) hs
   unfolding F
-  entries hs a = valid-entries (configOf r) (s .machine) m (inv-stands h) (inv-root h) (h .maps .few) hs a
+  entries hs a = valid-entries (configOf r) (s .machine) (hostTop r) m (inv-stands h) (inv-root h) (h .maps .few) hs a
 
   -- "every one if the frame is the root's"
-  all-left : g ≡ s .machine .root → Inv changedState (withHeld (withHost r p) noneOf 0) n
+  all-left : g ≡ s .machine .root → Inv changedState (withHeld (withHost r p) nothing) n
   unfolding left held
   all-left e =
       let gone : dropMapping g held ≡ [] = ap (λ x. dropMapping x held) e ∙ mapping-all (entries held (h .valid)) in
-      moved noneOf 0 n (beside-refl (shadowArea (configOf r)) n) (inl refl)
+      moved nothing n (beside-refl (shadowArea (configOf r)) n) (inl refl)
       (subst (λ hs. Holds (shadowArea (configOf r)) false noneOf n (leafAt (entryOf (configOf r) F) (longer hs)) F) (sym gone)
       (shadow-none (inv-fits h) n (beside .len) (entryOf (configOf r) F) F))
       (sym (ap (λ hs. topBy (F []) (find [] hs)) gone))
 
   -- the shadow tables are as they were
-  shadow-stays : Holds (shadowArea (configOf r)) false (r .shadow) n (leafAt (entryOf (configOf r) F) (longer held)) F
+  shadow-stays : Holds (shadowArea (configOf r)) false (r .pools .shadow) n (leafAt (entryOf (configOf r) F) (longer held)) F
   unfolding F held
   shadow-stays = holds-beside (inv-shadow h) (hostArea (configOf r)) n (inr (omega arith)) beside
 
   -- nothing is dropped where the frame was not mapped
   none-left : lookup g (s .machine .mappings) ≡ none → Inv changedState (withHost r p) n
-  unfolding withHeld withHost left held F
+  unfolding headHeld headHost headTables left held F
   none-left e =
       let same : dropMapping g held ≡ held = keep-all _ held (all-map _ _ held (λ x v. ap not (valid-unused (configOf r) (s .machine) x v g e)) (h .valid)) in
-      moved (r .shadow) (r .top) n (beside-refl (shadowArea (configOf r)) n) (inv-fits h .top)
-      (subst (λ hs. Holds (shadowArea (configOf r)) false (r .shadow) n (leafAt (entryOf (configOf r) F) (longer hs)) F) (sym same) shadow-stays)
+      moved (record { pool = r .pools .shadow; frame = r .guest .held }) n (beside-refl (shadowArea (configOf r)) n) (inv-fits h .held)
+      (subst (λ hs. Holds (shadowArea (configOf r)) false (r .pools .shadow) n (leafAt (entryOf (configOf r) F) (longer hs)) F) (sym same) shadow-stays)
       (inv-top h ∙ sym (ap (λ hs. topBy (F []) (find [] hs)) same))
 
   -- the guest entries on a held path are not in the host area
@@ -219,31 +221,31 @@ module _ (s : State) (r : Record) (m : List ℕ) (h : Inv s r m) (g : ℕ) (ys :
       }
 
   -- the path of no index uses the root's mapping alone
-  top-stays : g ≢ s .machine .root → r .top ≡ topBy (F []) (find [] left)
+  top-stays : g ≢ s .machine .root → r .guest .held .0 ≡ topBy (F []) (find [] left)
   unfolding F left held
   top-stays n = inv-top h ∙ sym (ap (topBy (F [])) (find-keep (λ x. not (usesMapping g x)) held
       (all-map _ _ held (λ x e q. ap not (empty-mapping x q (namedIn m F) (s .machine .root) (e .uses) g ∙ ne-eqb g (s .machine .root) n)) ((entries held (h .valid)) .all))))
 
   -- the paths that used the mapping go, and no other
   scan-left : g ≢ s .machine .root
-      → Moved changedState r (droppedBy r (withHost r p) (r .top) (scanOf (configOf r) (Names (guestFrame g)) (r .shadow) n))
-  unfolding withHeld withHost left held
+      → Moved changedState r (droppedBy r (withHost r p) (r .guest .held) (scanOf (configOf r) (Names (guestFrame g)) (r .pools .shadow) n))
+  unfolding headHeld headHost headTables left held
   scan-left other = go (drop-mapping shadow-stays entries-after g other)
     where
-      go : {t : After Left} → Dropped (configOf r) n (leafAt (entryOf (configOf r) F) (dropMapping g (longer held))) F t → Moved changedState r (droppedBy r (withHost r p) (r .top) t)
-      go d = dropped-left d changedState r (withHost r p) (r .top) refl
-          (moved (d .pool) (r .top) (d .memory) (d .beside) (inv-fits h .top)
+      go : {t : After Left} → Dropped (configOf r) n (leafAt (entryOf (configOf r) F) (dropMapping g (longer held))) F t → Moved changedState r (droppedBy r (withHost r p) (r .guest .held) t)
+      go d = dropped-left d changedState r (withHost r p) (r .guest .held) refl
+          (moved (record { pool = d .pool; frame = r .guest .held }) (d .memory) (d .beside) (inv-fits h .held)
           (subst (λ hs. Holds (shadowArea (configOf r)) false (d .pool) (d .memory) (leafAt (entryOf (configOf r) F) hs) F) (sym (longer-keep (λ x. not (usesMapping g x)) held)) (d .holds))
           (top-stays other))
 
-  unmapped-left : Moved changedState r (unmappedOf r (withHost r p) n g)
-  unfolding unmappedOf withHeld withHost
-  unmapped-left = go (eqb g (r .root)) refl
+  unmapped-left : Moved changedState r (unmappedOf r p n g)
+  unfolding unmappedOf headHeld headHost headTables
+  unmapped-left = go (eqb g (r .guest .root .0)) refl
     where
-      go : (b : Bool) → eqb g (r .root) ≡ b
-          → Moved changedState r (cond b (ended (withHeld (withHost r p) noneOf 0) answer.Ok n) (droppedBy r (withHost r p) (r .top) (scanOf (configOf r) (Names (guestFrame g)) (r .shadow) n)))
-      go true e = record { config = refl; says = refl; next = all-left (eqb-true g (r .root) e ∙ h .root) }
-      go false e = scan-left (λ k. eqb-false g (r .root) e (k ∙ sym (h .root)))
+      go : (b : Bool) → eqb g (r .guest .root .0) ≡ b
+          → Moved changedState r (cond b (ended (withHeld (withHost r p) nothing) answer.Ok n) (droppedBy r (withHost r p) (r .guest .held) (scanOf (configOf r) (Names (guestFrame g)) (r .pools .shadow) n)))
+      go true e = record { config = refl; says = refl; next = all-left (eqb-true g (r .guest .root .0) e ∙ h .root) }
+      go false e = scan-left (λ k. eqb-false g (r .guest .root .0) e (k ∙ sym (h .root)))
 
 -- ---- a refusal leaves the host tables
 module _ (c : Config) (xs : List Mapping) (p : Pool) (m : List ℕ) (h : Maps c xs p m) (n g : ℕ) where
@@ -277,15 +279,15 @@ module _ (c : Config) (xs : List Mapping) (p : Pool) (m : List ℕ) (h : Maps c 
 -- ---- map and unmap
 module _ (s : State) (r : Record) (m : List ℕ) (h : Inv s r m) (g : ℕ) where
   -- a frame that fits is walked as the mapping says
-  walked : T (frameFits (configOf r) g) → hostWalkOf (configOf r) m g ≡ answerOf (configOf r) (s .machine .mappings) g
-  walked a = walk-is (configOf r) (s .machine .mappings) (r .host) m (h .maps) g (ltb-true g (2 ^ frameBits (configOf r)) (is-true (frameFits (configOf r) g) a))
+  walked : T (frameFits (configOf r) g) → hostWalkOf (configOf r) (hostTop r) m g ≡ answerOf (configOf r) (s .machine .mappings) g
+  walked a = walk-is (configOf r) (s .machine .mappings) (r .pools .host) m (h .maps) g (ltb-true g (2 ^ frameBits (configOf r)) (is-true (frameFits (configOf r) g) a))
 
   -- "A mapped frame is mapped anew": then the paths that used its mapping go
   module _ (f : ℕ) (w : Bool) where
     mapped-left : (p : Pool) (n : List ℕ) → Maps (configOf r) (with g f w (s .machine .mappings)) p n → Beside (hostArea (configOf r)) m n
         → refusal (configOf r) (map g f w) (s .machine) (s .book) ≡ none
         → Moved (after (configOf r) (map g f w) s) r (mappedBy r p n g (answerOf (configOf r) (s .machine .mappings) g))
-    unfolding machineStep bookStep withHost
+    unfolding machineStep bookStep headHost headTables
     mapped-left p n hosts beside e = go (lookup g (s .machine .mappings)) refl
       where
         others : (y : ℕ) → (y ≡ g → ⊥) → lookup y (with g f w (s .machine .mappings)) ≡ lookup y (s .machine .mappings)
@@ -305,16 +307,16 @@ module _ (s : State) (r : Record) (m : List ℕ) (h : Inv s r m) (g : ℕ) where
     map-follows = rw (h .fits) (go (refusal (configOf r) (map g f w) (s .machine) (s .book)) refl)
       where
         over : After Change → After Reply
-        over t = cond (eqb (t .result .refusal) 0) (mappedBy r (t .result .pool) (t .memory) g (hostWalkOf (configOf r) m g)) (refused r (t .result .refusal) (t .memory))
+        over t = cond (eqb (t .result .refusal) 0) (mappedBy r (t .result .pool) (t .memory) g (hostWalkOf (configOf r) (hostTop r) m g)) (refused r (t .result .refusal) (t .memory))
 
-        go : (o : Option ℕ) → refusal (configOf r) (map g f w) (s .machine) (s .book) ≡ o → Follows (map g f w) s r (over (mapOf (configOf r) (r .host) m g f w))
+        go : (o : Option ℕ) → refusal (configOf r) (map g f w) (s .machine) (s .book) ≡ o → Follows (map g f w) s r (over (mapOf (configOf r) (r .pools .host) m g f w))
         go (some n) e =
             let positive = first-positive (tests (configOf r) (map g f w) (s .machine) (s .book)) n (omega arith, (omega arith, (omega arith, tt))) e in
-            rw (map-refused (configOf r) (s .machine .mappings) (r .host) m (h .maps) n g f w e, ne-eqb n 0 (λ z. omega arith)) (follows-no (map g f w) n h e)
+            rw (map-refused (configOf r) (s .machine .mappings) (r .pools .host) m (h .maps) n g f w e, ne-eqb n 0 (λ z. omega arith)) (follows-no (map g f w) n h e)
         go none e =
-            let t : Step (configOf r) (with g f w (s .machine .mappings)) (r .host) m 0 (mapOf (configOf r) (r .host) m g f w) =
-            subst (λ o. Step (configOf r) (mappingBy o (maps g f w) (s .machine .mappings)) (r .host) m (numberBy o) (mapOf (configOf r) (r .host) m g f w)) e
-            (map-is (configOf r) (s .machine .mappings) (r .host) m (h .maps) g f w) in
+            let t : Step (configOf r) (with g f w (s .machine .mappings)) (r .pools .host) m 0 (mapOf (configOf r) (r .pools .host) m g f w) =
+            subst (λ o. Step (configOf r) (mappingBy o (maps g f w) (s .machine .mappings)) (r .pools .host) m (numberBy o) (mapOf (configOf r) (r .pools .host) m g f w)) e
+            (map-is (configOf r) (s .machine .mappings) (r .pools .host) m (h .maps) g f w) in
             let a = all-passed (tests (configOf r) (map g f w) (s .machine) (s .book)) e in
             rw (t .done, walked (a .0))
             (follows-ok (map g f w) s r _ e refl (mapped-left (t .pool) (t .memory) (t .stands) (t .beside) e))
@@ -322,7 +324,7 @@ module _ (s : State) (r : Record) (m : List ℕ) (h : Inv s r m) (g : ℕ) where
   unmapped-all : (p : Pool) (n : List ℕ) → Maps (configOf r) (without g (s .machine .mappings)) p n → Beside (hostArea (configOf r)) m n
       → refusal (configOf r) (unmap g) (s .machine) (s .book) ≡ none → (o : Option Place) → lookup g (s .machine .mappings) ≡ o
       → Moved (after (configOf r) (unmap g) s) r (mappedBy r p n g (answerBy (hostCost (configOf r) (s .machine .mappings) g) o))
-  unfolding machineStep bookStep withHost
+  unfolding machineStep bookStep headHost headTables
   unmapped-all p n hosts beside e none q = record {
     config = refl;
     says = refl;
@@ -336,16 +338,16 @@ module _ (s : State) (r : Record) (m : List ℕ) (h : Inv s r m) (g : ℕ) where
   unmap-follows = rw (h .fits) (go (refusal (configOf r) (unmap g) (s .machine) (s .book)) refl)
     where
       over : After Change → After Reply
-      over t = cond (eqb (t .result .refusal) 0) (mappedBy r (t .result .pool) (t .memory) g (hostWalkOf (configOf r) m g)) (refused r (t .result .refusal) (t .memory))
+      over t = cond (eqb (t .result .refusal) 0) (mappedBy r (t .result .pool) (t .memory) g (hostWalkOf (configOf r) (hostTop r) m g)) (refused r (t .result .refusal) (t .memory))
 
-      go : (o : Option ℕ) → refusal (configOf r) (unmap g) (s .machine) (s .book) ≡ o → Follows (unmap g) s r (over (unmapOf (configOf r) (r .host) m g))
+      go : (o : Option ℕ) → refusal (configOf r) (unmap g) (s .machine) (s .book) ≡ o → Follows (unmap g) s r (over (unmapOf (configOf r) (r .pools .host) m g))
       go (some n) e =
           let positive = first-positive (tests (configOf r) (unmap g) (s .machine) (s .book)) n (omega arith, (omega arith, tt)) e in
-          rw (unmap-refused (configOf r) (s .machine .mappings) (r .host) m (h .maps) n g e, ne-eqb n 0 (λ z. omega arith)) (follows-no (unmap g) n h e)
+          rw (unmap-refused (configOf r) (s .machine .mappings) (r .pools .host) m (h .maps) n g e, ne-eqb n 0 (λ z. omega arith)) (follows-no (unmap g) n h e)
       go none e =
-          let t : Step (configOf r) (without g (s .machine .mappings)) (r .host) m 0 (unmapOf (configOf r) (r .host) m g) =
-          subst (λ o. Step (configOf r) (mappingBy o (unmaps g) (s .machine .mappings)) (r .host) m (numberBy o) (unmapOf (configOf r) (r .host) m g)) e
-          (unmap-is (configOf r) (s .machine .mappings) (r .host) m (h .maps) g) in
+          let t : Step (configOf r) (without g (s .machine .mappings)) (r .pools .host) m 0 (unmapOf (configOf r) (r .pools .host) m g) =
+          subst (λ o. Step (configOf r) (mappingBy o (unmaps g) (s .machine .mappings)) (r .pools .host) m (numberBy o) (unmapOf (configOf r) (r .pools .host) m g)) e
+          (unmap-is (configOf r) (s .machine .mappings) (r .pools .host) m (h .maps) g) in
           let a = all-passed (tests (configOf r) (unmap g) (s .machine) (s .book)) e in
           rw (t .done, walked (a .0))
           (follows-ok (unmap g) s r _ e refl (unmapped-all (t .pool) (t .memory) (t .stands) (t .beside) e (lookup g (s .machine .mappings)) refl))

@@ -1,14 +1,12 @@
 -- Loads, stores and device stores follow the specification's step.
 -- Assumes nothing.
-use mathlib.Core.Path.{_≡_, refl, sym, ap, ap₂, _∙_, subst}
-use Prim.Native.Nat.{ℕ, _+_, _-_, _*_, _%_, _/_, _^_, _<_, _≤_}
+use mathlib.Core.Path.{_≡_, refl, sym, ap, _∙_, subst}
+use Prim.Native.Nat.{ℕ, _+_, _-_, _^_, _<_}
 use native.Mathlib.Nat.{zero-add, add-comm}
-use native.Mathlib.Omega.{arith}
-use mathlib.Core.Bool.{Bool, true, false, not, _&&_, _||_, cond}
+use mathlib.Core.Bool.{Bool, true, false, cond}
 use mathlib.Core.List.{List, [], _∷_}
-use mathlib.Core.Option.{Option, none, some}
-use lib.Dec.{T, eqb, ltb, ltb→lt}
-use lib.ListN.{length}
+use mathlib.Core.Option.{none, some}
+use lib.Dec.{T, ltb, ltb→lt}
 use lib.Pow.{shr-lt}
 use Rattle.spec.specs.declared.Fault.{Fault}
 use Rattle.spec.specs.declared.Fault.the-variants.{HostReadOnly}
@@ -16,40 +14,40 @@ use Rattle.spec.specs.declared.Answer.{Answer}
 use Rattle.spec.specs.declared.Answer.the-variants as answer
 use Rattle.spec.specs.Answer as say
 use Rattle.spec.specs.Answer.{Line, line, faultLine}
-use Rattle.spec.specs.Config.{Config, guestBase, frameBits}
-use Rattle.spec.specs.Entry.{wordOf, pageOf, indexes}
-use Rattle.spec.specs.Walk.{Walk, World, Trace, Result, granted, failed, trace, _>>_}
-use Rattle.spec.specs.Plain.{Place, must, hosted, next, walk}
+use Rattle.spec.specs.Config.{Config, frameBits}
+use Rattle.spec.specs.Entry.{wordOf, pageOf}
+use Rattle.spec.specs.Walk.{Walk, Trace, Result, granted, failed, trace, _>>_}
+use Rattle.spec.specs.Plain.{Place, must, hosted, next}
 use Rattle.spec.specs.Machine.{Machine, world, wordIn, stored}
-use Rattle.spec.specs.Book.{Book, depth, holding, dropWord, watched}
-use Rattle.spec.specs.Call.{Call, load, store, device, addressIndexes, Outcome, plain, deviceWalk, access, machineStep}
+use Rattle.spec.specs.Book.{depth, holding, dropWord, watched}
+use Rattle.spec.specs.declared.Call.{Call}
+use Rattle.spec.specs.declared.Call.the-variants.{Load as load, Store as store, Device as device}
+use Rattle.spec.specs.Call.{addressIndexes, plain, deviceWalk, access, machineStep}
 use Rattle.spec.specs.Count.{Counted, one, hostExit, request, storing, unshadowed, bookStep}
 use Rattle.spec.specs.Refusal.{firstFailed, addressFits, deviceFits, wordAligned, tests, refusal}
 use Rattle.spec.specs.Run.{State, lineOf, answered, step}
-use Rattle.laws.proofs.Lists.{All, and-left, is-true}
+use Rattle.laws.proofs.Lists.{and-left, is-true}
 use Rattle.laws.proofs.Keeps.{shadow-asked}
-use Rattle.laws.proofs.Asks.{Asked, asks-trace, AnswerIn, FaultFits, Guest, asks-bind, hosted-asks}
+use Rattle.laws.proofs.Asks.{asks-trace, AnswerIn, FaultFits, Guest, asks-bind, hosted-asks}
 use Rattle.words.specs.Words as words
 use Rattle.entry.proofs.Entries.{word-fits}
-use Rattle.area.specs.declared.Pool.{Pool}
 use Rattle.host.proofs.Laws.{InGuestArea}
-use Rattle.walk.specs.declared.Walked.{Walked}
 use Rattle.walk.specs.Memory.{walkedOf}
 use Rattle.walk.proofs.Stands.{Stands, plainWalked, same-word, stands-walked}
 use Rattle.record.specs.declared.Record.{Record}
-use Rattle.record.specs.Record.{configOf, fitsOf}
+use Rattle.record.specs.Record.{configOf}
 use Rattle.request.specs.Translate.{translation, exitBy}
 use Rattle.request.proofs.Device.{deviceScript, device-script}
-use Rattle.request.specs.Store as put
-use Rattle.request.specs.Store.{storeOf}
-use Rattle.unit.specs.Calls.{ended, refused, judged, withHeld, addressOk, deviceOk, translatedOf, heldAfter, loadBy, loadOf, writtenBy, storeBy, storeCall, deviceBy, deviceCall}
+use Rattle.record.specs.Record.{headTables}
+use Rattle.request.specs.Access.{loadBy, loadOf, writtenBy, storeBy, storeOf, deviceBy, deviceOf}
+use Rattle.unit.specs.Calls.{hostTop, heldOf, headHeld, ended, refused, judged, withHeld, servedBy, addressOk, deviceOk, translatedOf, loadCall, storeCall, deviceCall}
 use Rattle.claims.proofs.Invariant.{Inv, Follows, stands, at}
 use Rattle.claims.proofs.Paths.{exit-is}
 use Rattle.laws.proofs.Indexes.{indexes-all}
 use Rattle.claims.proofs.Found as found
 use Rattle.claims.proofs.Moves.{at-inv}
 use Rattle.claims.proofs.Translates.{Translates, translates}
-use Rattle.claims.proofs.Puts.{Puts, puts}
+use Rattle.claims.proofs.Puts.{puts}
 use Rattle.words.specs.After.{After, yields}
 use Rattle.request.specs.declared.Translated.{Translated}
 use Rattle.unit.specs.declared.Reply.{Reply}
@@ -71,6 +69,9 @@ module _ (s : State) (r : Record) (m : List ℕ) (inv : Inv s r m) where
   abbrev mach : Machine
   mach = s .machine
 
+  abbrev ht : ℕ
+  ht = hostTop r
+
   -- a call with one test, which fails with 4
   tested : (x : Call) (b : Bool) (y : After Reply) → refusal c x mach (s .book) ≡ firstFailed ((b, 4) ∷ []) → (b ≡ true → Follows x s r y) → Follows x s r (cond b y (refused r 4 m))
   unfolding step
@@ -88,9 +89,9 @@ module _ (s : State) (r : Record) (m : List ℕ) (inv : Inv s r m) where
   fits-of a ok = is-true (addressFits c a) (and-left (addressFits c a) (wordAligned a) (subst T (sym ok) tt))
 
   -- what memory a translation leaves stands for the machine still
-  after-stands : (st : Bool) (a : ℕ) (k : Counted) (o : After Translated) (t : Translates s r m st a k o) → Stands c mach (t .memory)
-  unfolding withHeld
-  after-stands st a k o t = stands c mach (r .host) (t .memory) (t .next .maps) (t .next .area)
+  after-stands : (st : Bool) (a : ℕ) (k : Counted) (o : After Translated) (t : Translates s r m st a k o) → Stands c mach ht (t .memory)
+  unfolding headHeld headTables
+  after-stands st a k o t = stands c mach (r .pools .host) (t .memory) (t .next .maps) (t .next .area)
 
   -- ---- load
   module _ (a : ℕ) where
@@ -104,10 +105,10 @@ module _ (s : State) (r : Record) (m : List ℕ) (inv : Inv s r m) where
     load-step ok = ap (λ b. answered (load a) (at c s) (firstFailed ((b, 4) ∷ []))) ok
 
     loaded : addressOk r a ≡ true → (x : Result Fault Place) → (plain c mach false a) .result ≡ x
-        → Follows (load a) s r (loadBy r a (translatedOf r m false a) (translatedOf r m false a .result .walked))
-    unfolding access withHeld
+        → Follows (load a) s r (servedBy r (loadBy (heldOf r) a (translatedOf r m false a) (translatedOf r m false a .result .walked)))
+    unfolding access headHeld headTables
     loaded ok x e =
-        subst (Follows (load a) s r) (sym (ap (λ (o : After Translated). loadBy r a o (o .result .walked)) (t .done) ∙ ap (λ y. loadBy r a (left y) (plainWalked y (k .references))) e)) (by x e)
+        subst (Follows (load a) s r) (sym (ap (λ (o : After Translated). servedBy r (loadBy (heldOf r) a o (o .result .walked))) (t .done) ∙ ap (λ y. servedBy r (loadBy (heldOf r) a (left y) (plainWalked y (k .references)))) e)) (by x e)
       where
         k : Counted
         k = costs false
@@ -116,21 +117,21 @@ module _ (s : State) (r : Record) (m : List ℕ) (inv : Inv s r m) where
         t = translates s r m inv false a (fits-of a ok)
 
         left : Result Fault Place → After Translated
-        left y = yields (translation (t .pool) (t .top) (k .exits) (plainWalked y (k .references))) (t .memory)
+        left y = yields (translation (t .held) (k .exits) (plainWalked y (k .references))) (t .memory)
 
-        by : (y : Result Fault Place) → (plain c mach false a) .result ≡ y → Follows (load a) s r (loadBy r a (left y) (plainWalked y (k .references)))
+        by : (y : Result Fault Place) → (plain c mach false a) .result ≡ y → Follows (load a) s r (servedBy r (loadBy (heldOf r) a (left y) (plainWalked y (k .references))))
         by (failed y) q =
-            follows-by (load a) s (record { config = c; machine = mach; book = k .book }) r (withHeld r (t .pool) (t .top)) (answer.Faulted y (k .references) (k .exits)) (faultLine y (k .references) (k .exits)) (t .memory)
+            follows-by (load a) s (record { config = c; machine = mach; book = k .book }) r (withHeld r (t .held)) (answer.Faulted y (k .references) (k .exits)) (faultLine y (k .references) (k .exits)) (t .memory)
             (load-step ok ∙ ap (λ z. (lineOf ((access c mach (wordOf a) none z) .0) (k .references) (k .exits), record { config = c; machine = (access c mach (wordOf a) none z) .1; book = k .book })) q)
             refl refl (t .next)
         by (granted p) q =
-            follows-by (load a) s (record { config = c; machine = mach; book = k .book }) r (withHeld r (t .pool) (t .top)) (answer.Value (words.wordIn (t .memory) (p .0) (wordOf a)) (k .references) (k .exits))
+            follows-by (load a) s (record { config = c; machine = mach; book = k .book }) r (withHeld r (t .held)) (answer.Value (words.wordIn (t .memory) (p .0) (wordOf a)) (k .references) (k .exits))
             (say.value (wordIn c mach (p .0) (wordOf a)) (k .references) (k .exits)) (t .memory)
             (load-step ok ∙ ap (λ z. (lineOf ((access c mach (wordOf a) none z) .0) (k .references) (k .exits), record { config = c; machine = (access c mach (wordOf a) none z) .1; book = k .book })) q)
-            refl (ap (λ v. say.value v (k .references) (k .exits)) (same-word c mach (t .memory) (after-stands false a (costs false) (translatedOf r m false a) t) (p .0) (wordOf a) (page-in false a p q))) (t .next)
+            refl (ap (λ v. say.value v (k .references) (k .exits)) (same-word c mach ht (t .memory) (after-stands false a (costs false) (translatedOf r m false a) t) (p .0) (wordOf a) (page-in false a p q))) (t .next)
 
-    pub load-follows : Follows (load a) s r (loadOf r m a)
-    unfolding loadOf refusal tests
+    pub load-follows : Follows (load a) s r (loadCall r m a)
+    unfolding loadCall loadOf translatedOf refusal tests
     load-follows = judged-by (load a) s r m _ inv (tested (load a) (addressOk r a) _ refl (λ ok. loaded ok ((plain c mach false a) .result) refl))
 
     -- ---- store
@@ -144,10 +145,10 @@ module _ (s : State) (r : Record) (m : List ℕ) (inv : Inv s r m) where
       store-step ok = ap (λ b. answered (store a v) (at c s) (firstFailed ((b, 4) ∷ []))) ok
 
       stored-is : addressOk r a ≡ true → (x : Result Fault Place) → (plain c mach true a) .result ≡ x
-          → Follows (store a v) s r (storeBy r a v (translatedOf r m true a) (translatedOf r m true a .result .walked))
-      unfolding access withHeld storing
+          → Follows (store a v) s r (servedBy r (storeBy c (heldOf r) a v (translatedOf r m true a) (translatedOf r m true a .result .walked)))
+      unfolding access headHeld headTables storing
       stored-is ok x e =
-          subst (Follows (store a v) s r) (sym (ap (λ (o : After Translated). storeBy r a v o (o .result .walked)) (t .done) ∙ ap (λ y. storeBy r a v (left y) (plainWalked y (k .references))) e)) (by x e)
+          subst (Follows (store a v) s r) (sym (ap (λ (o : After Translated). servedBy r (storeBy c (heldOf r) a v o (o .result .walked))) (t .done) ∙ ap (λ y. servedBy r (storeBy c (heldOf r) a v (left y) (plainWalked y (k .references)))) e)) (by x e)
         where
           k : Counted
           k = costs true
@@ -156,21 +157,21 @@ module _ (s : State) (r : Record) (m : List ℕ) (inv : Inv s r m) where
           t = translates s r m inv true a (fits-of a ok)
 
           left : Result Fault Place → After Translated
-          left y = yields (translation (t .pool) (t .top) (k .exits) (plainWalked y (k .references))) (t .memory)
+          left y = yields (translation (t .held) (k .exits) (plainWalked y (k .references))) (t .memory)
 
-          by : (y : Result Fault Place) → (plain c mach true a) .result ≡ y → Follows (store a v) s r (storeBy r a v (left y) (plainWalked y (k .references)))
+          by : (y : Result Fault Place) → (plain c mach true a) .result ≡ y → Follows (store a v) s r (servedBy r (storeBy c (heldOf r) a v (left y) (plainWalked y (k .references))))
           by (failed y) q =
-              follows-by (store a v) s (record { config = c; machine = mach; book = k .book }) r (withHeld r (t .pool) (t .top)) (answer.Faulted y (k .references) (k .exits)) (faultLine y (k .references) (k .exits)) (t .memory)
+              follows-by (store a v) s (record { config = c; machine = mach; book = k .book }) r (withHeld r (t .held)) (answer.Faulted y (k .references) (k .exits)) (faultLine y (k .references) (k .exits)) (t .memory)
               (store-step ok ∙ ap (λ z. (
                 lineOf ((access c mach (wordOf a) (some v) z) .0) ((storing (wordOf a) z (costs true)) .references) ((storing (wordOf a) z (costs true)) .exits),
                 record { config = c; machine = (access c mach (wordOf a) (some v) z) .1; book = (storing (wordOf a) z (costs true)) .book },
               )) q)
               refl refl (t .next)
           by (granted p) q =
-              let u = puts (record { config = c; machine = mach; book = k .book }) (withHeld r (t .pool) (t .top)) (t .memory) (t .next) (p .0) (wordOf a) v (word-fits a) (page-in true a p q) in
-              subst (λ z. Follows (store a v) s r (writtenBy r (t .top) (k .references) (k .exits) z)) (sym (u .done))
+              let u = puts (record { config = c; machine = mach; book = k .book }) (withHeld r (t .held)) (t .memory) (t .next) (p .0) (wordOf a) v (word-fits a) (page-in true a p q) in
+              subst (λ z. Follows (store a v) s r (servedBy r (writtenBy (heldOf r) (t .held) (k .references) (k .exits) z))) (sym (u .done))
               (follows-by (store a v) s (record { config = c; machine = stored c mach (p .0) (wordOf a) v; book = holding (k .book) (dropWord (p .0) (wordOf a) (k .book .held)) }) r
-              (withHeld r (u .pool) (t .top)) (answer.Done (k .references) (k .exits + one (watched (p .0) (k .book .held)))) (say.done (k .references) (k .exits + one (watched (p .0) (k .book .held)))) (u .memory)
+              (withHeld r (record { pool = u .pool; frame = t .held .frame })) (answer.Done (k .references) (k .exits + one (watched (p .0) (k .book .held)))) (say.done (k .references) (k .exits + one (watched (p .0) (k .book .held)))) (u .memory)
               (store-step ok ∙ ap (λ z. (
                 lineOf ((access c mach (wordOf a) (some v) z) .0) ((storing (wordOf a) z (costs true)) .references) ((storing (wordOf a) z (costs true)) .exits),
                 record { config = c; machine = (access c mach (wordOf a) (some v) z) .1; book = (storing (wordOf a) z (costs true)) .book },
@@ -178,7 +179,7 @@ module _ (s : State) (r : Record) (m : List ℕ) (inv : Inv s r m) where
               refl refl (u .next))
 
       pub store-follows : Follows (store a v) s r (storeCall r m a v)
-      unfolding storeCall refusal tests
+      unfolding storeCall storeOf translatedOf refusal tests
       store-follows = judged-by (store a v) s r m _ inv (tested (store a v) (addressOk r a) _ refl (λ ok. stored-is ok ((plain c mach true a) .result) refl))
 
       -- ---- device store
@@ -205,11 +206,11 @@ module _ (s : State) (r : Record) (m : List ℕ) (inv : Inv s r m) where
 
       -- the walk over memory is the machine's host walk
       device-walked : deviceOk r a ≡ true
-          → walkedOf c m 0 (next true true (pageOf a) true) ≡ plainWalked ((deviceWalk c mach a) .result) ((deviceWalk c mach a) .count)
+          → walkedOf c ht m 0 (next true true (pageOf a) true) ≡ plainWalked ((deviceWalk c mach a) .result) ((deviceWalk c mach a) .count)
       unfolding deviceWalk
       device-walked ok =
-          ap (walkedOf c m 0) (device-script (pageOf a))
-          ∙ stands-walked c mach m (found.memory-stands s r m inv) 0 (deviceScript (pageOf a)) (λ q. InGuestArea c (q .0)) (device-asks (pageOf a) (device-small ok))
+          ap (walkedOf c ht m 0) (device-script (pageOf a))
+          ∙ stands-walked c mach ht m (found.memory-stands s r m inv) 0 (deviceScript (pageOf a)) (λ q. InGuestArea c (q .0)) (device-asks (pageOf a) (device-small ok))
           ∙ ap (plainWalked ((trace (world c mach) (deviceScript (pageOf a))) .result)) (zero-add ((trace (world c mach) (deviceScript (pageOf a))) .count))
 
       device-in : deviceOk r a ≡ true → (p : Place) → (deviceWalk c mach a) .result ≡ granted p → InGuestArea c (p .0)
@@ -219,10 +220,10 @@ module _ (s : State) (r : Record) (m : List ℕ) (inv : Inv s r m) where
           (device-asks (pageOf a) (device-small ok)) .grants p e
 
       device-is : deviceOk r a ≡ true → (x : Result Fault Place) → (deviceWalk c mach a) .result ≡ x
-          → Follows (device a v) s r (deviceBy r m a v (walkedOf c m 0 (next true true (pageOf a) true)))
-      unfolding access withHeld storing
+          → Follows (device a v) s r (servedBy r (deviceBy c m (heldOf r) a v (walkedOf c ht m 0 (next true true (pageOf a) true))))
+      unfolding access headHeld headTables storing
       device-is ok x e =
-          subst (λ y. Follows (device a v) s r (deviceBy r m a v y)) (sym (device-walked ok ∙ ap (λ y. plainWalked y (w .count)) e)) (by x e)
+          subst (λ y. Follows (device a v) s r (servedBy r (deviceBy c m (heldOf r) a v y))) (sym (device-walked ok ∙ ap (λ y. plainWalked y (w .count)) e)) (by x e)
         where
           w : Trace Fault Place
           w = deviceWalk c mach a
@@ -234,17 +235,17 @@ module _ (s : State) (r : Record) (m : List ℕ) (inv : Inv s r m) where
               → step (device a v) (at c s) ≡ (lineOf ((access c mach (wordOf a) (some v) y) .0) ((k y) .references) ((k y) .exits), record { config = c; machine = (access c mach (wordOf a) (some v) y) .1; book = (k y) .book })
           stepped y q = device-step ok ∙ ap (λ z. (lineOf ((access c mach (wordOf a) (some v) z) .0) ((k z) .references) ((k z) .exits), record { config = c; machine = (access c mach (wordOf a) (some v) z) .1; book = (k z) .book })) q
 
-          by : (y : Result Fault Place) → w .result ≡ y → Follows (device a v) s r (deviceBy r m a v (plainWalked y (w .count)))
+          by : (y : Result Fault Place) → w .result ≡ y → Follows (device a v) s r (servedBy r (deviceBy c m (heldOf r) a v (plainWalked y (w .count))))
           by (failed y) q =
               follows-by (device a v) s (at c s) r r (answer.Faulted y (w .count) (exitBy (plainWalked (failed y) (w .count)))) (faultLine y (w .count) (hostExit {A = Place} (failed y))) m
               (stepped (failed y) q) refl (ap (faultLine y (w .count)) (exit-is (failed y) (w .count))) (at-inv inv)
           by (granted p) q =
               let u = puts s r m inv (p .0) (wordOf a) v (word-fits a) (device-in ok p q) in
-              subst (λ z. Follows (device a v) s r (writtenBy r (r .top) (w .count) 0 z)) (sym (u .done))
+              subst (λ z. Follows (device a v) s r (servedBy r (writtenBy (heldOf r) (heldOf r) (w .count) 0 z))) (sym (u .done))
               (follows-by (device a v) s (record { config = c; machine = stored c mach (p .0) (wordOf a) v; book = holding (s .book) (dropWord (p .0) (wordOf a) (s .book .held)) }) r
-              (withHeld r (u .pool) (r .top)) (answer.Done (w .count) (0 + one (watched (p .0) (s .book .held)))) (say.done (w .count) (0 + one (watched (p .0) (s .book .held)))) (u .memory)
+              (withHeld r (record { pool = u .pool; frame = r .guest .held })) (answer.Done (w .count) (0 + one (watched (p .0) (s .book .held)))) (say.done (w .count) (0 + one (watched (p .0) (s .book .held)))) (u .memory)
               (stepped (granted p) q) refl refl (u .next))
 
       pub device-follows : Follows (device a v) s r (deviceCall r m a v)
-      unfolding deviceCall refusal tests
+      unfolding deviceCall deviceOf refusal tests
       device-follows = judged-by (device a v) s r m _ inv (tested (device a v) (deviceOk r a) _ refl (λ ok. device-is ok ((deviceWalk c mach a) .result) refl))

@@ -20,7 +20,8 @@ use Rattle.spec.specs.Config.{Config, guestBase}
 use Rattle.spec.specs.Entry.{present, pageOf, wordOf, indexes}
 use Rattle.spec.specs.Plain.{next}
 use Rattle.spec.specs.Machine.{place}
-use Rattle.spec.specs.Call.{Call, root, map, unmap, setMark, clearMark, load, store, device}
+use Rattle.spec.specs.declared.Call.{Call}
+use Rattle.spec.specs.declared.Call.the-variants.{Root as root, Map as map, Unmap as unmap, SetMark as setMark, ClearMark as clearMark, Load as load, Store as store, Device as device}
 use Rattle.spec.specs.Refusal.{firstFailed, frameFits, inGuestArea, wordsFit, areasFit, openRefusal}
 use Rattle.laws.proofs.Lists.{All}
 use Rattle.entry.proofs.Entries.{word-fits}
@@ -29,9 +30,9 @@ use Rattle.area.specs.declared.Pool.{Pool}
 use Rattle.area.specs.declared.Way.{Way}
 use Rattle.area.specs.declared.Way.the-variants.{To, Not, Bad}
 use Rattle.words.specs.Words.{at, setIn}
-use Rattle.area.specs.Header.{entryIn, putOf, bareOf}
-use Rattle.area.specs.Pool.{onWay, end, noneOf}
-use Rattle.area.specs.Tree.{roomOf, topOf, enterOf, descendOf, downOf, placeOf, insertOf}
+use Rattle.area.specs.Header.{entryIn, putOf as entryPut, bareOf}
+use Rattle.area.specs.Pool.{onWay, end, withTop, giveOf, backOf}
+use Rattle.area.specs.Tree.{roomOf, enterOf, descendOf, downOf, placeOf, insertOf}
 use Rattle.area.specs.Remove.{unhangOf, shutOf, releaseOf, lastOf, lastIndex, clearOf, removeOf}
 use Rattle.area.specs.Outside.{SameOutside}
 use Rattle.area.proofs.Outside.{indexes-narrow, out-refl, out-trans, insert-out, remove-out}
@@ -49,21 +50,25 @@ use Rattle.marks.specs.declared.Marks.{Marks}
 use Rattle.marks.specs.Key.{keyOf}
 use Rattle.marks.specs.Table.{number, withKey, withoutKey, setTests, setRefusal, clearTests, clearRefusal}
 use Rattle.record.specs.declared.Record.{Record}
-use Rattle.record.specs.Record.{levels, configOf, configBy, fitsOf, withRoot, withMarks, zeros}
+use Rattle.record.specs.Record.{configOf, configBy, fitsOf, guestFrame, headOf, headRoot, headTables, withHead, withMarks, zeros}
 use Rattle.record.specs.Open.{refusalOf}
 use Rattle.record.proofs.Rules.{Fits, fits-layout}
 use Rattle.record.proofs.Opening.{granted-long, granted-guest}
 use Rattle.shadow.specs.declared.Cut.the-variants.{Names}
 use Rattle.shadow.specs.Drop.{scanOf, dropPrefixOf}
 use Rattle.shadow.proofs.Outside.{scan-out, prefix-out}
-use Rattle.request.specs.Store.{storeOf}
+use Rattle.entry.specs.declared.HostPhysical.{HostPhysical}
+use Rattle.record.specs.declared.Head.{Head}
+use Rattle.request.specs.declared.Held.{Held as Holding}
+use Rattle.request.specs.Access.{loadOf, putOf, storeOf, deviceBy, deviceOf}
 use Rattle.request.proofs.Fits.{ArrivedIn}
-use Rattle.request.proofs.Leaves.{store-leaves}
+use Rattle.request.proofs.Leaves.{Leaves, translate-leaves, put-leaves}
 use Rattle.request.proofs.Device.{device-in}
-use Rattle.unit.specs.Calls.{ended, refused, judged, withHeld, withHost, addressOk, deviceOk, translatedOf, loadBy, loadOf, writtenBy, storeBy, storeCall, deviceBy, deviceCall, rootCall, droppedBy, unmappedOf, mappedBy, mapCall, unmapCall, topAfter, markedOf, keysOf, setMarkCall, clearMarkCall, openCall}
-use Rattle.unit.proofs.Ranges.{leaves}
-use Rattle.claims.specs.Run.{callOf, guestArea}
+use Rattle.unit.specs.Calls.{hostTop, heldOf, rootOf, headHeld, headHost, nothing, ended, refused, judged, withHeld, withHost, servedBy, addressOk, deviceOk, depthAt, translatedOf, loadCall, storeCall, deviceCall, rootCall, droppedBy, unmappedOf, mappedBy, mapCall, unmapCall, heldAfter, markedOf, callOf, keysOf, setMarkCall, clearMarkCall, openCall}
+use Rattle.unit.proofs.Ranges.{fits-held}
+use Rattle.claims.specs.Run.{guestArea}
 use Rattle.claims.proofs.Puts.{area-store}
+use Rattle.claims.proofs.Paths.{loadedBy, storedBy, writtenIn}
 use Rattle.claims.proofs.Opens.{granted-call, refused-call}
 use Rattle.words.specs.After.{After, yields}
 use Rattle.area.specs.declared.Went.{Went}
@@ -135,17 +140,22 @@ guest-kept : {r q : Record} {m n : List ℕ} {a : Answer} → configOf q ≡ con
 guest-kept {r} {m = m} {n = n} e x = record { layout = e; long = x .long; area = same-area r m n x }
 
 -- ---- the records that calls return
-held-layout : (r : Record) (p : Pool) (top : ℕ) → configOf (withHeld r p top) ≡ configOf r
-unfolding withHeld
-held-layout r p top = refl
+held-layout : (r : Record) (h : Holding) → configOf (withHeld r h) ≡ configOf r
+unfolding headHeld headTables
+held-layout r h = refl
+
+-- a request that leaves what was held leaves the record
+held-same : (r : Record) → withHeld r (heldOf r) ≡ r
+unfolding headHeld headTables
+held-same r = refl
 
 host-layout : (r : Record) (p : Pool) → configOf (withHost r p) ≡ configOf r
-unfolding withHost
+unfolding headHost headTables
 host-layout r p = refl
 
-root-layout : (r : Record) (g : ℕ) → configOf (withRoot r g) ≡ configOf r
-unfolding withRoot
-root-layout r g = refl
+root-layout : (r : Record) (h : Head) (g : ℕ) → configOf (withHead r (headRoot h g)) ≡ configOf (withHead r h)
+unfolding headRoot
+root-layout r h g = refl
 
 marks-layout : (r : Record) (t : Marks) → configOf (withMarks r t) ≡ configOf r
 unfolding withMarks
@@ -155,11 +165,11 @@ module _ (r : Record) (m : List ℕ) where
   none-changed : Tables r m m
   none-changed = out-refl 0 (guestBase (configOf r)) m
 
-  host-tables : (n : List ℕ) → SameOutside 0 (r .hosts) m n → Tables r m n
-  host-tables n x = wider 0 (r .hosts) (guestBase (configOf r)) m n (omega arith) x
+  host-tables : (n : List ℕ) → SameOutside 0 (r .layout .hosts) m n → Tables r m n
+  host-tables n x = wider 0 (r .layout .hosts) (guestBase (configOf r)) m n (omega arith) x
 
-  shadow-tables : (n : List ℕ) → SameOutside (r .hosts) (r .shadows) m n → Tables r m n
-  shadow-tables n x = wider (r .hosts) (r .shadows) (guestBase (configOf r)) m n (omega arith) x
+  shadow-tables : (n : List ℕ) → SameOutside (r .layout .hosts) (r .layout .shadows) m n → Tables r m n
+  shadow-tables n x = wider (r .layout .hosts) (r .layout .shadows) (guestBase (configOf r)) m n (omega arith) x
 
   -- ---- refusals
   damage-kept : (n : List ℕ) → Tables r m n → Kept r m (refused r 11 n)
@@ -238,18 +248,18 @@ module _ (a : Area) where
       go Not = refl
       go Bad = tt
 
-  shut-sure : (stays : Bool) (p : Pool) (m : List ℕ) → Sure (shutOf a stays p m .result .way)
+  shut-sure : (stays : Bool) (p : Pool) (m : List ℕ) (f : ℕ) → Sure (shutOf stays p m f .result .way)
   unfolding shutOf
-  shut-sure true p m = tt
-  shut-sure false p m = go (bareOf m (a .base) 512)
+  shut-sure true p m f = tt
+  shut-sure false p m f = go (bareOf m f 512)
     where
-      go : (b : Bool) → Sure (cond b (end noneOf (To (a .base)) (setIn m (a .base) 1 0)) (end p (To (a .base)) m) .result .way)
+      go : (b : Bool) → Sure (cond b (end (giveOf (withTop p 0) f) (To f) (backOf m f (p .free))) (end p (To f) m) .result .way)
       go true = tt
       go false = tt
 
   release-sure : (k : ℕ) (stays : Bool) (p : Pool) (m : List ℕ) (f : ℕ) → Sure (releaseOf a stays p m k f .result .way)
   unfolding releaseOf
-  release-sure zero stays p m f = shut-sure stays p m
+  release-sure zero stays p m f = shut-sure stays p m f
   release-sure (suc k) stays p m f = go (t .result .way) (λ h. release-sure k stays (t .result .pool) (t .memory) h)
     where
       t : After Went
@@ -265,16 +275,16 @@ module _ (a : Area) where
   unfolding clearOf
   clear-refuses stays p m k f i = go (present (entryIn m f i))
     where
-      go : (b : Bool) → Refuses m (cond b (releaseOf a stays p (putOf m f i 0) k f) (end p Not m))
+      go : (b : Bool) → Refuses m (cond b (releaseOf a stays p (entryPut m f i 0) k f) (end p Not m))
       go true =
-          let t = releaseOf a stays p (putOf m f i 0) k f in
-          sure-leaves m (t .memory) (t .result .way) (release-sure k stays p (putOf m f i 0) f)
+          let t = releaseOf a stays p (entryPut m f i 0) k f in
+          sure-leaves m (t .memory) (t .result .way) (release-sure k stays p (entryPut m f i 0) f)
       go false = refl
 
   remove-refuses : (stays : Bool) (p : Pool) (m is : List ℕ) → Refuses m (removeOf a stays p m is)
   unfolding removeOf
   remove-refuses stays p m [] = refl
-  remove-refuses stays p m (i ∷ is) = go (lastOf (a .base) (a .size) m (topOf (a .base) (p .fresh)) i is)
+  remove-refuses stays p m (i ∷ is) = go (lastOf (a .base) (a .size) m (p .top) i is)
     where
       go : (w : Way) → Refuses m (onWay w (end p Not m) (end p Bad m) (λ f. clearOf a stays p m (length is) f (lastIndex i is)))
       go (To f) = clear-refuses stays p m (length is) f (lastIndex i is)
@@ -299,30 +309,30 @@ module _ (c : Config) (p : Pool) (m : List ℕ) where
       go Not k = record { same = x; numbered = λ z. l; whole = λ z e. k }
       go Bad k = record { same = x; numbered = λ z. (omega arith, omega arith); whole = λ z e. absurd (e refl) }
 
-  map-kept : 0 < c .hosts → (g f : ℕ) (w : Bool) → ChangeKept c m (mapOf c p m g f w)
+  map-kept : (g f : ℕ) (w : Bool) → ChangeKept c m (mapOf c p m g f w)
   unfolding mapOf
-  map-kept room g f w = go (frameFits c g) (inGuestArea c f)
+  map-kept g f w = go (frameFits c g) (inGuestArea c f)
     where
       t : After Went
       t = insertOf (hostArea c) [] p m (indexes (c .levels) g) (hostEntry f w)
 
       go : (a b : Bool) → ChangeKept c m (cond a (cond b (changedBy p 10 t) (changed p 9 m)) (changed p 8 m))
       go true true =
-          change-kept 10 t (omega arith, omega arith) (insert-out (hostArea c) room [] p m (indexes (c .levels) g) (hostEntry f w) (indexes-narrow (c .levels) g))
+          change-kept 10 t (omega arith, omega arith) (insert-out (hostArea c) [] p m (indexes (c .levels) g) (hostEntry f w) (indexes-narrow (c .levels) g))
           (insert-refuses (hostArea c) [] p m (indexes (c .levels) g) (hostEntry f w))
       go true false = stay-kept 9 (omega arith, omega arith)
       go false b = stay-kept 8 (omega arith, omega arith)
 
-  unmap-kept : 0 < c .hosts → (g : ℕ) → ChangeKept c m (unmapOf c p m g)
+  unmap-kept : (g : ℕ) → ChangeKept c m (unmapOf c p m g)
   unfolding unmapOf
-  unmap-kept room g = go (frameFits c g)
+  unmap-kept g = go (frameFits c g)
     where
       t : After Went
       t = removeOf (hostArea c) true p m (indexes (c .levels) g)
 
       go : (a : Bool) → ChangeKept c m (cond a (changedBy p 12 t) (changed p 8 m))
       go true =
-          change-kept 12 t (omega arith, omega arith) (remove-out (hostArea c) room true p m (indexes (c .levels) g) (indexes-narrow (c .levels) g))
+          change-kept 12 t (omega arith, omega arith) (remove-out (hostArea c) true p m (indexes (c .levels) g) (indexes-narrow (c .levels) g))
           (remove-refuses (hostArea c) true p m (indexes (c .levels) g))
       go false = stay-kept 8 (omega arith, omega arith)
 
@@ -345,49 +355,56 @@ number-in P xs a = go (firstFailed xs) refl
 
 module _ (r : Record) (m : List ℕ) where
   -- held paths are dropped, after the host tables may have changed
-  dropped-kept : (q : Record) (top : ℕ) (n : List ℕ) (o : After Left) → configOf q ≡ configOf r → Tables r m n → SameOutside (r .hosts) (r .shadows) n (o .memory) → Kept r m (droppedBy r q top o)
-  dropped-kept q top n o k x y = go (o .result .ok)
+  dropped-kept : (q : Record) (f : HostPhysical) (n : List ℕ) (o : After Left) → configOf q ≡ configOf r → Tables r m n → SameOutside (r .layout .hosts) (r .layout .shadows) n (o .memory) → Kept r m (droppedBy r q f o)
+  dropped-kept q f n o k x y = go (o .result .ok)
     where
       all : Tables r m (o .memory)
       all = out-trans 0 (guestBase (configOf r)) m n (o .memory) (shadow-tables r n (o .memory) y) x
 
-      go : (b : Bool) → Kept r m (cond b (ended (withHeld q (o .result .pool) top) answer.Ok (o .memory)) (refused r 11 (o .memory)))
-      go true = guest-kept (held-layout q (o .result .pool) top ∙ k) all
+      go : (b : Bool) → Kept r m (cond b (ended (withHeld q (record { pool = o .result .pool; frame = f })) answer.Ok (o .memory)) (refused r 11 (o .memory)))
+      go true = guest-kept (held-layout q (record { pool = o .result .pool; frame = f }) ∙ k) all
       go false = damage-kept r m (o .memory) all
 
   -- ---- load, store, device store
-  loaded-kept : (a : ℕ) (o : After Translated) → Tables r m (o .memory) → (w : Walked) → Kept r m (loadBy r a o w)
-  loaded-kept a o x (walked.Arrived t w n) = guest-kept (held-layout r (o .result .pool) (o .result .top)) x
-  loaded-kept a o x (walked.Faulted y n) = guest-kept (held-layout r (o .result .pool) (o .result .top)) x
-  loaded-kept a o x walked.Damaged = damage-kept r m (o .memory) x
+  damage-same : (n : List ℕ) → Tables r m n → Kept r m (refused (withHeld r (heldOf r)) 11 n)
+  damage-same n x = subst (λ q. Kept r m (refused q 11 n)) (sym (held-same r)) (damage-kept r m n x)
 
-  load-kept : (a : ℕ) → Kept r m (loadOf r m a)
-  unfolding loadOf
+  leaves : fitsOf r (length m) ≡ true → (st : Bool) (a : ℕ) → Leaves (configOf r) m (translatedOf r m st a)
+  unfolding translatedOf
+  leaves f st a = translate-leaves (configOf r) (hostTop r) m st (heldOf r) (fits-held r (length m) f) (rootOf r) a (depthAt r a)
+
+  loaded-kept : (a : ℕ) (o : After Translated) → Tables r m (o .memory) → (w : Walked) → Kept r m (loadedBy r a o w)
+  loaded-kept a o x (walked.Arrived t w n) = guest-kept (held-layout r (o .result .held)) x
+  loaded-kept a o x (walked.Faulted y n) = guest-kept (held-layout r (o .result .held)) x
+  loaded-kept a o x walked.Damaged = damage-same (o .memory) x
+
+  load-kept : (a : ℕ) → Kept r m (loadCall r m a)
+  unfolding loadCall loadOf translatedOf
   load-kept a =
       let o = translatedOf r m false a in
       judged-kept r m _ (λ f. tested-kept r m (addressOk r a) _ 4 (omega arith, omega arith)
-      (loaded-kept a o (shadow-tables r m (o .memory) (leaves r (length m) f m false a o refl .same)) (o .result .walked)))
+      (loaded-kept a o (shadow-tables r m (o .memory) (leaves f false a .same)) (o .result .walked)))
 
   -- a store that came to word i of host frame t; n is the memory after its translation
-  written-kept : Fits r (length m) → (top k x : ℕ) (n : List ℕ) (p : Pool) (t i v : ℕ) → Tables r m n → p .fresh ≤ r .shadows → InGuestArea (configOf r) t → i < 512
-      → Kept r m (writtenBy r top k x (storeOf (configOf r) n p t i v))
-  written-kept f top k x n p t i v y h g l = go (s .result .ok) (store-leaves (configOf r) n p t i v h .same)
+  written-kept : Fits r (length m) → (h : Holding) (k x : ℕ) (n : List ℕ) (t i v : ℕ) → Tables r m n → h .pool .fresh ≤ r .layout .shadows → InGuestArea (configOf r) t → i < 512
+      → (let u = putOf (configOf r) n (h .pool) t i v in Kept r m (writtenIn r h k x u (u .result .ok)))
+  written-kept f h k x n t i v y w g l = go (s .result .ok) (put-leaves (configOf r) n (h .pool) t i v w .same)
     where
       c : Config
       c = configOf r
 
       s : After Put
-      s = storeOf c n p t i v
+      s = putOf c n (h .pool) t i v
 
       inside : place c t i < length (guestArea r m)
       inside =
           let e = length-drop (512 * guestBase c) m in
-          omega (arith, e, g .0, g .1, f .long, f .sizes .whole)
+          omega (arith, e, g .0, g .1, f .long)
 
-      go : (b : Bool) → SameOutside (r .hosts) (r .shadows) (cond b (setIn n t i v) n) (s .memory)
-          → Kept r m (cond b (ended (withHeld r (s .result .pool) top) (answer.Done k (x + s .result .exits)) (s .memory)) (refused r 11 (s .memory)))
+      go : (b : Bool) → SameOutside (r .layout .hosts) (r .layout .shadows) (cond b (setIn n t i v) n) (s .memory)
+          → Kept r m (writtenIn r h k x s b)
       go true z = record {
-        layout = held-layout r (s .result .pool) top;
+        layout = held-layout r (record { pool = s .result .pool; frame = h .frame });
         long = z .long ∙ length-set n (at t i) v ∙ y .long;
         place = place c t i;
         word = v;
@@ -395,53 +412,53 @@ module _ (r : Record) (m : List ℕ) where
         area = same-area r (setIn n t i v) (s .memory) (shadow-tables r (setIn n t i v) (s .memory) z) ∙ area-store c n t i v (g .0)
             ∙ ap (λ xs. set xs (place c t i) v) (same-area r m n y);
       }
-      go false z = damage-kept r m (s .memory) (out-trans 0 (guestBase c) m n (s .memory) (shadow-tables r n (s .memory) z) y)
+      go false z = damage-same (s .memory) (out-trans 0 (guestBase c) m n (s .memory) (shadow-tables r n (s .memory) z) y)
 
-  stored-kept : Fits r (length m) → (a v : ℕ) (o : After Translated) → Tables r m (o .memory) → o .result .pool .fresh ≤ r .shadows → (w : Walked) → ArrivedIn (configOf r) w → Kept r m (storeBy r a v o w)
+  stored-kept : Fits r (length m) → (a v : ℕ) (o : After Translated) → Tables r m (o .memory) → o .result .held .pool .fresh ≤ r .layout .shadows → (w : Walked) → ArrivedIn (configOf r) w → Kept r m (storedBy r a v o w)
   stored-kept f a v o x h (walked.Arrived t w n) g =
-      written-kept f (o .result .top) n (o .result .exits) (o .memory) (o .result .pool) (t .0) (wordOf a) v x h g (word-fits a)
-  stored-kept f a v o x h (walked.Faulted y n) g = guest-kept (held-layout r (o .result .pool) (o .result .top)) x
-  stored-kept f a v o x h walked.Damaged g = damage-kept r m (o .memory) x
+      written-kept f (o .result .held) n (o .result .exits) (o .memory) (t .0) (wordOf a) v x h g (word-fits a)
+  stored-kept f a v o x h (walked.Faulted y n) g = guest-kept (held-layout r (o .result .held)) x
+  stored-kept f a v o x h walked.Damaged g = damage-same (o .memory) x
 
   store-kept : (a v : ℕ) → Kept r m (storeCall r m a v)
-  unfolding storeCall
+  unfolding storeCall storeOf translatedOf
   store-kept a v =
       let o = translatedOf r m true a in
       judged-kept r m _ (λ f. tested-kept r m (addressOk r a) _ 4 (omega arith, omega arith)
-      (let l = leaves r (length m) f m true a o refl in
-      stored-kept (fits-layout r (length m) f) a v o (shadow-tables r m (o .memory) (l .same)) (l .fresh) (o .result .walked) (l .arrived)))
+      (let l = leaves f true a in
+      stored-kept (fits-layout r (length m) f) a v o (shadow-tables r m (o .memory) (l .same)) (l .held .0) (o .result .walked) (l .arrived)))
 
   device-kept : (a v : ℕ) → Kept r m (deviceCall r m a v)
-  unfolding deviceCall
+  unfolding deviceCall deviceOf
   device-kept a v =
       judged-kept r m _ (λ f. tested-kept r m (deviceOk r a) _ 4 (omega arith, omega arith)
-      (go (fits-layout r (length m) f) (walkedOf (configOf r) m 0 (next true true (pageOf a) true)) (device-in (configOf r) m (pageOf a))))
+      (go (fits-layout r (length m) f) (walkedOf (configOf r) (hostTop r) m 0 (next true true (pageOf a) true)) (device-in (configOf r) (hostTop r) m (pageOf a))))
     where
-      go : Fits r (length m) → (w : Walked) → ArrivedIn (configOf r) w → Kept r m (deviceBy r m a v w)
+      go : Fits r (length m) → (w : Walked) → ArrivedIn (configOf r) w → Kept r m (servedBy r (deviceBy (configOf r) m (heldOf r) a v w))
       go f (walked.Arrived t w n) g =
-          written-kept f (r .top) n 0 m (r .shadow) (t .0) (wordOf a) v (none-changed r m) (f .shadow .0) g (word-fits a)
-      go f (walked.Faulted y n) g = guest-kept refl (none-changed r m)
-      go f walked.Damaged g = damage-kept r m m (none-changed r m)
+          written-kept f (heldOf r) n 0 m (t .0) (wordOf a) v (none-changed r m) (f .shadow .0) g (word-fits a)
+      go f (walked.Faulted y n) g = guest-kept (held-layout r (heldOf r)) (none-changed r m)
+      go f walked.Damaged g = damage-same m (none-changed r m)
 
   -- ---- root, map, unmap
   root-kept : (g : ℕ) → Kept r m (rootCall r m g)
   unfolding rootCall
   root-kept g =
-      judged-kept r m _ (λ f. tested-kept r m (frameFits (configOf r) g) _ 8 (omega arith, omega arith) (guest-kept (root-layout (withHeld r noneOf 0) g ∙ held-layout r noneOf 0) (none-changed r m)))
+      judged-kept r m _ (λ f. tested-kept r m (frameFits (configOf r) g) _ 8 (omega arith, omega arith) (guest-kept (root-layout r (headHeld (headOf r) nothing) g ∙ held-layout r nothing) (none-changed r m)))
 
-  unmapped-kept : (q : Record) (n : List ℕ) (g : ℕ) → configOf q ≡ configOf r → r .shadow .fresh ≤ r .shadows → Tables r m n → Kept r m (unmappedOf r q n g)
+  unmapped-kept : (p : Pool) (n : List ℕ) (g : ℕ) → r .pools .shadow .fresh ≤ r .layout .shadows → Tables r m n → Kept r m (unmappedOf r p n g)
   unfolding unmappedOf
-  unmapped-kept q n g k h x = go (eqb g (r .root))
+  unmapped-kept p n g h x = go (eqb g (r .guest .root .0))
     where
       o : After Left
-      o = scanOf (configOf r) (Names (record { 0 = g })) (r .shadow) n
+      o = scanOf (configOf r) (Names (guestFrame g)) (r .pools .shadow) n
 
-      go : (b : Bool) → Kept r m (cond b (ended (withHeld q noneOf 0) answer.Ok n) (droppedBy r q (r .top) o))
-      go true = guest-kept (held-layout q noneOf 0 ∙ k) x
-      go false = dropped-kept q (r .top) n o k x (scan-out (configOf r) (Names (record { 0 = g })) (r .shadow) n h)
+      go : (b : Bool) → Kept r m (cond b (ended (withHeld (withHost r p) nothing) answer.Ok n) (droppedBy r (withHost r p) (r .guest .held) o))
+      go true = guest-kept (held-layout (withHost r p) nothing ∙ host-layout r p) x
+      go false = dropped-kept (withHost r p) (r .guest .held) n o (host-layout r p) x (scan-out (configOf r) (Names (guestFrame g)) (r .pools .shadow) n h)
 
-  mapped-kept : (p : Pool) (n : List ℕ) (g : ℕ) → r .shadow .fresh ≤ r .shadows → Tables r m n → (w : HostWalk) → Kept r m (mappedBy r p n g w)
-  mapped-kept p n g h x (host.Found f w) = unmapped-kept (withHost r p) n g (host-layout r p) h x
+  mapped-kept : (p : Pool) (n : List ℕ) (g : ℕ) → r .pools .shadow .fresh ≤ r .layout .shadows → Tables r m n → (w : HostWalk) → Kept r m (mappedBy r p n g w)
+  mapped-kept p n g h x (host.Found f w) = unmapped-kept p n g h x
   mapped-kept p n g h x (host.Absent k) = guest-kept (host-layout r p) x
   mapped-kept p n g h x host.Damaged = damage-kept r m n x
 
@@ -461,18 +478,18 @@ module _ (r : Record) (m : List ℕ) where
   map-call-kept : (g f : ℕ) (w : Bool) → Kept r m (mapCall r m g f w)
   unfolding mapCall
   map-call-kept g f w =
-      let t = mapOf (configOf r) (r .host) m g f w in
+      let t = mapOf (configOf r) (r .pools .host) m g f w in
       judged-kept r m _ (λ e. let z = fits-layout r (length m) e in
-      changed-kept t _ (map-kept (configOf r) (r .host) m (omega (arith, z .sizes .hosts)) g f w)
-      (λ x. mapped-kept (t .result .pool) (t .memory) g (z .shadow .0) x (hostWalkOf (configOf r) m g)))
+      changed-kept t _ (map-kept (configOf r) (r .pools .host) m g f w)
+      (λ x. mapped-kept (t .result .pool) (t .memory) g (z .shadow .0) x (hostWalkOf (configOf r) (hostTop r) m g)))
 
   unmap-call-kept : (g : ℕ) → Kept r m (unmapCall r m g)
   unfolding unmapCall
   unmap-call-kept g =
-      let t = unmapOf (configOf r) (r .host) m g in
+      let t = unmapOf (configOf r) (r .pools .host) m g in
       judged-kept r m _ (λ e. let z = fits-layout r (length m) e in
-      changed-kept t _ (unmap-kept (configOf r) (r .host) m (omega (arith, z .sizes .hosts)) g)
-      (λ x. mapped-kept (t .result .pool) (t .memory) g (z .shadow .0) x (hostWalkOf (configOf r) m g)))
+      changed-kept t _ (unmap-kept (configOf r) (r .pools .host) m g)
+      (λ x. mapped-kept (t .result .pool) (t .memory) g (z .shadow .0) x (hostWalkOf (configOf r) (hostTop r) m g)))
 
   -- ---- marks
   marked-kept : (x a n : ℕ) (t : Marks) → (x ≢ 0 → Numbered x) → Kept r m (judged r m (cond (eqb x 0) (markedOf r m a n t) (refused r x m)))
@@ -480,25 +497,25 @@ module _ (r : Record) (m : List ℕ) where
   marked-kept x a n t l = judged-kept r m _ (λ f. go (fits-layout r (length m) f .shadow .0) (eqb x 0) refl)
     where
       is : List ℕ
-      is = indexes (levels - n) (pageOf a / 2 ^ (9 * n))
+      is = indexes ((r .layout .levels) - n) (pageOf a / 2 ^ (9 * n))
 
-      go : r .shadow .fresh ≤ r .shadows → (b : Bool) → eqb x 0 ≡ b
-          → Kept r m (cond b (droppedBy r (withMarks r t) (topAfter n (r .top)) (dropPrefixOf (configOf r) (r .shadow) m is)) (refused r x m))
+      go : r .pools .shadow .fresh ≤ r .layout .shadows → (b : Bool) → eqb x 0 ≡ b
+          → Kept r m (cond b (droppedBy r (withMarks r t) (heldAfter (r .layout .levels) n (r .guest .held)) (dropPrefixOf (configOf r) (r .pools .shadow) m is)) (refused r x m))
       go h true q =
-          dropped-kept (withMarks r t) (topAfter n (r .top)) m (dropPrefixOf (configOf r) (r .shadow) m is) (marks-layout r t) (none-changed r m) (prefix-out (configOf r) (r .shadow) m is h)
+          dropped-kept (withMarks r t) (heldAfter (r .layout .levels) n (r .guest .held)) m (dropPrefixOf (configOf r) (r .pools .shadow) m is) (marks-layout r t) (none-changed r m) (prefix-out (configOf r) (r .pools .shadow) m is h)
       go h false q = refusal-kept r m x (l (eqb-false x 0 q))
 
   set-kept : (a n : ℕ) → Kept r m (setMarkCall r m a n)
   unfolding setMarkCall setRefusal
   set-kept a n =
       let l : (Numbered 4 × (Numbered 5 × (Numbered 6 × (Numbered 7 × Unit {0})))) = ((omega arith, omega arith), ((omega arith, omega arith), ((omega arith, omega arith), ((omega arith, omega arith), tt)))) in
-      marked-kept (number (setRefusal levels (keysOf r) a n)) a n (withKey (r .marks) (keyOf n (pageOf a))) (number-in Numbered (setTests levels (keysOf r) a n) l)
+      marked-kept (number (setRefusal (r .layout .levels) (keysOf r) a n)) a n (withKey (r .guest .marks) (keyOf n (pageOf a))) (number-in Numbered (setTests (r .layout .levels) (keysOf r) a n) l)
 
   clear-kept : (a n : ℕ) → Kept r m (clearMarkCall r m a n)
   unfolding clearMarkCall clearRefusal
   clear-kept a n =
       let l : (Numbered 4 × (Numbered 5 × (Numbered 6 × Unit {0}))) = ((omega arith, omega arith), ((omega arith, omega arith), ((omega arith, omega arith), tt))) in
-      marked-kept (number (clearRefusal levels (keysOf r) a n)) a n (withoutKey (r .marks) (keyOf n (pageOf a))) (number-in Numbered (clearTests levels (keysOf r) a n) l)
+      marked-kept (number (clearRefusal (r .layout .levels) (keysOf r) a n)) a n (withoutKey (r .guest .marks) (keyOf n (pageOf a))) (number-in Numbered (clearTests (r .layout .levels) (keysOf r) a n) l)
 
 -- ---- Demand 1. "Any request, with numbers, record and memory sound or spoiled, ends inside the memory lent with an answer, a named
 -- fault or a numbered refusal. A fault changes no guest word. A refusal changes nothing, but for the tables of a memory found

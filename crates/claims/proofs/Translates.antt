@@ -1,26 +1,26 @@
 -- A translation of the unit is the plain walk on the machine, at the book's price, and leaves what the book's request leaves.
 -- Assumes nothing.
 use mathlib.Core.Path.{_≡_, refl, sym, ap, ap₂, _∙_, subst}
-use mathlib.Core.Logic.{_≢_, _⊎_, inl, inr}
+use mathlib.Core.Logic.{inr}
 use Prim.Native.Nat.{ℕ, zero, suc, _+_, _-_, _*_, _/_, _^_, _<_, _≤_}
 use native.Mathlib.Nat.{zero-add}
 use native.Mathlib.Omega.{arith}
 use mathlib.Core.Bool.{Bool, true, false, not, _||_, cond}
 use mathlib.Core.List.{List, [], _∷_}
 use mathlib.Core.Option.{Option, none, some}
-use lib.Dec.{T, eqb, leb, ltb, leb→le, le→leb, ltb→lt, nleb→lt}
-use borrow.Author.Tests.{lt-ltb, le-ltb, ltb-true, ltb-false, eq-eqb, ne-eqb}
+use lib.Dec.{T, eqb, leb, ltb, leb→le, le→leb}
+use borrow.Author.Tests.{lt-ltb, le-ltb, le-leb, lt-leb, ltb-true, ltb-false, ne-eqb}
 use lib.ListN.{length, drop}
 use Rattle.spec.specs.declared.Fault.{Fault}
-use Rattle.spec.specs.Config.{Config, guestBase, frameBits}
+use Rattle.spec.specs.Config.{Config}
 use Rattle.spec.specs.Entry.{present, indexes, pageOf}
 use Rattle.spec.specs.Prefix.{same, begins}
 use Rattle.spec.specs.Walk.{World, Trace, Result, granted, failed, trace}
-use Rattle.spec.specs.Plain.{Place, levels, walk, upper, shadowPart, directPart}
+use Rattle.spec.specs.Plain.{Place, levels, walk, upper, directPart}
 use Rattle.spec.specs.Machine.{Machine, world}
-use Rattle.spec.specs.Book.{Held, Book, Mark, find, depth, fill, holding, shadowTables}
+use Rattle.spec.specs.Book.{Held, find, fill, holding, shadowTables}
 use Rattle.spec.specs.Call.{addressIndexes, plain}
-use Rattle.spec.specs.Count.{Counted, serves, heldBy, hostExit, one, shadowed, unshadowed, request}
+use Rattle.spec.specs.Count.{Counted, serves, heldBy, hostExit, shadowed, unshadowed, request}
 use Rattle.spec.specs.Refusal.{addressFits}
 use Rattle.spec.specs.Run.{State}
 use Rattle.laws.proofs.Lists.{All, all-map, is-true, is-false}
@@ -28,36 +28,36 @@ use Rattle.laws.proofs.Local.{Seen, seen}
 use Rattle.laws.proofs.Granted.{granted-is, walk-same, walk-serves}
 use Rattle.laws.proofs.Parts.{shadow-fault, direct-result}
 use Rattle.laws.proofs.Indexes.{indexes-length, indexes-all}
-use Rattle.laws.proofs.Depth.{PathFits, no-proper-prefix, depth-bound}
+use Rattle.laws.proofs.Depth.{PathFits, no-proper-prefix}
 use Rattle.laws.proofs.Keeps.{Valid, again, fill-valid}
 use Rattle.laws.proofs.Runs.{BookFits, fill-keeps}
 use Rattle.tree.proofs.Paths.{onto}
 use Rattle.tree.proofs.Whole.{Holds, Next}
-use Rattle.area.specs.declared.Pool.{Pool}
-use Rattle.host.specs.declared.HostWalk.{HostWalk}
 use Rattle.host.specs.declared.HostWalk.the-variants as host
-use Rattle.host.specs.Walk.{page}
 use Rattle.host.proofs.Laws.{InGuestArea}
-use Rattle.walk.specs.declared.Walked.{Walked}
 use Rattle.walk.specs.declared.Walked.the-variants as walked
 use Rattle.walk.specs.Memory.{walkedOf}
-use Rattle.walk.proofs.Stands.{Stands, plainWalked, root-walked, table-walked}
-use Rattle.marks.specs.Table.{keys}
+use Rattle.walk.proofs.Stands.{Stands, stands-trace, plainWalked, root-walked, table-walked}
 use Rattle.marks.proofs.Book.{depth-book}
 use Rattle.record.specs.declared.Record.{Record}
 use Rattle.record.specs.Record.{configOf}
-use Rattle.record.proofs.Rules.{Fits, fits-true}
+use Rattle.record.proofs.Rules.{Fits, fits-true, holds-pool}
 use Rattle.shadow.specs.Held.{shadowArea, entryFor}
 use Rattle.shadow.specs.Fill.{fillOf}
 use Rattle.shadow.proofs.Parts.{entry-present}
 use Rattle.drops.proofs.Held.{leafAt}
 use Rattle.drops.proofs.Find.{find-all}
-use Rattle.drops.proofs.Fill.{fill-is}
+use Rattle.drops.proofs.Fill.{trail-is, fill-is}
 use Rattle.drops.proofs.Valid.{framesAt, entryOf, entry-thin, valid-frame, inside-area, Stays, stays-same}
-use Rattle.request.specs.Translate.{translation, exitBy, pathIndexes, directOf, servedOf, servesOf, foundOf, foundBy, missedOf, missedBy, filledOf, fillBy, plainOf, translateOf}
-use Rattle.unit.specs.Calls.{withHeld, depthAt, translatedOf}
+use Rattle.request.specs.Translate.{holding as holdingAt, translation, exitBy, directOf, servedOf, servesOf, foundOf, foundBy, missedOf, missedBy, filledOf, fillBy, plainOf, translateOf}
+use Rattle.request.specs.declared.Held.{Held as Holding}
+use Rattle.record.specs.Record.{headTables}
+use Rattle.tree.proofs.Paths.{Guests}
+use Rattle.walk.specs.Memory.{memoryWorld, trailFrom, trailOf}
+use Rattle.laws.proofs.Asks.{walk-asks}
+use Rattle.unit.specs.Calls.{hostTop, heldOf, headHeld, withHeld, depthAt, translatedOf}
 use Rattle.claims.proofs.Invariant.{longer, topBy, frames, Inv, stands}
-use Rattle.claims.proofs.Moves.{holds-pool, fits-held, maps-beside, shadow-drop, invariant, shadow-on, at-inv}
+use Rattle.claims.proofs.Moves.{fits-held, maps-beside, shadow-drop, invariant, shadow-on, at-inv}
 use Rattle.claims.proofs.Paths.{path-upper, path-lower, walk-above, exit-is}
 use Rattle.claims.proofs.Found as found
 use Rattle.words.specs.After.{After, yields}
@@ -66,11 +66,10 @@ use Rattle.request.specs.declared.Translated.{Translated}
 
 -- what a translation on s leaves: the plain walk's result, the book's references and exits, and the book's next state
 pub record Translates (s : State) (r : Record) (m : List ℕ) (st : Bool) (a : ℕ) (k : Counted) (o : After Translated) : Type 0 where
-  pub pool : Pool
-  pub top : ℕ
+  pub held : Holding
   pub memory : List ℕ
-  pub done : o ≡ yields (translation pool top (k .exits) (plainWalked ((plain (configOf r) (s .machine) st a) .result) (k .references))) memory
-  pub next : Inv (record { config = configOf r; machine = s .machine; book = k .book }) (withHeld r pool top) memory
+  pub done : o ≡ yields (translation held (k .exits) (plainWalked ((plain (configOf r) (s .machine) st a) .result) (k .references))) memory
+  pub next : Inv (record { config = configOf r; machine = s .machine; book = k .book }) (withHeld r held) memory
 
 -- ---- lists of held paths
 
@@ -116,39 +115,50 @@ module _ (s : State) (r : Record) (m : List ℕ) (inv : Inv s r m) (st : Bool) (
   abbrev w : World
   w = world c mach
 
+  -- the entry of the top host table, and what is held
+  abbrev ht : ℕ
+  ht = hostTop r
+
+  abbrev hold : Holding
+  hold = heldOf r
+
+  -- the tables that the walk of the shadow part comes through
+  abbrev gs : List ℕ
+  gs = trailOf c ht m 0 (walk c st (r .guest .root .0) path) .tables
+
   abbrev result : Result Fault Place
   result = (plain c mach st a) .result
 
   -- the invariant where nothing changed
-  same-inv : Inv (record { config = configOf r; machine = s .machine; book = s .book }) (withHeld r (r .shadow) (r .top)) m
-  unfolding withHeld
+  same-inv : Inv (record { config = configOf r; machine = s .machine; book = s .book }) (withHeld r hold) m
+  unfolding headHeld headTables
   same-inv = at-inv inv
 
   -- ---- the direct part, over a memory that stands for the machine
-  direct-is : (n : List ℕ) → Stands c mach n → (t : ℕ) (right : Bool) → deep ≤ c .levels → InGuestArea c t
-      → directOf c n st a deep t right
+  direct-is : (n : List ℕ) → Stands c mach ht n → (t : ℕ) (right : Bool) → deep ≤ c .levels → InGuestArea c t
+      → directOf c ht n st a deep t right
       ≡ plainWalked ((trace w (directPart c st deep (t, right) (addressIndexes c a))) .result) ((c .levels - deep) + (trace w (directPart c st deep (t, right) (addressIndexes c a))) .count)
   unfolding directOf
   direct-is n sn t right low i =
       let e : indexes deep (pageOf a) ≡ drop (c .levels - deep) (addressIndexes c a) = sym (path-lower c deep a low) in
-      ap (λ l. walkedOf c n (c .levels - deep) (levels c st l t right (indexes deep (pageOf a)))) (zero-add deep)
-      ∙ table-walked c mach n sn (c .levels - deep) st deep t right (indexes deep (pageOf a)) i (indexes-all deep (pageOf a))
+      ap (λ l. walkedOf c ht n (c .levels - deep) (levels c st l t right (indexes deep (pageOf a)))) (zero-add deep)
+      ∙ table-walked c mach ht n sn (c .levels - deep) st deep t right (indexes deep (pageOf a)) i (indexes-all deep (pageOf a))
       ∙ ap (λ js. plainWalked ((trace w (levels c st deep t right js)) .result) ((c .levels - deep) + (trace w (levels c st deep t right js)) .count)) e
 
   -- served through a path whose shadow part comes to (t, right), e exits so far: the plain walk's result
-  served-is : (n : List ℕ) → Stands c mach n → (t : ℕ) (right : Bool) (p : Pool) (top e : ℕ) → deep ≤ c .levels → InGuestArea c t
+  served-is : (n : List ℕ) → Stands c mach ht n → (t : ℕ) (right : Bool) (h : Holding) (e : ℕ) → deep ≤ c .levels → InGuestArea c t
       → (trace w (walk c st (mach .root) path)) .result ≡ granted (t, right)
       → let d = trace w (directPart c st deep (t, right) (addressIndexes c a)) in
-      servedOf c n p top st a deep t right e ≡ translation p top (e + hostExit (d .result)) (plainWalked result ((c .levels - deep) + d .count))
+      servedOf c ht n h st a deep t right e ≡ translation h (e + hostExit (d .result)) (plainWalked result ((c .levels - deep) + d .count))
   unfolding servedOf plain
-  served-is n sn t right p top e low i g =
+  served-is n sn t right h e low i g =
       let d = trace w (directPart c st deep (t, right) (addressIndexes c a)) in
       let q = direct-is n sn t right low i in
       let whole = direct-result w c st deep (mach .root) (addressIndexes c a) (t, right) (indexes-length (c .levels) (pageOf a)) low
       (ap (λ p. (trace w (walk c st (mach .root) p)) .result) (path-upper c deep a low) ∙ g) in
-      ap (λ x. translation p top (e + exitBy x) x) q
-      ∙ ap (λ x. translation p top (e + x) (plainWalked (d .result) ((c .levels - deep) + d .count))) (exit-is (d .result) ((c .levels - deep) + d .count))
-      ∙ ap (λ x. translation p top (e + hostExit (d .result)) (plainWalked x ((c .levels - deep) + d .count))) (sym (whole .0))
+      ap (λ x. translation h (e + exitBy x) x) q
+      ∙ ap (λ x. translation h (e + x) (plainWalked (d .result) ((c .levels - deep) + d .count))) (exit-is (d .result) ((c .levels - deep) + d .count))
+      ∙ ap (λ x. translation h (e + hostExit (d .result)) (plainWalked x ((c .levels - deep) + d .count))) (sym (whole .0))
 
   -- ---- the book's request, by the path
   abbrev part : Trace Fault Place
@@ -174,13 +184,13 @@ module _ (s : State) (r : Record) (m : List ℕ) (inv : Inv s r m) (st : Bool) (
   -- the frame that the path leads to, by the record's root
   frame-is : (h : Held) (v : Valid c mach h) → h .path ≡ path → frames r m (onto [] path) ≡ v .frame
   frame-is h v at =
-      ap (λ x. framesAt c m x (onto [] path)) (inv .root) ∙ ap (λ p. framesAt c m (mach .root) (onto [] p)) (sym at)
-      ∙ valid-frame c mach m (found.memory-stands s r m inv) (found.root-small s r m inv) (found.few s r m inv) h v
+      ap (λ x. framesAt c ht m x (onto [] path)) (inv .root) ∙ ap (λ p. framesAt c ht m (mach .root) (onto [] p)) (sym at)
+      ∙ valid-frame c mach ht m (found.memory-stands s r m inv) (found.root-small s r m inv) (found.few s r m inv) h v
 
   held-granted : (h : Held) → deep ≤ c .levels → find path (s .book .held) ≡ some h → servesOf st deep (h .right) ≡ true
       → (part .result ≡ granted (frames r m (onto [] path), h .right)) × InGuestArea c (frames r m (onto [] path))
   unfolding again seen servesOf
-  held-granted h low e sv = (go st sv, subst (InGuestArea c) (sym (frame-is h v at)) (inside-area c mach m (found.memory-stands s r m inv) (found.root-small s r m inv) (found.few s r m inv) h v))
+  held-granted h low e sv = (go st sv, subst (InGuestArea c) (sym (frame-is h v at)) (inside-area c mach ht m (found.memory-stands s r m inv) (found.root-small s r m inv) (found.few s r m inv) h v))
     where
       v : Valid c mach h
       v = find-all (Valid c mach) path h (s .book .held) (inv .valid) e
@@ -203,40 +213,38 @@ module _ (s : State) (r : Record) (m : List ℕ) (inv : Inv s r m) (st : Bool) (
       go true k = stored deep refl k
 
   served-path : (h : Held) → deep ≤ c .levels → find path (s .book .held) ≡ some h → servesOf st deep (h .right) ≡ true
-      → Translates s r m st a (request c mach (s .book) st a deep) (yields (servedOf c m (r .shadow) (r .top) st a deep (frames r m (onto [] path)) (h .right) 0) m)
+      → Translates s r m st a (request c mach (s .book) st a deep) (yields (servedOf c ht m hold st a deep (frames r m (onto [] path)) (h .right) 0) m)
   served-path h low e sv =
       let g = held-granted h low e sv in
       let t = frames r m (onto [] path) in
       let d = trace w (directPart c st deep (t, h .right) (addressIndexes c a)) in
       let q = request-is low ∙ ap₂ (λ b x. shadowed c mach (s .book) st deep (addressIndexes c a) path b part x) (ap (serves st deep) e ∙ serves-is deep h ∙ sv) (g .0) in
-      subst (λ k. Translates s r m st a k (yields (servedOf c m (r .shadow) (r .top) st a deep t (h .right) 0) m)) (sym q) (record {
-        pool = r .shadow;
-        top = r .top;
+      subst (λ k. Translates s r m st a k (yields (servedOf c ht m hold st a deep t (h .right) 0) m)) (sym q) (record {
+        held = hold;
         memory = m;
-        done = ap (λ x. yields x m) (served-is m (found.memory-stands s r m inv) t (h .right) (r .shadow) (r .top) 0 low (g .1) (g .0));
+        done = ap (λ x. yields x m) (served-is m (found.memory-stands s r m inv) t (h .right) hold 0 low (g .1) (g .0));
         next = same-inv;
       })
 
   -- ---- a path that does not serve, and whose shadow part faults
 
-  walked-is : deep ≤ c .levels → walkedOf c m 0 (walk c st (r .root) path) ≡ plainWalked (part .result) (part .count)
+  walked-is : deep ≤ c .levels → walkedOf c ht m 0 (walk c st (r .guest .root .0) path) ≡ plainWalked (part .result) (part .count)
   walked-is low =
-      ap (λ x. walkedOf c m 0 (walk c st x path)) (inv .root)
-      ∙ root-walked c mach m (found.memory-stands s r m inv) st (mach .root) path (found.root-small s r m inv) (indexes-all (c .levels - deep) (pageOf a / 2 ^ (9 * deep)))
+      ap (λ x. walkedOf c ht m 0 (walk c st x path)) (inv .root)
+      ∙ root-walked c mach ht m (found.memory-stands s r m inv) st (mach .root) path (found.root-small s r m inv) (indexes-all (c .levels - deep) (pageOf a / 2 ^ (9 * deep)))
 
   fault-path : (x : Fault) → deep ≤ c .levels → serves st deep (find path (s .book .held)) ≡ false → part .result ≡ failed x
-      → Translates s r m st a (request c mach (s .book) st a deep) (missedOf c m (r .shadow) (r .top) (r .root) st a deep)
-  unfolding missedOf plain
+      → Translates s r m st a (request c mach (s .book) st a deep) (missedOf c ht m hold (r .guest .root .0) st a deep)
+  unfolding missedOf trailFrom plain
   fault-path x low sv e =
       let q = request-is low ∙ ap₂ (λ b y. shadowed c mach (s .book) st deep (addressIndexes c a) path b part y) sv e in
       let f = shadow-fault w c st deep (mach .root) (addressIndexes c a) x (indexes-length (c .levels) (pageOf a)) low
       (ap (λ p. (trace w (walk c st (mach .root) p)) .result) (path-upper c deep a low) ∙ e) in
-      subst (λ k. Translates s r m st a k (missedBy c m (r .shadow) (r .top) (r .root) st a deep (walkedOf c m 0 (walk c st (r .root) path)))) (sym q) (record {
-        pool = r .shadow;
-        top = r .top;
+      subst (λ k. Translates s r m st a k (missedBy c ht m hold st a deep gs (walkedOf c ht m 0 (walk c st (r .guest .root .0) path)))) (sym q) (record {
+        held = hold;
         memory = m;
-        done = ap (missedBy c m (r .shadow) (r .top) (r .root) st a deep) (walked-is low ∙ ap (λ y. plainWalked y (part .count)) e)
-            ∙ ap (λ y. yields (translation (r .shadow) (r .top) 1 (plainWalked y (part .count))) m) (sym (f .0));
+        done = ap (missedBy c ht m hold st a deep gs) (walked-is low ∙ ap (λ y. plainWalked y (part .count)) e)
+            ∙ ap (λ y. yields (translation hold 1 (plainWalked y (part .count))) m) (sym (f .0));
         next = same-inv;
       })
 
@@ -270,7 +278,7 @@ module _ (s : State) (r : Record) (m : List ℕ) (inv : Inv s r m) (st : Bool) (
   new-here t right e =
       let v = new-valid t right e in
       let f = new-frame t right e in
-      (frame-is (new right) v refl ∙ sym f, subst (InGuestArea c) (sym f) (inside-area c mach m (found.memory-stands s r m inv) (found.root-small s r m inv) (found.few s r m inv) (new right) v))
+      (frame-is (new right) v refl ∙ sym f, subst (InGuestArea c) (sym f) (inside-area c mach ht m (found.memory-stands s r m inv) (found.root-small s r m inv) (found.few s r m inv) (new right) v))
 
   -- the held paths and the one to come are no proper prefixes of each other
   apart-all : (low : deep ≤ c .levels) → All (λ (h : Held). T (begins (h .path) path) → h .path ≡ path) (s .book .held)
@@ -334,49 +342,58 @@ module _ (s : State) (r : Record) (m : List ℕ) (inv : Inv s r m) (st : Bool) (
         ap (fill c (new right)) (all-longer-is (s .book .held) others-long)
         ∙ sym (all-longer-is (fill c (new right) (s .book .held)) (fill-all (λ (h : Held). 0 < length (h .path)) right long others-long))
 
-    placed : Next (shadowArea c) false (r .shadow) m (leafAt (entryOf c (frames r m)) (longer (fill c (new right) (s .book .held)))) (frames r m)
-        (fillOf c (r .shadow) m (r .root) path (entryFor t (ltb 0 deep) right))
+    -- the walk over memory arrives too, and hands out the guest tables on the way
+    over-memory : (trace (memoryWorld c ht m) (walk c st (r .guest .root .0) path)) .result ≡ granted (t, right)
+    over-memory =
+        ap (λ x. (trace (memoryWorld c ht m) (walk c st x path)) .result) (inv .root)
+        ∙ ap (λ (x : Trace Fault Place). x .result) (stands-trace c mach ht m (found.memory-stands s r m inv) (walk c st (mach .root) path) _ (walk-asks c (InGuestArea c) st (mach .root) path (found.root-small s r m inv) small-path))
+        ∙ e
+
+    tables-are : Guests (frames r m) gs 0 [] path
+    tables-are = trail-is c ht m (found.few s r m inv) st (r .guest .root .0) path (t, right) (omega (arith, found.path-length s r m inv a (omega arith), found.rules s r m inv .sizes .deep)) over-memory
+
+    placed : Next (shadowArea c) false (r .pools .shadow) m (leafAt (entryOf c (frames r m)) (longer (fill c (new right) (s .book .held)))) (frames r m)
+        (fillOf c gs (r .pools .shadow) m path (entryFor t (ltb 0 deep) right))
     unfolding entryOf
     placed =
-        subst (λ x. Next (shadowArea c) false (r .shadow) m (leafAt (entryOf c (frames r m)) (longer (fill c (new right) (s .book .held)))) (frames r m) (fillOf c (r .shadow) m (r .root) path x)) (sym entry-is)
-        (subst (λ l. Next (shadowArea c) false (r .shadow) m (leafAt (entryOf c (frames r m)) l) (frames r m) (fillOf c (r .shadow) m (r .root) path (entryOf c (frames r m) (new right)))) longer-fill
-        (fill-is (inv .shadow) (found.held-entries s r m inv) (new right) (found.path-free s r m inv a (omega arith) long) (λ y q. refl)
+        subst (λ x. Next (shadowArea c) false (r .pools .shadow) m (leafAt (entryOf c (frames r m)) (longer (fill c (new right) (s .book .held)))) (frames r m) (fillOf c gs (r .pools .shadow) m path x)) (sym entry-is)
+        (subst (λ l. Next (shadowArea c) false (r .pools .shadow) m (leafAt (entryOf c (frames r m)) l) (frames r m) (fillOf c gs (r .pools .shadow) m path (entryOf c (frames r m) (new right)))) longer-fill
+        (fill-is (inv .shadow) (found.held-entries s r m inv) (new right) (found.path-free s r m inv a (omega arith) long) (frames r m) gs tables-are (λ y q. refl)
         (entry-thin c (frames r m) (new right) (let i = new-here t right e in omega (arith, i .0, i .1 .1, found.few s r m inv)))
-        (entry-set) (found.rules s r m inv .sizes .shadows) (found.few s r m inv)))
+        (entry-set) (found.rules s r m inv .sizes .shadows)))
       where
         entry-set : present (entryOf c (frames r m) (new right)) ≡ true
         entry-set = entry-present (frames r m (onto [] path)) (ltb (length path) (c .levels)) right
 
-    memory-stands : Stands c mach (placed .memory)
-    memory-stands = stands c mach (r .host) (placed .memory) (maps-beside c (placed .beside) (inv .maps)) (shadow-drop c (placed .beside) ∙ inv .area)
+    memory-stands : Stands c mach ht (placed .memory)
+    memory-stands = stands c mach (r .pools .host) (placed .memory) (maps-beside c (placed .beside) (inv .maps)) (shadow-drop c (placed .beside) ∙ inv .area)
 
-    filled-next : Inv (after right) (withHeld r (placed .pool) (r .top)) (placed .memory)
-    unfolding withHeld
-    filled-next = invariant (after right) (withHeld r (placed .pool) (r .top)) (placed .memory)
-        (subst (Fits (withHeld r (placed .pool) (r .top))) (sym (placed .beside .len)) (fits-held (found.rules s r m inv) (placed .pool) (r .top) (holds-pool (placed .holds)) (found.rules s r m inv .top)))
+    filled-next : Inv (after right) (withHeld r (record { pool = placed .pool; frame = r .guest .held })) (placed .memory)
+    unfolding headHeld headTables
+    filled-next = invariant (after right) (withHeld r (record { pool = placed .pool; frame = r .guest .held })) (placed .memory)
+        (subst (Fits (withHeld r (record { pool = placed .pool; frame = r .guest .held }))) (sym (placed .beside .len)) (fits-held (found.rules s r m inv) (record { pool = placed .pool; frame = r .guest .held }) (holds-pool (placed .holds)) (found.rules s r m inv .held)))
         (inv .word) (inv .root) (maps-beside c (placed .beside) (inv .maps)) (shadow-drop c (placed .beside) ∙ inv .area)
         (fill-book right (omega arith)) (fill-all (Valid c mach) right (new-valid t right e) (inv .valid)) (inv .marks)
-        (shadow-on (fill c (new right) (s .book .held)) mach mach m (placed .memory) (found.memory-stands s r m inv) memory-stands (found.root-small s r m inv) (found.root-small s r m inv) (found.few s r m inv)
+        (shadow-on (fill c (new right) (s .book .held)) mach mach ht ht m (placed .memory) (found.memory-stands s r m inv) memory-stands (found.root-small s r m inv) (found.root-small s r m inv) (found.few s r m inv)
         (all-map (Valid c mach) (Stays c mach mach) (fill c (new right) (s .book .held)) (stays-same c mach) (fill-all (Valid c mach) right (new-valid t right e) (inv .valid)))
-        (subst (λ x. Holds (shadowArea c) false (placed .pool) (placed .memory) (leafAt (entryOf c (framesAt c m x)) (longer (fill c (new right) (s .book .held)))) (framesAt c m x)) (inv .root) (placed .holds)))
+        (subst (λ x. Holds (shadowArea c) false (placed .pool) (placed .memory) (leafAt (entryOf c (framesAt c ht m x)) (longer (fill c (new right) (s .book .held)))) (framesAt c ht m x)) (inv .root) (placed .holds)))
         (inv .top ∙ ap (topBy (frames r m [])) (none-empty (s .book .held) others-long)
-        ∙ sym (ap (topBy (framesAt c (placed .memory) (mach .root) [])) (none-empty (fill c (new right) (s .book .held)) (fill-all (λ (h : Held). 0 < length (h .path)) right long others-long))))
+        ∙ sym (ap (topBy (framesAt c ht (placed .memory) (mach .root) [])) (none-empty (fill c (new right) (s .book .held)) (fill-all (λ (h : Held). 0 < length (h .path)) right long others-long))))
 
     filled-path : serves st deep (find path (s .book .held)) ≡ false
-        → Translates s r m st a (request c mach (s .book) st a deep) (filledOf c m (r .shadow) (r .top) (r .root) st a deep t right)
+        → Translates s r m st a (request c mach (s .book) st a deep) (filledOf c ht m hold gs st a deep t right)
     unfolding filledOf
     filled-path sv =
         let l : deep ≤ c .levels = omega arith in
-        let f : After Went = fillOf c (r .shadow) m (r .root) path (entryFor t (ltb 0 deep) right) in
-        let way : fillBy c (r .shadow) (r .top) st a deep t right f (f .result .way) ≡ yields (servedOf c (placed .memory) (placed .pool) (r .top) st a deep t right 1) (placed .memory) =
-        ap (λ (x : After Went). fillBy c (r .shadow) (r .top) st a deep t right x (x .result .way)) (placed .done) in
-        subst (λ k. Translates s r m st a k (cond (ltb deep (c .levels)) (fillBy c (r .shadow) (r .top) st a deep t right f (f .result .way)) (yields (servedOf c m (r .shadow) t st a deep t right 1) m))) (sym (filled-count t right l sv e))
+        let f : After Went = fillOf c gs (r .pools .shadow) m path (entryFor t (ltb 0 deep) right) in
+        let way : fillBy c ht hold st a deep t right f (f .result .way) ≡ yields (servedOf c ht (placed .memory) (record { pool = placed .pool; frame = r .guest .held }) st a deep t right 1) (placed .memory) =
+        ap (λ (x : After Went). fillBy c ht hold st a deep t right x (x .result .way)) (placed .done) in
+        subst (λ k. Translates s r m st a k (cond (leb (c .levels) deep) (yields (servedOf c ht m (holdingAt (r .pools .shadow) t) st a deep t right 1) m) (fillBy c ht hold st a deep t right f (f .result .way)))) (sym (filled-count t right l sv e))
         (record {
-          pool = placed .pool;
-          top = r .top;
+          held = record { pool = placed .pool; frame = r .guest .held };
           memory = placed .memory;
-          done = ap (λ b. cond b (fillBy c (r .shadow) (r .top) st a deep t right f (f .result .way)) (yields (servedOf c m (r .shadow) t st a deep t right 1) m)) (lt-ltb deep (c .levels) low)
-              ∙ way ∙ ap (λ x. yields x (placed .memory)) (served-is (placed .memory) memory-stands t right (placed .pool) (r .top) 1 l (new-here t right e .1) e);
+          done = ap (λ b. cond b (yields (servedOf c ht m (holdingAt (r .pools .shadow) t) st a deep t right 1) m) (fillBy c ht hold st a deep t right f (f .result .way))) (lt-leb (c .levels) deep low)
+              ∙ way ∙ ap (λ x. yields x (placed .memory)) (served-is (placed .memory) memory-stands t right (record { pool = placed .pool; frame = r .guest .held }) 1 l (new-here t right e .1) e);
           next = filled-next;
         })
 
@@ -405,10 +422,10 @@ module _ (s : State) (r : Record) (m : List ℕ) (inv : Inv s r m) (st : Bool) (
     unfolding onto
     here = ap (λ p. frames r m (onto [] p)) (sym empty) ∙ new-here t right e .0
 
-    top-next : Inv (after right) (withHeld r (r .shadow) t) m
-    unfolding withHeld
+    top-next : Inv (after right) (withHeld r (holdingAt (r .pools .shadow) t)) m
+    unfolding headHeld headTables
     top-next = record {
-      fits = fits-true (withHeld r (r .shadow) t) (length m) (fits-held (found.rules s r m inv) (r .shadow) t (found.rules s r m inv .shadow) (inr (new-here t right e .1)));
+      fits = fits-true (withHeld r (holdingAt (r .pools .shadow) t)) (length m) (fits-held (found.rules s r m inv) (holdingAt (r .pools .shadow) t) (found.rules s r m inv .shadow) (inr (new-here t right e .1)));
       word = inv .word;
       root = inv .root;
       maps = inv .maps;
@@ -416,22 +433,21 @@ module _ (s : State) (r : Record) (m : List ℕ) (inv : Inv s r m) (st : Bool) (
       book = fill-book right low;
       valid = fill-all (Valid c mach) right (new-valid t right e) (inv .valid);
       marks = inv .marks;
-      shadow = subst (λ l. Holds (shadowArea c) false (r .shadow) m (leafAt (entryOf c (frames r m)) l) (frames r m)) (sym not-longer) (inv .shadow);
+      shadow = subst (λ l. Holds (shadowArea c) false (r .pools .shadow) m (leafAt (entryOf c (frames r m)) l) (frames r m)) (sym not-longer) (inv .shadow);
       top = sym here ∙ sym (ap (topBy (frames r m [])) found-top);
     }
 
     top-path : serves st deep (find path (s .book .held)) ≡ false
-        → Translates s r m st a (request c mach (s .book) st a deep) (filledOf c m (r .shadow) (r .top) (r .root) st a deep t right)
+        → Translates s r m st a (request c mach (s .book) st a deep) (filledOf c ht m hold gs st a deep t right)
     unfolding filledOf
     top-path sv =
-        let f : After Went = fillOf c (r .shadow) m (r .root) path (entryFor t (ltb 0 deep) right) in
-        subst (λ k. Translates s r m st a k (cond (ltb deep (c .levels)) (fillBy c (r .shadow) (r .top) st a deep t right f (f .result .way)) (yields (servedOf c m (r .shadow) t st a deep t right 1) m))) (sym (filled-count t right low sv e))
+        let f : After Went = fillOf c gs (r .pools .shadow) m path (entryFor t (ltb 0 deep) right) in
+        subst (λ k. Translates s r m st a k (cond (leb (c .levels) deep) (yields (servedOf c ht m (holdingAt (r .pools .shadow) t) st a deep t right 1) m) (fillBy c ht hold st a deep t right f (f .result .way)))) (sym (filled-count t right low sv e))
         (record {
-          pool = r .shadow;
-          top = t;
+          held = holdingAt (r .pools .shadow) t;
           memory = m;
-          done = ap (λ b. cond b (fillBy c (r .shadow) (r .top) st a deep t right f (f .result .way)) (yields (servedOf c m (r .shadow) t st a deep t right 1) m)) (le-ltb deep (c .levels) high)
-              ∙ ap (λ x. yields x m) (served-is m (found.memory-stands s r m inv) t right (r .shadow) t 1 low (new-here t right e .1) e);
+          done = ap (λ b. cond b (yields (servedOf c ht m (holdingAt (r .pools .shadow) t) st a deep t right 1) m) (fillBy c ht hold st a deep t right f (f .result .way))) (le-leb (c .levels) deep high)
+              ∙ ap (λ x. yields x m) (served-is m (found.memory-stands s r m inv) t right (holdingAt (r .pools .shadow) t) 1 low (new-here t right e .1) e);
           next = top-next;
         })
 
@@ -439,13 +455,13 @@ module _ (s : State) (r : Record) (m : List ℕ) (inv : Inv s r m) (st : Bool) (
 
   -- a granted shadow part is filled
   missed-granted : (t : ℕ) (right : Bool) → deep ≤ c .levels → part .result ≡ granted (t, right)
-      → missedOf c m (r .shadow) (r .top) (r .root) st a deep ≡ filledOf c m (r .shadow) (r .top) (r .root) st a deep t right
-  unfolding missedOf
-  missed-granted t right low e = ap (missedBy c m (r .shadow) (r .top) (r .root) st a deep) (walked-is low ∙ ap (λ y. plainWalked y (part .count)) e)
+      → missedOf c ht m hold (r .guest .root .0) st a deep ≡ filledOf c ht m hold gs st a deep t right
+  unfolding missedOf trailFrom
+  missed-granted t right low e = ap (missedBy c ht m hold st a deep gs) (walked-is low ∙ ap (λ y. plainWalked y (part .count)) e)
 
   -- a path that does not serve
   missed-path : deep ≤ c .levels → serves st deep (find path (s .book .held)) ≡ false
-      → Translates s r m st a (request c mach (s .book) st a deep) (missedOf c m (r .shadow) (r .top) (r .root) st a deep)
+      → Translates s r m st a (request c mach (s .book) st a deep) (missedOf c ht m hold (r .guest .root .0) st a deep)
   missed-path low sv = go (part .result) refl
     where
       -- at depth N only a path that is not held does not serve
@@ -455,13 +471,13 @@ module _ (s : State) (r : Record) (m : List ℕ) (inv : Inv s r m) (st : Bool) (
       none-at (suc d) (some h) l q = let z : _≡_ {A = ℕ} 0 1 = cc in absurd (omega arith)
 
       filled : (t : ℕ) (right : Bool) → part .result ≡ granted (t, right) → (b : Bool) → ltb deep (c .levels) ≡ b
-          → Translates s r m st a (request c mach (s .book) st a deep) (filledOf c m (r .shadow) (r .top) (r .root) st a deep t right)
+          → Translates s r m st a (request c mach (s .book) st a deep) (filledOf c ht m hold gs st a deep t right)
       filled t right e true q = filled-path t right (ltb-true deep (c .levels) q) e sv
       filled t right e false q =
           let high = ltb-false deep (c .levels) q in
           top-path t right low high e (none-at deep (find path (s .book .held)) (omega arith) sv) sv
 
-      go : (x : Result Fault Place) → part .result ≡ x → Translates s r m st a (request c mach (s .book) st a deep) (missedOf c m (r .shadow) (r .top) (r .root) st a deep)
+      go : (x : Result Fault Place) → part .result ≡ x → Translates s r m st a (request c mach (s .book) st a deep) (missedOf c ht m hold (r .guest .root .0) st a deep)
       go (failed x) e = fault-path x low sv e
       go (granted p) e =
           subst (Translates s r m st a (request c mach (s .book) st a deep))
@@ -469,46 +485,45 @@ module _ (s : State) (r : Record) (m : List ℕ) (inv : Inv s r m) (st : Bool) (
 
   -- a path within the depth of the tables
   path-translates : deep ≤ c .levels
-      → Translates s r m st a (request c mach (s .book) st a deep) (foundBy c m (r .shadow) (r .top) (r .root) st a deep (foundOf c m (r .shadow .fresh) (r .top) a deep))
+      → Translates s r m st a (request c mach (s .book) st a deep) (foundBy c ht m hold (r .guest .root .0) st a deep (foundOf c m hold a deep))
   path-translates low = go (find path (s .book .held)) refl
     where
       go : (o : Option Held) → find path (s .book .held) ≡ o
-          → Translates s r m st a (request c mach (s .book) st a deep) (foundBy c m (r .shadow) (r .top) (r .root) st a deep (foundOf c m (r .shadow .fresh) (r .top) a deep))
+          → Translates s r m st a (request c mach (s .book) st a deep) (foundBy c ht m hold (r .guest .root .0) st a deep (foundOf c m hold a deep))
       go none e =
-          subst (λ x. Translates s r m st a (request c mach (s .book) st a deep) (foundBy c m (r .shadow) (r .top) (r .root) st a deep x)) (sym (found.found-none s r m inv a low e .1))
+          subst (λ x. Translates s r m st a (request c mach (s .book) st a deep) (foundBy c ht m hold (r .guest .root .0) st a deep x)) (sym (found.found-none s r m inv a low e .1))
           (missed-path low (ap (serves st deep) e))
       go (some h) e =
-          subst (λ x. Translates s r m st a (request c mach (s .book) st a deep) (foundBy c m (r .shadow) (r .top) (r .root) st a deep x)) (sym (found.found-some s r m inv a low h e))
+          subst (λ x. Translates s r m st a (request c mach (s .book) st a deep) (foundBy c ht m hold (r .guest .root .0) st a deep x)) (sym (found.found-some s r m inv a low h e))
           (by (servesOf st deep (h .right)) refl)
         where
           by : (b : Bool) → servesOf st deep (h .right) ≡ b
               → Translates s r m st a (request c mach (s .book) st a deep)
-              (cond (servesOf st deep (h .right)) (yields (servedOf c m (r .shadow) (r .top) st a deep (frames r m (onto [] path)) (h .right) 0) m) (missedOf c m (r .shadow) (r .top) (r .root) st a deep))
+              (cond (servesOf st deep (h .right)) (yields (servedOf c ht m hold st a deep (frames r m (onto [] path)) (h .right) 0) m) (missedOf c ht m hold (r .guest .root .0) st a deep))
           by true q = subst (λ b. Translates s r m st a (request c mach (s .book) st a deep)
-              (cond b (yields (servedOf c m (r .shadow) (r .top) st a deep (frames r m (onto [] path)) (h .right) 0) m) (missedOf c m (r .shadow) (r .top) (r .root) st a deep))) (sym q) (served-path h low e q)
+              (cond b (yields (servedOf c ht m hold st a deep (frames r m (onto [] path)) (h .right) 0) m) (missedOf c ht m hold (r .guest .root .0) st a deep))) (sym q) (served-path h low e q)
           by false q = subst (λ b. Translates s r m st a (request c mach (s .book) st a deep)
-              (cond b (yields (servedOf c m (r .shadow) (r .top) st a deep (frames r m (onto [] path)) (h .right) 0) m) (missedOf c m (r .shadow) (r .top) (r .root) st a deep))) (sym q)
+              (cond b (yields (servedOf c ht m hold st a deep (frames r m (onto [] path)) (h .right) 0) m) (missedOf c ht m hold (r .guest .root .0) st a deep))) (sym q)
               (missed-path low (ap (serves st deep) e ∙ serves-is deep h ∙ q))
 
   -- at depth N + 1 "nothing is shadowed"
-  plain-translates : c .levels < deep → Translates s r m st a (request c mach (s .book) st a deep) (yields (plainOf c m (r .shadow) (r .top) (r .root) st a) m)
+  plain-translates : c .levels < deep → Translates s r m st a (request c mach (s .book) st a deep) (yields (plainOf c ht m hold (r .guest .root .0) st a) m)
   unfolding plainOf request plain
   plain-translates high =
       let p = trace w (walk c st (mach .root) (addressIndexes c a)) in
-      let q : walkedOf c m 0 (walk c st (r .root) (addressIndexes c a)) ≡ plainWalked (p .result) (p .count) =
-      ap (λ x. walkedOf c m 0 (walk c st x (addressIndexes c a))) (inv .root)
-      ∙ root-walked c mach m (found.memory-stands s r m inv) st (mach .root) (addressIndexes c a) (found.root-small s r m inv) (indexes-all (c .levels) (pageOf a)) in
+      let q : walkedOf c ht m 0 (walk c st (r .guest .root .0) (addressIndexes c a)) ≡ plainWalked (p .result) (p .count) =
+      ap (λ x. walkedOf c ht m 0 (walk c st x (addressIndexes c a))) (inv .root)
+      ∙ root-walked c mach ht m (found.memory-stands s r m inv) st (mach .root) (addressIndexes c a) (found.root-small s r m inv) (indexes-all (c .levels) (pageOf a)) in
       let b : leb deep (c .levels) ≡ false = is-false (leb deep (c .levels)) (λ z. let k = leb→le deep (c .levels) z in omega arith) in
       let is = addressIndexes c a in
-      subst (λ k. Translates s r m st a k (yields (plainOf c m (r .shadow) (r .top) (r .root) st a) m))
+      subst (λ k. Translates s r m st a k (yields (plainOf c ht m hold (r .guest .root .0) st a) m))
       (sym (ap (λ t. cond t (shadowed c mach (s .book) st deep is (upper c deep is) (serves st deep (find (upper c deep is) (s .book .held)))
       (trace w (walk c st (mach .root) (upper c deep is))) ((trace w (walk c st (mach .root) (upper c deep is))) .result)) (unshadowed (s .book) p)) b))
       (record {
-        pool = r .shadow;
-        top = r .top;
+        held = hold;
         memory = m;
-        done = ap (λ x. yields (translation (r .shadow) (r .top) (exitBy x) x) m) q
-            ∙ ap (λ x. yields (translation (r .shadow) (r .top) x (plainWalked (p .result) (p .count))) m) (exit-is (p .result) (p .count));
+        done = ap (λ x. yields (translation hold (exitBy x) x) m) q
+            ∙ ap (λ x. yields (translation hold x (plainWalked (p .result) (p .count))) m) (exit-is (p .result) (p .count));
         next = same-inv;
       })
 
@@ -516,15 +531,11 @@ module _ (s : State) (r : Record) (m : List ℕ) (inv : Inv s r m) (st : Bool) (
   pub translates : addressFits c a ≡ true → Translates s r m st a (request c mach (s .book) st a deep) (translatedOf r m st a)
   unfolding translatedOf translateOf
   translates fit =
-      let d : depthAt r a ≡ deep = depth-book c (r .marks) (s .book) (omega arith) (inv .word) (inv .marks) a fit in
-      subst (λ x. Translates s r m st a (request c mach (s .book) st a deep) (translateOf c m (r .shadow) (r .top) (r .root) st a x)) (sym d) (go (leb deep (c .levels)) refl)
+      let d : depthAt r a ≡ deep = depth-book c (r .guest .marks) (s .book) (omega (arith, found.rules s r m inv .sizes .deep)) (inv .word) (inv .marks) a fit in
+      subst (λ x. Translates s r m st a (request c mach (s .book) st a deep) (translateOf c ht m hold (r .guest .root .0) st a x)) (sym d) (go (ltb (c .levels) deep) refl)
     where
-      go : (b : Bool) → leb deep (c .levels) ≡ b
+      go : (b : Bool) → ltb (c .levels) deep ≡ b
           → Translates s r m st a (request c mach (s .book) st a deep)
-          (cond (leb deep (c .levels)) (foundBy c m (r .shadow) (r .top) (r .root) st a deep (foundOf c m (r .shadow .fresh) (r .top) a deep)) (yields (plainOf c m (r .shadow) (r .top) (r .root) st a) m))
-      go true q = subst (λ b. Translates s r m st a (request c mach (s .book) st a deep)
-          (cond b (foundBy c m (r .shadow) (r .top) (r .root) st a deep (foundOf c m (r .shadow .fresh) (r .top) a deep)) (yields (plainOf c m (r .shadow) (r .top) (r .root) st a) m))) (sym q)
-          (path-translates (leb→le deep (c .levels) (subst T (sym q) tt)))
-      go false q = subst (λ b. Translates s r m st a (request c mach (s .book) st a deep)
-          (cond b (foundBy c m (r .shadow) (r .top) (r .root) st a deep (foundOf c m (r .shadow .fresh) (r .top) a deep)) (yields (plainOf c m (r .shadow) (r .top) (r .root) st a) m))) (sym q)
-          (plain-translates (nleb→lt deep (c .levels) (subst (λ b. T (not b)) (sym q) tt)))
+          (cond (ltb (c .levels) deep) (yields (plainOf c ht m hold (r .guest .root .0) st a) m) (foundBy c ht m hold (r .guest .root .0) st a deep (foundOf c m hold a deep)))
+      go true q = rw q (plain-translates (ltb-true (c .levels) deep q))
+      go false q = rw q (path-translates (ltb-false (c .levels) deep q))

@@ -9,14 +9,14 @@ use mathlib.Core.Bool.{Bool, true, false, not, _&&_, _||_, cond}
 use mathlib.Core.List.{List, [], _∷_, _++_}
 use mathlib.Core.Option.{Option, none, some}
 use lib.Dec.{eqb, leb, ltb, leb→le, le→leb}
-use borrow.Author.Tests.{ltb-false}
+use borrow.Author.Tests.{le-ltb, lt-ltb, ltb-false}
 use lib.ListN.{length}
 use Rattle.spec.specs.declared.Fault.{Fault}
 use Rattle.spec.specs.declared.Fault.the-variants.{Absent, Malformed, Protected, HostAbsent, HostReadOnly}
 use Rattle.spec.specs.Config.{Config}
 use Rattle.spec.specs.Entry.{present, writable, frameOf, malformed, pageOf, indexes}
 use Rattle.spec.specs.Walk.{Walk, done, fail, host, word, _>>=_, World, Trace, trace}
-use Rattle.spec.specs.Plain.{Place, must, mapped, hosted, entry, next, levels, walk}
+use Rattle.spec.specs.Plain.{Place, must, hosted, entry, next, levels, walk}
 use Rattle.spec.specs.Refusal.{inGuestArea}
 use Rattle.laws.proofs.Lists.{All, all-map, is-true, is-false}
 use Rattle.laws.proofs.Indexes.{indexes-length}
@@ -27,8 +27,8 @@ use Rattle.area.specs.declared.Way.the-variants.{To, Not, Bad}
 use Rattle.area.specs.declared.Look.{Look}
 use Rattle.area.specs.declared.Look.the-variants.{Seen, Broken}
 use Rattle.area.specs.Header.{entryIn}
-use Rattle.area.specs.Pool.{link, hopOf, onWay}
-use Rattle.area.specs.Tree.{topOf, lookOf}
+use Rattle.area.specs.Pool.{hopOf, onWay}
+use Rattle.area.specs.Tree.{lookOf}
 use Rattle.tree.proofs.Invariant.{present-zero}
 use Rattle.tree.proofs.Local.{entriesRead, SameEntry, look-local, Counts, look-count}
 use Rattle.host.specs.declared.HostWalk.{HostWalk}
@@ -40,9 +40,9 @@ use Rattle.walk.specs.Memory.{placeOf, readsOf, memoryWorld, absentBy, walkedBy
 use Rattle.walk.proofs.Laws.{walked-done}
 use Rattle.record.specs.declared.Record.{Record}
 use Rattle.record.specs.Record.{configOf}
-use Rattle.shadow.specs.Held.{heldOf}
+use Rattle.shadow.specs.Held.{heldOf as shadowed}
 use Rattle.request.specs.Translate.{translation, exitBy, pathIndexes, directOf, servedOf, servesOf, foundOf, foundBy, missedOf, plainOf, translateOf}
-use Rattle.unit.specs.Calls.{depthAt, translatedOf}
+use Rattle.unit.specs.Calls.{hostTop, heldOf, rootOf, depthAt, translatedOf}
 use Rattle.claims.specs.Counted.{Word, SameWords, hostWords, walkWords, pathWords, directWords, countedOf}
 use Rattle.words.specs.After.{After, yields}
 use Rattle.request.specs.declared.Translated.{Translated}
@@ -118,74 +118,74 @@ walk-ends c st root is = ends-bind (hosted root) _ (hosted-ends root) (λ r. lev
 
 -- ---- such a walk over memory, question by question
 
-abbrev onHost : Config → List ℕ → ℕ → ℕ → (Option Place → Walk Fault Place) → HostWalk → Walked
-onHost c m j g k (hosts.Found p w) = walkedOf c m (j + c .levels) (k (some (p .0, w)))
-onHost c m j g k (hosts.Absent n) = walked.Faulted (HostAbsent g) (j + n)
-onHost c m j g k hosts.Damaged = walked.Damaged
+abbrev onHost : Config → ℕ → List ℕ → ℕ → ℕ → (Option Place → Walk Fault Place) → HostWalk → Walked
+onHost c ht m j g k (hosts.Found p w) = walkedOf c ht m (j + c .levels) (k (some (p .0, w)))
+onHost c ht m j g k (hosts.Absent n) = walked.Faulted (HostAbsent g) (j + n)
+onHost c ht m j g k hosts.Damaged = walked.Damaged
 
-walked-host : (c : Config) (m : List ℕ) (j g : ℕ) (k : Option Place → Walk Fault Place) → k none ≡ fail (HostAbsent g)
-    → walkedOf c m j (host g k) ≡ onHost c m j g k (hostWalkOf c m g)
+walked-host : (c : Config) (ht : ℕ) (m : List ℕ) (j g : ℕ) (k : Option Place → Walk Fault Place) → k none ≡ fail (HostAbsent g)
+    → walkedOf c ht m j (host g k) ≡ onHost c ht m j g k (hostWalkOf c ht m g)
 unfolding walkedOf trace memoryWorld
-walked-host c m j g k e = go (hostWalkOf c m g) refl
+walked-host c ht m j g k e = go (hostWalkOf c ht m g) refl
   where
     w : World
-    w = memoryWorld c m
+    w = memoryWorld c ht m
 
     on : HostWalk → Trace Fault Place
     on h = trace w (k (placeOf h))
 
-    go : (h : HostWalk) → hostWalkOf c m g ≡ h → walkedBy c m ((on h) .result) (j + (readsOf c h + (on h) .count)) ≡ onHost c m j g k h
+    go : (h : HostWalk) → hostWalkOf c ht m g ≡ h → walkedBy c ht m ((on h) .result) (j + (readsOf c h + (on h) .count)) ≡ onHost c ht m j g k h
     go (hosts.Found p v) q =
         let t = on (hosts.Found p v) in
         let z : j + (c .levels + t .count) ≡ j + c .levels + t .count = omega arith in
-        ap (walkedBy c m (t .result)) z
+        ap (walkedBy c ht m (t .result)) z
     go (hosts.Absent n) q =
         let z : j + (n + 0) ≡ j + n = omega arith in
-        ap (λ y. walkedBy c m ((trace w y) .result) (j + (n + (trace w y) .count))) e
+        ap (λ y. walkedBy c ht m ((trace w y) .result) (j + (n + (trace w y) .count))) e
         ∙ ap (λ h. absentBy h (walked.Faulted (HostAbsent g) (j + (n + 0)))) q ∙ ap (walked.Faulted (HostAbsent g)) z
     go hosts.Damaged q =
-        ap (λ y. walkedBy c m ((trace w y) .result) (j + (0 + (trace w y) .count))) e
+        ap (λ y. walkedBy c ht m ((trace w y) .result) (j + (0 + (trace w y) .count))) e
         ∙ ap (λ h. absentBy h (walked.Faulted (HostAbsent g) (j + (0 + 0)))) q
 
-walked-word : (c : Config) (m : List ℕ) (j t i : ℕ) (k : ℕ → Walk Fault Place) → walkedOf c m j (word t i k) ≡ walkedOf c m (j + 1) (k (wordIn m t i))
+walked-word : (c : Config) (ht : ℕ) (m : List ℕ) (j t i : ℕ) (k : ℕ → Walk Fault Place) → walkedOf c ht m j (word t i k) ≡ walkedOf c ht m (j + 1) (k (wordIn m t i))
 unfolding walkedOf trace memoryWorld
-walked-word c m j t i k =
-    let r = trace (memoryWorld c m) (k (wordIn m t i)) in
+walked-word c ht m j t i k =
+    let r = trace (memoryWorld c ht m) (k (wordIn m t i)) in
     let z : j + (1 + r .count) ≡ j + 1 + r .count = omega arith in
-    ap (walkedBy c m (r .result)) z
+    ap (walkedBy c ht m (r .result)) z
 
-walked-fail : (c : Config) (m : List ℕ) (j : ℕ) (x : Fault) → NotHost x → walkedOf c m j (fail x) ≡ walked.Faulted x j
+walked-fail : (c : Config) (ht : ℕ) (m : List ℕ) (j : ℕ) (x : Fault) → NotHost x → walkedOf c ht m j (fail x) ≡ walked.Faulted x j
 unfolding walkedOf trace
-walked-fail c m j (Absent n) h = let z : j + 0 ≡ j = omega arith in ap (walked.Faulted (Absent n)) z
-walked-fail c m j (Malformed n) h = let z : j + 0 ≡ j = omega arith in ap (walked.Faulted (Malformed n)) z
-walked-fail c m j (Protected n) h = let z : j + 0 ≡ j = omega arith in ap (walked.Faulted (Protected n)) z
-walked-fail c m j (HostAbsent g) h = absurd h
-walked-fail c m j (HostReadOnly g) h = let z : j + 0 ≡ j = omega arith in ap (walked.Faulted (HostReadOnly g)) z
+walked-fail c ht m j (Absent n) h = let z : j + 0 ≡ j = omega arith in ap (walked.Faulted (Absent n)) z
+walked-fail c ht m j (Malformed n) h = let z : j + 0 ≡ j = omega arith in ap (walked.Faulted (Malformed n)) z
+walked-fail c ht m j (Protected n) h = let z : j + 0 ≡ j = omega arith in ap (walked.Faulted (Protected n)) z
+walked-fail c ht m j (HostAbsent g) h = absurd h
+walked-fail c ht m j (HostReadOnly g) h = let z : j + 0 ≡ j = omega arith in ap (walked.Faulted (HostReadOnly g)) z
 
 -- ---- it depends on the words that it reads
 
-host-local : (c : Config) (m n : List ℕ) (g : ℕ) → SameWords m n (hostWords c m g) → hostWalkOf c n g ≡ hostWalkOf c m g
+host-local : (c : Config) (ht : ℕ) (m n : List ℕ) (g : ℕ) → SameWords m n (hostWords c ht m g) → hostWalkOf c ht n g ≡ hostWalkOf c ht m g
 unfolding hostWalkOf
-host-local c m n g h = ap (hostBy c) (look-local 0 (c .hosts) m n (indexes (c .levels) g) (link 0) 0 (same-entries m n (hostWords c m g) h))
+host-local c ht m n g h = ap (hostBy c) (look-local 0 (c .hosts) m n (indexes (c .levels) g) ht 0 (same-entries m n (hostWords c ht m g) h))
 
-pub walk-local : (c : Config) (m n : List ℕ) (p : Walk Fault Place) (j : ℕ) → Ends p → SameWords m n (walkWords c m p) → walkedOf c n j p ≡ walkedOf c m j p
+pub walk-local : (c : Config) (ht : ℕ) (m n : List ℕ) (p : Walk Fault Place) (j : ℕ) → Ends p → SameWords m n (walkWords c ht m p) → walkedOf c ht n j p ≡ walkedOf c ht m j p
 unfolding walkWords
-walk-local c m n (done a) j h s = walked-done c n j (a .0) (a .1) ∙ sym (walked-done c m j (a .0) (a .1))
-walk-local c m n (fail x) j h s = walked-fail c n j x h ∙ sym (walked-fail c m j x h)
-walk-local c m n (host g k) j h s =
-    walked-host c n j g k (h .0) ∙ ap (onHost c n j g k) (host-local c m n g (all-first _ (hostWords c m g) (walkWords c m (k (placeOf (hostWalkOf c m g)))) s))
-    ∙ go (hostWalkOf c m g) (all-rest _ (hostWords c m g) (walkWords c m (k (placeOf (hostWalkOf c m g)))) s) (λ r q. walk-local c m n (k (some r)) (j + c .levels) (h .1 r) q)
-    ∙ sym (walked-host c m j g k (h .0))
+walk-local c ht m n (done a) j h s = walked-done c ht n j (a .0) (a .1) ∙ sym (walked-done c ht m j (a .0) (a .1))
+walk-local c ht m n (fail x) j h s = walked-fail c ht n j x h ∙ sym (walked-fail c ht m j x h)
+walk-local c ht m n (host g k) j h s =
+    walked-host c ht n j g k (h .0) ∙ ap (onHost c ht n j g k) (host-local c ht m n g (all-first _ (hostWords c ht m g) (walkWords c ht m (k (placeOf (hostWalkOf c ht m g)))) s))
+    ∙ go (hostWalkOf c ht m g) (all-rest _ (hostWords c ht m g) (walkWords c ht m (k (placeOf (hostWalkOf c ht m g)))) s) (λ r q. walk-local c ht m n (k (some r)) (j + c .levels) (h .1 r) q)
+    ∙ sym (walked-host c ht m j g k (h .0))
   where
-    go : (x : HostWalk) → SameWords m n (walkWords c m (k (placeOf x)))
-        → ((r : Place) → SameWords m n (walkWords c m (k (some r))) → walkedOf c n (j + c .levels) (k (some r)) ≡ walkedOf c m (j + c .levels) (k (some r)))
-        → onHost c n j g k x ≡ onHost c m j g k x
+    go : (x : HostWalk) → SameWords m n (walkWords c ht m (k (placeOf x)))
+        → ((r : Place) → SameWords m n (walkWords c ht m (k (some r))) → walkedOf c ht n (j + c .levels) (k (some r)) ≡ walkedOf c ht m (j + c .levels) (k (some r)))
+        → onHost c ht n j g k x ≡ onHost c ht m j g k x
     go (hosts.Found p w) q ih = ih (p .0, w) q
     go (hosts.Absent i) q ih = refl
     go hosts.Damaged q ih = refl
-walk-local c m n (word t i k) j h s =
-    walked-word c n j t i k ∙ ap (λ e. walkedOf c n (j + 1) (k e)) (s .0) ∙ walk-local c m n (k (wordIn m t i)) (j + 1) (h (wordIn m t i)) (s .1)
-    ∙ sym (walked-word c m j t i k)
+walk-local c ht m n (word t i k) j h s =
+    walked-word c ht n j t i k ∙ ap (λ e. walkedOf c ht n (j + 1) (k e)) (s .0) ∙ walk-local c ht m n (k (wordIn m t i)) (j + 1) (h (wordIn m t i)) (s .1)
+    ∙ sym (walked-word c ht m j t i k)
 
 -- ---- and it counts them
 
@@ -228,9 +228,9 @@ look-reads c b s m e is = go (lookOf b s m e is 0) (look-count b s m is e 0) (lo
         by false z i = omega (arith, q)
     go Broken q f = tt
 
-host-reads : (c : Config) (m : List ℕ) (g : ℕ) → LookReads (length (hostWords c m g)) (c .levels) (hostWalkOf c m g)
+host-reads : (c : Config) (ht : ℕ) (m : List ℕ) (g : ℕ) → LookReads (length (hostWords c ht m g)) (c .levels) (hostWalkOf c ht m g)
 unfolding hostWalkOf
-host-reads c m g = subst (λ k. LookReads (length (hostWords c m g)) k (hostWalkOf c m g)) (indexes-length (c .levels) g) (look-reads c 0 (c .hosts) m (link 0) (indexes (c .levels) g))
+host-reads c ht m g = subst (λ k. LookReads (length (hostWords c ht m g)) k (hostWalkOf c ht m g)) (indexes-length (c .levels) g) (look-reads c 0 (c .hosts) m ht (indexes (c .levels) g))
 
 -- x words were read
 abbrev pub Reads : ℕ → Walked → Type 0
@@ -241,30 +241,30 @@ Reads x walked.Damaged = Unit {0}
 reads-same : (x y : ℕ) (r : Walked) → x ≡ y → Reads x r → Reads y r
 reads-same x y r e h = subst (λ k. Reads k r) e h
 
-pub walk-count : (c : Config) (m : List ℕ) (p : Walk Fault Place) (j : ℕ) → Ends p → Reads (j + length (walkWords c m p)) (walkedOf c m j p)
+pub walk-count : (c : Config) (ht : ℕ) (m : List ℕ) (p : Walk Fault Place) (j : ℕ) → Ends p → Reads (j + length (walkWords c ht m p)) (walkedOf c ht m j p)
 unfolding walkWords
-walk-count c m (done a) j h = subst (Reads (j + 0)) (sym (walked-done c m j (a .0) (a .1))) (omega arith)
-walk-count c m (fail x) j h = subst (Reads (j + 0)) (sym (walked-fail c m j x h)) (omega arith)
-walk-count c m (host g k) j h =
-    subst (Reads (j + length (hostWords c m g ++ walkWords c m (k (placeOf (hostWalkOf c m g)))))) (sym (walked-host c m j g k (h .0)))
-    (go (hostWalkOf c m g) (host-reads c m g) (λ r. walk-count c m (k (some r)) (j + c .levels) (h .1 r)))
+walk-count c ht m (done a) j h = subst (Reads (j + 0)) (sym (walked-done c ht m j (a .0) (a .1))) (omega arith)
+walk-count c ht m (fail x) j h = subst (Reads (j + 0)) (sym (walked-fail c ht m j x h)) (omega arith)
+walk-count c ht m (host g k) j h =
+    subst (Reads (j + length (hostWords c ht m g ++ walkWords c ht m (k (placeOf (hostWalkOf c ht m g)))))) (sym (walked-host c ht m j g k (h .0)))
+    (go (hostWalkOf c ht m g) (host-reads c ht m g) (λ r. walk-count c ht m (k (some r)) (j + c .levels) (h .1 r)))
   where
-    none-read : length (walkWords c m (k none)) ≡ 0
-    none-read = ap (λ y. length (walkWords c m y)) (h .0)
+    none-read : length (walkWords c ht m (k none)) ≡ 0
+    none-read = ap (λ y. length (walkWords c ht m y)) (h .0)
 
-    go : (x : HostWalk) → LookReads (length (hostWords c m g)) (c .levels) x
-        → ((r : Place) → Reads (j + c .levels + length (walkWords c m (k (some r)))) (walkedOf c m (j + c .levels) (k (some r))))
-        → Reads (j + length (hostWords c m g ++ walkWords c m (k (placeOf x)))) (onHost c m j g k x)
+    go : (x : HostWalk) → LookReads (length (hostWords c ht m g)) (c .levels) x
+        → ((r : Place) → Reads (j + c .levels + length (walkWords c ht m (k (some r)))) (walkedOf c ht m (j + c .levels) (k (some r))))
+        → Reads (j + length (hostWords c ht m g ++ walkWords c ht m (k (placeOf x)))) (onHost c ht m j g k x)
     go (hosts.Found p w) q ih =
-        let l = length-both (hostWords c m g) (walkWords c m (k (some (p .0, w)))) in
-        reads-same (j + c .levels + length (walkWords c m (k (some (p .0, w))))) (j + length (hostWords c m g ++ walkWords c m (k (some (p .0, w)))))
-        (walkedOf c m (j + c .levels) (k (some (p .0, w)))) (omega (arith, l, q)) (ih (p .0, w))
-    go (hosts.Absent n) q ih = let l = length-both (hostWords c m g) (walkWords c m (k none)) in omega (arith, l, q, none-read)
+        let l = length-both (hostWords c ht m g) (walkWords c ht m (k (some (p .0, w)))) in
+        reads-same (j + c .levels + length (walkWords c ht m (k (some (p .0, w))))) (j + length (hostWords c ht m g ++ walkWords c ht m (k (some (p .0, w)))))
+        (walkedOf c ht m (j + c .levels) (k (some (p .0, w)))) (omega (arith, l, q)) (ih (p .0, w))
+    go (hosts.Absent n) q ih = let l = length-both (hostWords c ht m g) (walkWords c ht m (k none)) in omega (arith, l, q, none-read)
     go hosts.Damaged q ih = tt
-walk-count c m (word t i k) j h =
-    subst (Reads (j + suc (length (walkWords c m (k (wordIn m t i)))))) (sym (walked-word c m j t i k))
-    (reads-same (j + 1 + length (walkWords c m (k (wordIn m t i)))) (j + suc (length (walkWords c m (k (wordIn m t i))))) (walkedOf c m (j + 1) (k (wordIn m t i))) (omega arith)
-    (walk-count c m (k (wordIn m t i)) (j + 1) (h (wordIn m t i))))
+walk-count c ht m (word t i k) j h =
+    subst (Reads (j + suc (length (walkWords c ht m (k (wordIn m t i)))))) (sym (walked-word c ht m j t i k))
+    (reads-same (j + 1 + length (walkWords c ht m (k (wordIn m t i)))) (j + suc (length (walkWords c ht m (k (wordIn m t i))))) (walkedOf c ht m (j + 1) (k (wordIn m t i))) (omega arith)
+    (walk-count c ht m (k (wordIn m t i)) (j + 1) (h (wordIn m t i))))
 
 -- ---- a translation through a held path, or at depth N + 1
 
@@ -272,18 +272,21 @@ module _ (r : Record) (st : Bool) (a : ℕ) where
   abbrev pub c : Config
   c = configOf r
 
+  abbrev pub ht : ℕ
+  ht = hostTop r
+
   abbrev pub d : ℕ
   d = depthAt r a
 
   abbrev pub foundIn : List ℕ → HostWalk
-  foundIn m = foundOf c m (r .shadow .fresh) (r .top) a d
+  foundIn m = foundOf c m (heldOf r) a d
 
   -- the direct part from there, and the whole plain walk
   abbrev direct : ℕ → Bool → Walk Fault Place
   direct t w = levels c st d t w (indexes d (pageOf a))
 
   abbrev whole : Walk Fault Place
-  whole = walk c st (r .root) (indexes (c .levels) (pageOf a))
+  whole = walk c st (rootOf r) (indexes (c .levels) (pageOf a))
 
   -- served by its held path, or at depth N + 1
   pub data Reaches (m : List ℕ) : Type 0 where
@@ -291,67 +294,67 @@ module _ (r : Record) (st : Bool) (a : ℕ) where
     plain : c .levels < d → Reaches m
 
   found-local : (m n : List ℕ) → SameWords m n (pathWords r m a d) → foundIn n ≡ foundIn m
-  unfolding foundOf heldOf pathWords
+  unfolding foundOf shadowed pathWords
   found-local m n h = go (ltb d (c .levels)) h
     where
       go : (b : Bool)
-          → SameWords m n (cond b (entriesRead (c .hosts) (c .shadows) m (topOf (c .hosts) (r .shadow .fresh)) (pathIndexes c d a)) [])
-          → cond b (hostBy c (lookOf (c .hosts) (c .shadows) n (topOf (c .hosts) (r .shadow .fresh)) (pathIndexes c d a) 0)) (cond (eqb (r .top) 0) (hosts.Absent 0) (hosts.Found (page (r .top)) true))
-          ≡ cond b (hostBy c (lookOf (c .hosts) (c .shadows) m (topOf (c .hosts) (r .shadow .fresh)) (pathIndexes c d a) 0)) (cond (eqb (r .top) 0) (hosts.Absent 0) (hosts.Found (page (r .top)) true))
-      go true q = ap (hostBy c) (look-local (c .hosts) (c .shadows) m n (pathIndexes c d a) (topOf (c .hosts) (r .shadow .fresh)) 0
-          (same-entries m n (entriesRead (c .hosts) (c .shadows) m (topOf (c .hosts) (r .shadow .fresh)) (pathIndexes c d a)) q))
+          → SameWords m n (cond b (entriesRead (c .hosts) (c .shadows) m (r .pools .shadow .top) (pathIndexes c d a)) [])
+          → cond b (hostBy c (lookOf (c .hosts) (c .shadows) n (r .pools .shadow .top) (pathIndexes c d a) 0)) (cond (eqb (r .guest .held .0) 0) (hosts.Absent 0) (hosts.Found (r .guest .held) true))
+          ≡ cond b (hostBy c (lookOf (c .hosts) (c .shadows) m (r .pools .shadow .top) (pathIndexes c d a) 0)) (cond (eqb (r .guest .held .0) 0) (hosts.Absent 0) (hosts.Found (r .guest .held) true))
+      go true q = ap (hostBy c) (look-local (c .hosts) (c .shadows) m n (pathIndexes c d a) (r .pools .shadow .top) 0
+          (same-entries m n (entriesRead (c .hosts) (c .shadows) m (r .pools .shadow .top) (pathIndexes c d a)) q))
       go false q = refl
 
   -- what it leaves on a memory
   abbrev pub left : Walked → List ℕ → After Translated
-  left x m = yields (translation (r .shadow) (r .top) (exitBy x) x) m
+  left x m = yields (translation (heldOf r) (exitBy x) x) m
 
   held-is : (m : List ℕ) (t : HostPhysical) (w : Bool) → d ≤ c .levels → foundIn m ≡ hosts.Found t w → servesOf st d w ≡ true
-      → translatedOf r m st a ≡ left (walkedOf c m (c .levels - d) (direct (t .0) w)) m
+      → translatedOf r m st a ≡ left (walkedOf c ht m (c .levels - d) (direct (t .0) w)) m
   unfolding translatedOf translateOf servedOf directOf
   held-is m t w l f s =
-      ap (λ b. cond b (foundBy c m (r .shadow) (r .top) (r .root) st a d (foundIn m)) (yields (plainOf c m (r .shadow) (r .top) (r .root) st a) m)) (is-true (leb d (c .levels)) (le→leb d (c .levels) l))
-      ∙ ap (foundBy c m (r .shadow) (r .top) (r .root) st a d) f
-      ∙ ap (λ b. cond b (yields (servedOf c m (r .shadow) (r .top) st a d (t .0) w 0) m) (missedOf c m (r .shadow) (r .top) (r .root) st a d)) s
-      ∙ ap (λ k. yields (translation (r .shadow) (r .top) (0 + exitBy (on k)) (on k)) m) (zero-add d)
-      ∙ ap (λ e. yields (translation (r .shadow) (r .top) e (on d)) m) (zero-add (exitBy (on d)))
+      ap (λ b. cond b (yields (plainOf c ht m (heldOf r) (rootOf r) st a) m) (foundBy c ht m (heldOf r) (rootOf r) st a d (foundIn m))) (le-ltb (c .levels) d l)
+      ∙ ap (foundBy c ht m (heldOf r) (rootOf r) st a d) f
+      ∙ ap (λ b. cond b (yields (servedOf c ht m (heldOf r) st a d (t .0) w 0) m) (missedOf c ht m (heldOf r) (rootOf r) st a d)) s
+      ∙ ap (λ k. yields (translation (heldOf r) (0 + exitBy (on k)) (on k)) m) (zero-add d)
+      ∙ ap (λ e. yields (translation (heldOf r) e (on d)) m) (zero-add (exitBy (on d)))
     where
       on : ℕ → Walked
-      on k = walkedOf c m (c .levels - d) (levels c st k (t .0) w (indexes d (pageOf a)))
+      on k = walkedOf c ht m (c .levels - d) (levels c st k (t .0) w (indexes d (pageOf a)))
 
-  plain-is : (m : List ℕ) → c .levels < d → translatedOf r m st a ≡ left (walkedOf c m 0 whole) m
+  plain-is : (m : List ℕ) → c .levels < d → translatedOf r m st a ≡ left (walkedOf c ht m 0 whole) m
   unfolding translatedOf translateOf plainOf
   plain-is m l =
-      ap (λ b. cond b (foundBy c m (r .shadow) (r .top) (r .root) st a d (foundIn m)) (yields (plainOf c m (r .shadow) (r .top) (r .root) st a) m))
-      (is-false (leb d (c .levels)) (λ z. let k = leb→le d (c .levels) z in omega arith))
+      ap (λ b. cond b (yields (plainOf c ht m (heldOf r) (rootOf r) st a) m) (foundBy c ht m (heldOf r) (rootOf r) st a d (foundIn m)))
+      (lt-ltb (c .levels) d l)
 
   -- the words that it counts
   held-counted : (m : List ℕ) (t : HostPhysical) (w : Bool) → d ≤ c .levels → foundIn m ≡ hosts.Found t w
-      → countedOf r m st a ≡ pathWords r m a d ++ walkWords c m (direct (t .0) w)
+      → countedOf r m st a ≡ pathWords r m a d ++ walkWords c ht m (direct (t .0) w)
   unfolding countedOf
   held-counted m t w l f =
-      ap (λ b. cond b (pathWords r m a d ++ directWords c m st a d (foundIn m)) (walkWords c m whole)) (is-true (leb d (c .levels)) (le→leb d (c .levels) l))
-      ∙ ap (λ x. pathWords r m a d ++ directWords c m st a d x) f
+      ap (λ b. cond b (pathWords r m a d ++ directWords c ht m st a d (foundIn m)) (walkWords c ht m whole)) (is-true (leb d (c .levels)) (le→leb d (c .levels) l))
+      ∙ ap (λ x. pathWords r m a d ++ directWords c ht m st a d x) f
 
-  plain-counted : (m : List ℕ) → c .levels < d → countedOf r m st a ≡ walkWords c m whole
+  plain-counted : (m : List ℕ) → c .levels < d → countedOf r m st a ≡ walkWords c ht m whole
   unfolding countedOf
   plain-counted m l =
-      ap (λ b. cond b (pathWords r m a d ++ directWords c m st a d (foundIn m)) (walkWords c m whole))
+      ap (λ b. cond b (pathWords r m a d ++ directWords c ht m st a d (foundIn m)) (walkWords c ht m whole))
       (is-false (leb d (c .levels)) (λ z. let k = leb→le d (c .levels) z in omega arith))
 
   -- "the shadow entries on its path": N − d where it is held
   path-reads : (m : List ℕ) (t : HostPhysical) (w : Bool) → d ≤ c .levels → foundIn m ≡ hosts.Found t w → length (pathWords r m a d) ≡ c .levels - d
-  unfolding pathWords foundOf heldOf
+  unfolding pathWords foundOf shadowed
   path-reads m t w l f = go (ltb d (c .levels)) refl f
     where
       is : List ℕ
       is = pathIndexes c d a
 
       at : ℕ
-      at = topOf (c .hosts) (r .shadow .fresh)
+      at = r .pools .shadow .top
 
       go : (b : Bool) → ltb d (c .levels) ≡ b
-          → cond b (hostBy c (lookOf (c .hosts) (c .shadows) m at is 0)) (cond (eqb (r .top) 0) (hosts.Absent 0) (hosts.Found (page (r .top)) true)) ≡ hosts.Found t w
+          → cond b (hostBy c (lookOf (c .hosts) (c .shadows) m at is 0)) (cond (eqb (r .guest .held .0) 0) (hosts.Absent 0) (hosts.Found (r .guest .held) true)) ≡ hosts.Found t w
           → length (cond b (entriesRead (c .hosts) (c .shadows) m at is) []) ≡ c .levels - d
       go true q e = subst (LookReads (length (entriesRead (c .hosts) (c .shadows) m at is)) (length is)) e (look-reads c (c .hosts) (c .shadows) m at is) ∙ indexes-length (c .levels - d) _
       go false q e = let k = ltb-false d (c .levels) q in omega arith
@@ -366,23 +369,23 @@ module _ (r : Record) (st : Bool) (a : ℕ) where
   pub alike : (m n : List ℕ) → Reaches m → SameWords m n (countedOf r m st a) → Alike m n
   alike m n (held t w l f s) h =
       let e = held-counted m t w l f in
-      let k : SameWords m n (pathWords r m a d ++ walkWords c m (direct (t .0) w)) = subst (SameWords m n) e h in
-      let p = all-first _ (pathWords r m a d) (walkWords c m (direct (t .0) w)) k in
-      let q = all-rest _ (pathWords r m a d) (walkWords c m (direct (t .0) w)) k in
-      let long = ap length e ∙ length-both (pathWords r m a d) (walkWords c m (direct (t .0) w)) ∙ ap (λ x. x + length (walkWords c m (direct (t .0) w))) (path-reads m t w l f) in
+      let k : SameWords m n (pathWords r m a d ++ walkWords c ht m (direct (t .0) w)) = subst (SameWords m n) e h in
+      let p = all-first _ (pathWords r m a d) (walkWords c ht m (direct (t .0) w)) k in
+      let q = all-rest _ (pathWords r m a d) (walkWords c ht m (direct (t .0) w)) k in
+      let long = ap length e ∙ length-both (pathWords r m a d) (walkWords c ht m (direct (t .0) w)) ∙ ap (λ x. x + length (walkWords c ht m (direct (t .0) w))) (path-reads m t w l f) in
       let ends = levels-ends c st d (t .0) w (indexes d (pageOf a)) in
       record {
-        walked = walkedOf c m (c .levels - d) (direct (t .0) w);
+        walked = walkedOf c ht m (c .levels - d) (direct (t .0) w);
         before = held-is m t w l f s;
-        altered = held-is n t w l (found-local m n p ∙ f) s ∙ ap (λ x. left x n) (walk-local c m n (direct (t .0) w) (c .levels - d) ends q);
-        count = reads-same _ _ (walkedOf c m (c .levels - d) (direct (t .0) w)) (sym long) (walk-count c m (direct (t .0) w) (c .levels - d) ends);
+        altered = held-is n t w l (found-local m n p ∙ f) s ∙ ap (λ x. left x n) (walk-local c ht m n (direct (t .0) w) (c .levels - d) ends q);
+        count = reads-same _ _ (walkedOf c ht m (c .levels - d) (direct (t .0) w)) (sym long) (walk-count c ht m (direct (t .0) w) (c .levels - d) ends);
       }
   alike m n (plain l) h =
       let e = plain-counted m l in
-      let ends = walk-ends c st (r .root) (indexes (c .levels) (pageOf a)) in
+      let ends = walk-ends c st (rootOf r) (indexes (c .levels) (pageOf a)) in
       record {
-        walked = walkedOf c m 0 whole;
+        walked = walkedOf c ht m 0 whole;
         before = plain-is m l;
-        altered = plain-is n l ∙ ap (λ x. left x n) (walk-local c m n whole 0 ends (subst (SameWords m n) e h));
-        count = reads-same _ _ (walkedOf c m 0 whole) (let z : 0 + length (walkWords c m whole) ≡ length (walkWords c m whole) = omega arith in z ∙ sym (ap length e)) (walk-count c m whole 0 ends);
+        altered = plain-is n l ∙ ap (λ x. left x n) (walk-local c ht m n whole 0 ends (subst (SameWords m n) e h));
+        count = reads-same _ _ (walkedOf c ht m 0 whole) (let z : 0 + length (walkWords c ht m whole) ≡ length (walkWords c ht m whole) = omega arith in z ∙ sym (ap length e)) (walk-count c ht m whole 0 ends);
       }

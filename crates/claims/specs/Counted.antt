@@ -20,8 +20,6 @@ use Rattle.spec.specs.Call.{addressIndexes}
 use Rattle.spec.specs.Count.{serves}
 use Rattle.laws.proofs.Lists.{All}
 use Rattle.words.specs.Words.{wordIn}
-use Rattle.area.specs.Pool.{link}
-use Rattle.area.specs.Tree.{topOf}
 use Rattle.tree.proofs.Local.{entriesRead}
 use Rattle.tree.proofs.Stores.{SameFrame}
 use Rattle.host.specs.declared.HostWalk.{HostWalk}
@@ -33,7 +31,7 @@ use Rattle.walk.specs.Memory.{placeOf}
 use Rattle.record.specs.declared.Record.{Record}
 use Rattle.record.specs.Record.{configOf}
 use Rattle.request.specs.Translate.{pathIndexes, foundOf}
-use Rattle.unit.specs.Calls.{depthAt, translatedOf, storeCall}
+use Rattle.unit.specs.Calls.{hostTop, heldOf, rootOf, depthAt, translatedOf, storeCall}
 use Rattle.claims.specs.Run.{guestArea}
 use Rattle.words.specs.After.{After}
 use Rattle.unit.specs.declared.Reply.{Reply}
@@ -47,37 +45,38 @@ abbrev pub SameWords : List ℕ → List ℕ → List Word → Type 0
 SameWords m n xs = All (λ x. wordIn n (x .0) (x .1) ≡ wordIn m (x .0) (x .1)) xs
 
 -- the host entries that the host walk of a guest frame reads
-abbrev pub hostWords : Config → List ℕ → ℕ → List Word
-hostWords c m g = entriesRead 0 (c .hosts) m (link 0) (indexes (c .levels) g)
+abbrev pub hostWords : Config → ℕ → List ℕ → ℕ → List Word
+hostWords c ht m g = entriesRead 0 (c .hosts) m ht (indexes (c .levels) g)
 
 -- the words that a walk over memory reads, those of its host walks too, in the order of the walk
-unfoldable pub walkWords : {A : Type 0} → Config → List ℕ → Walk Fault A → List Word
-walkWords c m (done a) = []
-walkWords c m (fail x) = []
-walkWords c m (host g k) = hostWords c m g ++ walkWords c m (k (placeOf (hostWalkOf c m g)))
-walkWords c m (word t i k) = (t, i) ∷ walkWords c m (k (wordIn m t i))
+unfoldable pub walkWords : {A : Type 0} → Config → ℕ → List ℕ → Walk Fault A → List Word
+walkWords c ht m (done a) = []
+walkWords c ht m (fail x) = []
+walkWords c ht m (host g k) = hostWords c ht m g ++ walkWords c ht m (k (placeOf (hostWalkOf c ht m g)))
+walkWords c ht m (word t i k) = (t, i) ∷ walkWords c ht m (k (wordIn m t i))
 
 -- "the shadow entries on its path"; at depth N the path stands in the record
 unfoldable pub pathWords : Record → List ℕ → ℕ → ℕ → List Word
 pathWords r m a d =
     let c = configOf r in
-    cond (ltb d (c .levels)) (entriesRead (c .hosts) (c .shadows) m (topOf (c .hosts) (r .shadow .fresh)) (pathIndexes c d a)) []
+    cond (ltb d (c .levels)) (entriesRead (c .hosts) (c .shadows) m (r .pools .shadow .top) (pathIndexes c d a)) []
 
 -- "the words of the direct part", from the guest table of level d that the held path leads to
-abbrev pub directWords : Config → List ℕ → Bool → ℕ → ℕ → HostWalk → List Word
-directWords c m st a d (hosts.Found t w) = walkWords c m (levels c st d (t .0) w (indexes d (pageOf a)))
-directWords c m st a d (hosts.Absent n) = []
-directWords c m st a d hosts.Damaged = []
+abbrev pub directWords : Config → ℕ → List ℕ → Bool → ℕ → ℕ → HostWalk → List Word
+directWords c ht m st a d (hosts.Found t w) = walkWords c ht m (levels c st d (t .0) w (indexes d (pageOf a)))
+directWords c ht m st a d (hosts.Absent n) = []
+directWords c ht m st a d hosts.Damaged = []
 
 -- "those it counts (the shadow entries on its path, then the words of the direct part)": of a load or a store whose path is
 -- held, or whose depth is N + 1, where the direct part is the whole plain walk
 unfoldable pub countedOf : Record → List ℕ → Bool → ℕ → List Word
 countedOf r m st a =
     let c = configOf r in
+    let ht = hostTop r in
     let d = depthAt r a in
     cond (leb d (c .levels))
-    (pathWords r m a d ++ directWords c m st a d (foundOf c m (r .shadow .fresh) (r .top) a d))
-    (walkWords c m (walk c st (r .root) (indexes (c .levels) (pageOf a))))
+    (pathWords r m a d ++ directWords c ht m st a d (foundOf c m (heldOf r) a d))
+    (walkWords c ht m (walk c st (rootOf r) (indexes (c .levels) (pageOf a))))
 
 abbrev pub touchedBy : ℕ → Walked → List Word
 touchedBy a (walked.Arrived t w n) = (t .0, wordOf a) ∷ []

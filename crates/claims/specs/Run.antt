@@ -5,23 +5,13 @@ use mathlib.Core.List.{List, [], _∷_}
 use lib.ListN.{drop}
 use Rattle.spec.specs.Config.{guestBase}
 use Rattle.spec.specs.Answer.{Line, line}
-use Rattle.spec.specs.Call.{Call, root, map, unmap, setMark, clearMark, load, store, device}
+use Rattle.spec.specs.declared.Call.{Call}
 use Rattle.spec.specs.Run.{State}
 use Rattle.record.specs.declared.Record.{Record}
 use Rattle.record.specs.Record.{configOf}
-use Rattle.unit.specs.Calls.{openCall, loadOf, storeCall, deviceCall, rootCall, mapCall, unmapCall, setMarkCall, clearMarkCall}
+use Rattle.unit.specs.Calls.{openCall, callOf}
 use Rattle.words.specs.After.{After}
 use Rattle.unit.specs.declared.Reply.{Reply}
-
-unfoldable pub callOf : Call → Record → List ℕ → After Reply
-callOf (root g) r m = rootCall r m g
-callOf (map g f w) r m = mapCall r m g f w
-callOf (unmap g) r m = unmapCall r m g
-callOf (setMark a n) r m = setMarkCall r m a n
-callOf (clearMark a n) r m = clearMarkCall r m a n
-callOf (load a) r m = loadOf r m a
-callOf (store a v) r m = storeCall r m a v
-callOf (device a v) r m = deviceCall r m a v
 
 -- the guest area of a memory
 abbrev pub guestArea : Record → List ℕ → List ℕ

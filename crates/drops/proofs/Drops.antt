@@ -24,7 +24,6 @@ use Rattle.area.specs.declared.Pool.{Pool}
 use Rattle.area.specs.declared.Way.the-variants as way
 use Rattle.area.specs.Header.{entryIn}
 use Rattle.area.specs.Pool.{onWay, noneOf}
-use Rattle.area.specs.Tree.{topOf}
 use Rattle.area.specs.Remove.{lastIndex}
 use Rattle.host.specs.Walk.{page}
 use Rattle.tree.proofs.Change.{differ, is-some, some-inj, no-empty}
@@ -133,7 +132,7 @@ module _ {c : Config} {p : Pool} {m : List ℕ} {guest G : List ℕ → ℕ} {ro
       none-left : (y : List ℕ) → 0 ≡ leafAt w (dropPrefix [] hs) y
       none-left y = sym (ap (λ ks. leafAt w ks y) (prefix-all hs) ∙ leaf-none w y)
   drop-prefix (i ∷ is) l s =
-      rw (holder-is [] i is (topOf (c .hosts) (p .fresh)) (h .tables .top ∙ ap (slot (h .tabs [])) (sym (h .tables .root))) (omega arith) s) (go (h .tabs x) refl)
+      rw (holder-is [] i is (p .top) (h .tables .top ∙ ap (slot (h .tabs [])) (sym (h .tables .root))) (omega arith) s) (go (h .tabs x) refl)
     where
       x : List ℕ
       x = front [] i is

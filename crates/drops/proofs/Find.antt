@@ -30,11 +30,11 @@ use Rattle.drops.proofs.Held.{both-tests, entries, leafAt, HeldEntries,
 
 -- ---- by leaves
 module _ (c : Config) {p : Pool} {m : List ℕ} {lv guest : List ℕ → ℕ} (h : Holds (shadowArea c) false p m lv guest) (is : List ℕ) (f : Fits (shadowArea c) lv is) where
-  pub leaf-found : Leaves c lv → lv (onto [] is) ≢ 0 → heldOf c m (p .fresh) is ≡ Found (page (frameOf (lv (onto [] is)))) (writable (lv (onto [] is)))
+  pub leaf-found : Leaves c lv → lv (onto [] is) ≢ 0 → heldOf c m (p .top) is ≡ Found (page (frameOf (lv (onto [] is)))) (writable (lv (onto [] is)))
   unfolding heldOf leafOf
   leaf-found l n = rw (holds-look h is f, h .tables .solid (onto [] is) n, l .area (onto [] is) n)
 
-  pub leaf-absent : lv (onto [] is) ≡ 0 → heldOf c m (p .fresh) is ≡ Absent (steps (h .tabs) [] is)
+  pub leaf-absent : lv (onto [] is) ≡ 0 → heldOf c m (p .top) is ≡ Absent (steps (h .tabs) [] is)
   unfolding heldOf leafOf
   leaf-absent e = rw (holds-look h is f, e, present-zero)
 
@@ -105,10 +105,10 @@ find-all P is k (h ∷ hs) a e = go (same is (h .path)) e (find-all P is k hs (a
 
 -- the tables answer as the book does: found if held, else absent, never damaged
 pub held-is : {c : Config} {p : Pool} {m : List ℕ} {guest G : List ℕ → ℕ} {root : ℕ} {w : Held → ℕ} {hs : List Held} (h : Holds (shadowArea c) false p m (leafAt w hs) guest)
-    → HeldEntries c guest G root w hs → (is : List ℕ) → Fits (shadowArea c) (leafAt w hs) is → heldOf c m (p .fresh) is ≡ answerFound w (find is hs) (steps (h .tabs) [] is)
+    → HeldEntries c guest G root w hs → (is : List ℕ) → Fits (shadowArea c) (leafAt w hs) is → heldOf c m (p .top) is ≡ answerFound w (find is hs) (steps (h .tabs) [] is)
 held-is {c = c} {p = p} {m = m} {w = w} {hs = hs} h a is f = go (find is hs) refl
   where
-    go : (o : Option Held) → find is hs ≡ o → heldOf c m (p .fresh) is ≡ answerFound w o (steps (h .tabs) [] is)
+    go : (o : Option Held) → find is hs ≡ o → heldOf c m (p .top) is ≡ answerFound w o (steps (h .tabs) [] is)
     go none e = leaf-absent c h is f (leaf-find w hs is ∙ ap (entryFound w) e)
     go (some k) e =
         let q : leafAt w hs (onto [] is) ≡ w k = leaf-find w hs is ∙ ap (entryFound w) e in

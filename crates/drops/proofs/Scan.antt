@@ -8,7 +8,7 @@ use native.Mathlib.Omega.{arith}
 use native.Mathlib.Decide.{ℕ-discrete}
 use mathlib.Core.Bool.{Bool, true, false, cond}
 use mathlib.Core.List.{List, [], _∷_}
-use mathlib.Core.Option.{Option, none, some, IsSome}
+use mathlib.Core.Option.{Option, none, some}
 use lib.Dec.{eqb, ltb}
 use lib.ListN.{length}
 use borrow.Author.Tests.{eqb-true, eqb-false, ne-eqb, lt-ltb, ltb-true, ltb-false}
@@ -20,7 +20,7 @@ use Rattle.area.specs.Header.{entryIn, putOf, guestOf, levelOf, parentOf, slotO
 use Rattle.area.specs.Remove.{releaseOf}
 use Rattle.tree.proofs.Change.{differ, eq?, upd, upd-on, upd-other, not-some}
 use Rattle.tree.proofs.Stores.{Beside, beside-refl, beside-trans, put-head}
-use Rattle.tree.proofs.Invariant.{slot, inside-is, present-link, switch-link, present-zero, frame-link, Tables, Exact, above, none-last, rooted, fresh-some, frame-small, place-fits}
+use Rattle.tree.proofs.Invariant.{slot, inside-is, present-link, switch-link, present-zero, frame-link, Tables, Exact, above, none-last, frame-small, place-fits}
 use Rattle.tree.proofs.Grow.{clear-leaf, put-beside}
 use Rattle.tree.proofs.Release.{ButAbove, exact-but, but-clear, Released, release-is}
 use Rattle.tree.proofs.Whole.{Holds, holds-leaves}
@@ -35,6 +35,10 @@ use Rattle.shadow.specs.Drop.{outcome, clearBy, goesOf, clearOne, clearFrom, se
 use Rattle.shadow.proofs.Laws.{range-fits}
 use Rattle.words.specs.After.{After, yields}
 use Rattle.shadow.specs.declared.Left.{Left}
+
+abbrev frameOr : Option ℕ → ℕ
+frameOr none = 0
+frameOr (some f) = f
 
 -- is the entry at a path, or one above it, cut?
 abbrev pub under : (List ℕ → Bool) → List ℕ → Bool
@@ -139,7 +143,7 @@ module _ (c : Config) (x : Cut) (C : List ℕ → Bool) (guest : List ℕ → �
     -- only leaves under a cut are gone
     pub less : (y : List ℕ) → (lv y ≡ before y) ⊎ ((lv y ≡ 0) × (under C y ≡ true))
     -- frames are as many as when it began, while a table stands; each is no table or one that stands
-    pub same : IsSome (ts []) → p .fresh ≡ fresh
+    pub same : p .fresh ≡ fresh
     pub each : (f : ℕ) → c .hosts ≤ f → f < c .hosts + fresh → (levelOf m f ≡ 0) ⊎ ((y : List ℕ) × (ts y ≡ some f))
 
   module _ {p : Pool} {ts : List ℕ → Option ℕ} {lv : List ℕ → ℕ} {fl : List ℕ} {ps : List (List ℕ)} {m : List ℕ} (s : Now p ts lv fl ps m) where
@@ -156,17 +160,17 @@ module _ (c : Config) (x : Cut) (C : List ℕ → Bool) (guest : List ℕ → �
         kept y n = elim (s .less y) [ inl e ↦ e | inr e ↦ absurd (n (e .0)) ]
 
     -- ---- the links up
-    up-is : (y : List ℕ) (f : ℕ) → ts y ≡ some f → upFrom c x m (length y) f ≡ cond (under C y) Met (To (c .hosts))
+    up-is : (y : List ℕ) (f : ℕ) → ts y ≡ some f → upFrom c x m (length y) f ≡ cond (under C y) Met (To (frameOr (ts [])))
     unfolding upFrom aboveOf
-    up-is [] f t = ap To (fresh-some (s .tables) f t .1)
+    up-is [] f t = ap (λ o. To (frameOr o)) (sym t)
     up-is (i ∷ y) f t =
         let k = s .tables .link i y f t in
         let e : cutOf m x (parentOf m f) (slotOf m f) ≡ C (i ∷ y) = ap (cutOf m x (parentOf m f)) (k .1) ∙ cut-now y (parentOf m f) i (k .0) (above (s .tables) i y f t .index) in
         rw (inside-is (c .hosts) (c .shadows) (parentOf m f) (s .tables .inside y (parentOf m f) (k .0) .0) (frame-small (s .tables) y (parentOf m f) (k .0) .0), e)
         (go (C (i ∷ y)) (up-is y (parentOf m f) (k .0)))
       where
-        go : (b : Bool) → upFrom c x m (length y) (parentOf m f) ≡ cond (under C y) Met (To (c .hosts))
-            → upBy (cond b Met (To (parentOf m f))) (upFrom c x m (length y)) ≡ cond (cond b true (under C y)) Met (To (c .hosts))
+        go : (b : Bool) → upFrom c x m (length y) (parentOf m f) ≡ cond (under C y) Met (To (frameOr (ts [])))
+            → upBy (cond b Met (To (parentOf m f))) (upFrom c x m (length y)) ≡ cond (cond b true (under C y)) Met (To (frameOr (ts [])))
         go true h = refl
         go false h = h
 
@@ -337,7 +341,7 @@ module _ (c : Config) (x : Cut) (C : List ℕ → Bool) (guest : List ℕ → �
                 beside = beside-trans (w .now .beside) (r .beside);
                 fewer = λ z d q. s .fewer z d (r .less z d q);
                 less = w .now .less;
-                same = λ q. r .fresh q ∙ frames;
+                same = r .fresh ∙ frames;
                 each = λ d lo hi. r .each d lo (rw frames hi);
               };
               exact = r .exact;
@@ -347,7 +351,7 @@ module _ (c : Config) (x : Cut) (C : List ℕ → Bool) (guest : List ℕ → �
             }
               where
                 frames : p .fresh ≡ fresh
-                frames = s .same (rooted (s .tables) y f t)
+                frames = s .same
 
                 clean : (z : List ℕ) (j : ℕ) → ts z ≡ some f → w .left (j ∷ z) ≢ 0 → (b : Bool) → under C (j ∷ z) ≡ b → b ≡ false
                 clean z j tz h false q = refl
@@ -369,7 +373,7 @@ module _ (c : Config) (x : Cut) (C : List ℕ → Bool) (guest : List ℕ → �
             let e : c .levels - levelOf m f ≡ length y = omega arith in
             rw (ne-eqb (levelOf m f) 0 (λ z. omega arith), e, up-is s y f t) (by (under C y) refl)
           where
-            by : (b : Bool) → under C y ≡ b → Visited p ts lv f (visitBy (cond b Met (To (c .hosts))) c x (levelOf m f) f p m)
+            by : (b : Bool) → under C y ≡ b → Visited p ts lv f (visitBy (cond b Met (To (frameOr (ts [])))) c x (levelOf m f) f p m)
             by true e = sweep-is y f (levelOf m f) 0 512 true t (s .tables .level y f t .0) (omega arith) (λ z. e) (λ j l z. (omega arith, l, inl refl))
             by false e = touch (touchOf m x f) refl
               where
@@ -423,7 +427,7 @@ module _ (c : Config) (x : Cut) (C : List ℕ → Bool) (guest : List ℕ → �
     done = refl;
     now = s;
     exact = ex;
-    clean = λ y f j t h. clean y f j t (let q = s .same (rooted (s .tables) y f t) in let k = s .tables .inside y f t in omega arith) h;
+    clean = λ y f j t h. clean y f j t (let q = s .same in let k = s .tables .inside y f t in omega arith) h;
   }
   from-is (suc k) i {p} {ts} {lv} {fl} {ps} {m} s ex e clean =
       next (visit-is s ex (c .hosts + i) (omega arith) (omega arith)) (λ q us lw gl qs n r er d. from-is k (suc i) {p = q} {ts = us} {lv = lw} {fl = gl} {ps = qs} {m = n} r er (omega arith) d)
@@ -460,7 +464,7 @@ scan-drops {c = c} {p = p} {m = m} {lv = lv} {guest = guest} h x C leaves cuts =
       beside = beside-refl (shadowArea c) m;
       fewer = λ y f t. t;
       less = λ y. inl refl;
-      same = λ k. refl;
+      same = refl;
       each = h .tables .each;
     }
 

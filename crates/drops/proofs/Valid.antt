@@ -70,22 +70,22 @@ in-area : (c : Config) (f : ℕ) → InArea c f → inGuestArea c f ≡ true
 in-area c f a = rw (le-leb _ _ (a .0), lt-ltb _ _ (a .1))
 
 -- the host frames of guest tables and pages, by prefix, as the walk over memory reaches them
-abbrev pub framesAt : Config → List ℕ → ℕ → List ℕ → ℕ
-framesAt c m root = frameAt (memoryWorld c m) root
+abbrev pub framesAt : Config → ℕ → List ℕ → ℕ → List ℕ → ℕ
+framesAt c ht m root = frameAt (memoryWorld c ht m) root
 
-module _ (c : Config) (s : Machine) (m : List ℕ) (st : Stands c s m) (small : s .root < 2 ^ frameBits c) (few : c .frames ≤ 65536) where
-  named-same : (is q : List ℕ) → usesFrom (namedAt (memoryWorld c m) (s .root)) q is ≡ usesFrom (namedIn m (framesAt c m (s .root))) q is
+module _ (c : Config) (s : Machine) (ht : ℕ) (m : List ℕ) (st : Stands c s ht m) (small : s .root < 2 ^ frameBits c) (few : c .frames ≤ 65536) where
+  named-same : (is q : List ℕ) → usesFrom (namedAt (memoryWorld c ht m) (s .root)) q is ≡ usesFrom (namedIn m (framesAt c ht m (s .root))) q is
   unfolding namedAt namedIn memoryWorld
   named-same [] q = refl
-  named-same (i ∷ is) q = ap (λ us. frameOf (memoryWorld c m .wordAt (frameAt (memoryWorld c m) (s .root) q) i) ∷ us) (named-same is (i ∷ q))
+  named-same (i ∷ is) q = ap (λ us. frameOf (memoryWorld c ht m .wordAt (frameAt (memoryWorld c ht m) (s .root) q) i) ∷ us) (named-same is (i ∷ q))
 
   module _ (h : Held) (v : Valid c s h) where
     part : Trace Fault Place
     part = trace (world c s) (walk c false (s .root) (h .path))
 
-    same-part : trace (memoryWorld c m) (walk c false (s .root) (h .path)) ≡ part
+    same-part : trace (memoryWorld c ht m) (walk c false (s .root) (h .path)) ≡ part
     unfolding part
-    same-part = stands-trace c s m st (walk c false (s .root) (h .path)) _ (walk-asks c (InGuestArea c) false (s .root) (h .path) small (v .small))
+    same-part = stands-trace c s ht m st (walk c false (s .root) (h .path)) _ (walk-asks c (InGuestArea c) false (s .root) (h .path) small (v .small))
 
     grants : part .result ≡ granted (v .frame, h .right)
     unfolding part again seen
@@ -99,35 +99,35 @@ module _ (c : Config) (s : Machine) (m : List ℕ) (st : Stands c s m) (small : 
     unfolding part again seen
     used = ap (λ (x : Seen Fault Place). x .uses) (v .comes)
 
-    trailed : ((trace (memoryWorld c m) (walk c false (s .root) (h .path))) .reads ≡ readsFrom (frameAt (memoryWorld c m) (s .root)) [] (h .path))
-        × ((trace (memoryWorld c m) (walk c false (s .root) (h .path))) .uses ≡ s .root ∷ usesFrom (namedAt (memoryWorld c m) (s .root)) [] (h .path))
-        × (v .frame ≡ frameAt (memoryWorld c m) (s .root) (trail.onto [] (h .path)))
-    trailed = walk-trail (memoryWorld c m) c (s .root) false (h .path) (v .frame, h .right) (ap (λ (x : Trace Fault Place). x .result) same-part ∙ grants)
+    trailed : ((trace (memoryWorld c ht m) (walk c false (s .root) (h .path))) .reads ≡ readsFrom (frameAt (memoryWorld c ht m) (s .root)) [] (h .path))
+        × ((trace (memoryWorld c ht m) (walk c false (s .root) (h .path))) .uses ≡ s .root ∷ usesFrom (namedAt (memoryWorld c ht m) (s .root)) [] (h .path))
+        × (v .frame ≡ frameAt (memoryWorld c ht m) (s .root) (trail.onto [] (h .path)))
+    trailed = walk-trail (memoryWorld c ht m) c (s .root) false (h .path) (v .frame, h .right) (ap (λ (x : Trace Fault Place). x .result) same-part ∙ grants)
 
     -- the frame that the path leads to
-    pub valid-frame : framesAt c m (s .root) (onto [] (h .path)) ≡ v .frame
-    valid-frame = ap (frameAt (memoryWorld c m) (s .root)) (sym (onto-same [] (h .path))) ∙ sym (trailed .2)
+    pub valid-frame : framesAt c ht m (s .root) (onto [] (h .path)) ≡ v .frame
+    valid-frame = ap (frameAt (memoryWorld c ht m) (s .root)) (sym (onto-same [] (h .path))) ∙ sym (trailed .2)
 
     pub inside-area : InArea c (v .frame)
     unfolding part
     inside-area = shadow-asked c s false (h .path) (st .inside) small (v .small) .grants (v .frame, h .right) grants
 
-    pub valid-entry : HeldEntry c (framesAt c m (s .root)) (namedIn m (framesAt c m (s .root))) (s .root) (entryOf c (framesAt c m (s .root)) h) h
+    pub valid-entry : HeldEntry c (framesAt c ht m (s .root)) (namedIn m (framesAt c ht m (s .root))) (s .root) (entryOf c (framesAt c ht m (s .root)) h) h
     unfolding entryOf part
     valid-entry = record {
-      set = entry-present (framesAt c m (s .root) (onto [] (h .path))) (ltb (length (h .path)) (c .levels)) (h .right);
-      area = ap (inGuestArea c) (entry-frame (framesAt c m (s .root) (onto [] (h .path))) (ltb (length (h .path)) (c .levels)) (h .right) thin ∙ valid-frame) ∙ in-area c (v .frame) inside-area;
-      ends = entry-switch (framesAt c m (s .root) (onto [] (h .path))) (ltb (length (h .path)) (c .levels)) (h .right);
+      set = entry-present (framesAt c ht m (s .root) (onto [] (h .path))) (ltb (length (h .path)) (c .levels)) (h .right);
+      area = ap (inGuestArea c) (entry-frame (framesAt c ht m (s .root) (onto [] (h .path))) (ltb (length (h .path)) (c .levels)) (h .right) thin ∙ valid-frame) ∙ in-area c (v .frame) inside-area;
+      ends = entry-switch (framesAt c ht m (s .root) (onto [] (h .path))) (ltb (length (h .path)) (c .levels)) (h .right);
       reads = sym read ∙ sym (ap (λ (x : Trace Fault Place). x .reads) same-part) ∙ trailed .0;
       uses = sym used ∙ sym (ap (λ (x : Trace Fault Place). x .uses) same-part) ∙ trailed .1 ∙ ap (λ us. s .root ∷ us) (named-same (h .path) []);
       inside = subst (All (λ (x : ℕ × ℕ). guestBase c ≤ x .0)) read
           (all-map _ _ (part .reads) (λ x k. k .0 .0) (shadow-asked c s false (h .path) (st .inside) small (v .small) .reads));
     }
       where
-        thin : framesAt c m (s .root) (onto [] (h .path)) < 1099511627776
+        thin : framesAt c ht m (s .root) (onto [] (h .path)) < 1099511627776
         thin = let e = valid-frame in let k = inside-area in omega arith
 
-  pub valid-entries : (hs : List Held) → All (Valid c s) hs → HeldEntries c (framesAt c m (s .root)) (namedIn m (framesAt c m (s .root))) (s .root) (entryOf c (framesAt c m (s .root))) hs
+  pub valid-entries : (hs : List Held) → All (Valid c s) hs → HeldEntries c (framesAt c ht m (s .root)) (namedIn m (framesAt c ht m (s .root))) (s .root) (entryOf c (framesAt c ht m (s .root))) hs
   valid-entries hs a = record { all = all-map _ _ hs valid-entry a }
 
 -- ---- from one machine to the next
@@ -195,22 +195,22 @@ stays-mapping c s xs g h same va nu = record {
 }
 
 -- the tables that stand for the held paths on one machine stand for them on the other
-pub holds-on : {c : Config} {p : Pool} {o : List ℕ} (hs : List Held) (s t : Machine) (m n : List ℕ) (sm : Stands c s m) (tn : Stands c t n)
+pub holds-on : {c : Config} {p : Pool} {o : List ℕ} (hs : List Held) (s t : Machine) (hm hn : ℕ) (m n : List ℕ) (sm : Stands c s hm m) (tn : Stands c t hn n)
     (bs : s .root < 2 ^ frameBits c) (bt : t .root < 2 ^ frameBits c) (few : c .frames ≤ 65536) → All (Stays c s t) hs
-    → Holds (shadowArea c) false p o (leafAt (entryOf c (framesAt c m (s .root))) hs) (framesAt c m (s .root))
-    → Holds (shadowArea c) false p o (leafAt (entryOf c (framesAt c n (t .root))) hs) (framesAt c n (t .root))
+    → Holds (shadowArea c) false p o (leafAt (entryOf c (framesAt c hm m (s .root))) hs) (framesAt c hm m (s .root))
+    → Holds (shadowArea c) false p o (leafAt (entryOf c (framesAt c hn n (t .root))) hs) (framesAt c hn n (t .root))
 unfolding entryOf
-holds-on {c = c} hs s t m n sm tn bs bt few a h =
-    holds-leaves (holds-retraced h (record { all = all-map _ _ hs (λ k v. valid-entry c s m sm bs few k (v .before)) a })
-    (record { all = all-map _ _ hs (λ k v. subst (λ e. HeldEntry c F (namedIn n F) (t .root) e k) (sym (entry-same k v)) (valid-entry c t n tn bt few k (v .after))) a }))
+holds-on {c = c} hs s t hm hn m n sm tn bs bt few a h =
+    holds-leaves (holds-retraced h (record { all = all-map _ _ hs (λ k v. valid-entry c s hm m sm bs few k (v .before)) a })
+    (record { all = all-map _ _ hs (λ k v. subst (λ e. HeldEntry c F (namedIn n F) (t .root) e k) (sym (entry-same k v)) (valid-entry c t hn n tn bt few k (v .after))) a }))
     (leafAt (entryOf c F) hs) (leaf-same (entryOf c E) (entryOf c F) hs (all-map _ _ hs entry-same a))
   where
     E : List ℕ → ℕ
-    E = framesAt c m (s .root)
+    E = framesAt c hm m (s .root)
 
     F : List ℕ → ℕ
-    F = framesAt c n (t .root)
+    F = framesAt c hn n (t .root)
 
     entry-same : (k : Held) → Stays c s t k → entryOf c E k ≡ entryOf c F k
     entry-same k v = ap (λ f. entryFor f (ltb (length (k .path)) (c .levels)) (k .right))
-        (valid-frame c s m sm bs few k (v .before) ∙ stays-frame c s t k v ∙ sym (valid-frame c t n tn bt few k (v .after)))
+        (valid-frame c s hm m sm bs few k (v .before) ∙ stays-frame c s t k v ∙ sym (valid-frame c t hn n tn bt few k (v .after)))

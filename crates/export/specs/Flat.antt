@@ -1,53 +1,47 @@
--- A call's record and answer as the C interface has them: numbers in fixed order.
+-- A call's record and answer as the C interface has them: words in fixed order.
 -- Assumes nothing.
 use Prim.Native.Nat.{ℕ}
-use mathlib.Core.List.{List}
-use Rattle.spec.specs.declared.Fault.{Fault}
+use mathlib.Core.List.{List, [], _∷_}
+use lib.ListN.{getD}
 use Rattle.spec.specs.declared.Answer.{Answer}
 use Rattle.spec.specs.declared.Answer.the-variants as answer
 use Rattle.spec.specs.Answer.{letter, level, frame}
-use Rattle.area.specs.declared.Pool.{Pool}
-use Rattle.record.specs.declared.Record.{Record}
-use Rattle.unit.specs.declared.Reply.{Reply}
-use Rattle.export.specs.declared.FlatPool.{FlatPool}
-use Rattle.export.specs.declared.FlatRecord.{FlatRecord}
-use Rattle.export.specs.declared.FlatAnswer.{FlatAnswer}
-use Rattle.export.specs.declared.FlatReply.{FlatReply}
 use Rattle.words.specs.After.{After, yields}
+use Rattle.area.specs.declared.Pool.{Pool}
+use Rattle.record.specs.declared.Head.{Head}
+use Rattle.record.specs.declared.Record.{Record}
+use Rattle.record.specs.Record.{recordBy, headOf}
+use Rattle.unit.specs.declared.Reply.{Reply}
+use Rattle.export.specs.declared.FlatAnswer.{FlatAnswer}
 
--- what an area keeps, and back
-abbrev pub poolOf : FlatPool → Pool
-poolOf p = record { fresh = p .fresh; free = p .free; used = p .used }
+-- ---- the head, in 15 words
 
-abbrev pub flatPool : Pool → FlatPool
-flatPool p = record { fresh = p .fresh; free = p .free; used = p .used }
+-- the pool whose words begin at place i
+abbrev pub poolIn : List ℕ → ℕ → ℕ → ℕ → ℕ → Pool
+poolIn ws i j k l = record { fresh = getD ws i 0; free = getD ws j 0; used = getD ws k 0; top = getD ws l 0 }
 
--- the unit's record that the numbers say
-abbrev pub recordOf : FlatRecord → Record
-recordOf r = record {
-  words = r .words;
-  hosts = r .hosts;
-  shadows = r .shadows;
-  root = r .root;
-  top = r .top;
-  host = poolOf (r .host);
-  shadow = poolOf (r .shadow);
-  marks = record { set = r .set; place = r .place };
+abbrev pub headIn : List ℕ → Head
+headIn ws = record {
+  layout = record { levels = getD ws 0 0; hosts = getD ws 1 0; shadows = getD ws 2 0; frames = getD ws 3 0 };
+  pools = record { host = poolIn ws 4 5 6 7; shadow = poolIn ws 8 9 10 11 };
+  root = record { 0 = getD ws 12 0 };
+  held = record { 0 = getD ws 13 0 };
+  set = getD ws 14 0;
 }
 
 -- and back
-abbrev pub flatOf : Record → FlatRecord
-flatOf r = record {
-  words = r .words;
-  hosts = r .hosts;
-  shadows = r .shadows;
-  root = r .root;
-  top = r .top;
-  host = flatPool (r .host);
-  shadow = flatPool (r .shadow);
-  set = r .marks .set;
-  place = r .marks .place;
-}
+abbrev pub headWords : Head → List ℕ
+headWords h =
+    let l = h .layout in
+    let p = h .pools .host in
+    let q = h .pools .shadow in
+    l .levels ∷ l .hosts ∷ l .shadows ∷ l .frames ∷ p .fresh ∷ p .free ∷ p .used ∷ p .top ∷ q .fresh ∷ q .free ∷ q .used ∷ q .top ∷ h .root .0 ∷ h .held .0 ∷ h .set ∷ []
+
+-- the record that head and places say
+abbrev pub recordIn : List ℕ → List ℕ → Record
+recordIn ws place = recordBy (headIn ws) place
+
+-- ---- answers
 
 abbrev pub said : ℕ → ℕ → ℕ → ℕ → ℕ → ℕ → ℕ → FlatAnswer
 said k n c l g r e = record { kind = k; number = n; letter = c; level = l; frame = g; references = r; exits = e }
@@ -60,9 +54,18 @@ answerOf (answer.Done r e) = said 2 0 0 0 0 r e
 answerOf (answer.Faulted x r e) = said 3 0 (letter x) (level x) (frame x) r e
 answerOf (answer.Refused n) = said 4 n 0 0 0 0 0
 
-abbrev pub replyOf : Reply → FlatReply
-replyOf r = record { unit = flatOf (r .unit); answer = answerOf (r .answer) }
+-- ---- what an exported call leaves
 
--- what an exported call leaves
-abbrev pub leftOf : After Reply → After FlatReply
+pub record Flat : Type 0 where
+  pub head : List ℕ
+  pub place : List ℕ
+  pub answer : FlatAnswer
+
+abbrev pub flat : List ℕ → List ℕ → FlatAnswer → Flat
+flat ws place a = record { head = ws; place = place; answer = a }
+
+abbrev pub replyOf : Reply → Flat
+replyOf r = flat (headWords (headOf (r .unit))) (r .unit .guest .marks .place) (answerOf (r .answer))
+
+abbrev pub leftOf : After Reply → After Flat
 leftOf e = yields (replyOf (e .result)) (e .memory)

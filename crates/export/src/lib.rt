@@ -1,37 +1,22 @@
-// The unit's calls for C and for Rust: the record goes in and comes back by value, the memory is lent, the answer is numbers.
-// Nothing is asked of the caller but a memory of that many words at that place.
+// The unit's calls for C and for Rust. The record is lent in two parts, its head of 15 words and the places of its marks, and
+// the memory beside it; the answer is numbers. Nothing is asked of the caller but that those words are at those places.
 ghost use mathlib.Core.Path.{_≡_};
-ghost use Rattle.unit.specs.Calls.{openCall, loadOf, storeCall, deviceCall, rootCall, mapCall, unmapCall, setMarkCall, clearMarkCall};
-ghost use Rattle.export.specs.Flat.{recordOf, flatOf, answerOf, replyOf, leftOf};
+ghost use Rattle.words.specs.After.{yields};
+ghost use Rattle.record.specs.Record.{headOf};
+ghost use Rattle.unit.specs.Calls.{headHeld, openCall, loadCall, storeCall, deviceCall, rootCall, mapCall, unmapCall, setMarkCall, clearMarkCall};
+ghost use Rattle.export.specs.Flat.{headIn, headWords, recordIn, answerOf, flat, leftOf};
 use area::Pool;
+use entry::GuestPhysical;
+use entry::HostPhysical;
+use host::Layout;
 use marks::Marks;
+use record::Guest;
+use record::Head;
+use record::Pools;
 use record::Record;
+use request::Held;
 use spec::Answer;
 use spec::Fault;
-use unit::Reply;
-ghost use Rattle.words.specs.After.{yields};
-
-// What an area of tables keeps.
-#[repr(C)]
-pub struct FlatPool {
-    pub fresh: u64,
-    pub free: u64,
-    pub used: u64,
-}
-
-// The unit's record.
-#[repr(C)]
-pub struct FlatRecord {
-    pub words: u64,
-    pub hosts: u64,
-    pub shadows: u64,
-    pub root: u64,
-    pub top: u64,
-    pub host: FlatPool,
-    pub shadow: FlatPool,
-    pub set: u64,
-    pub place: [u64; 64],
-}
 
 // An answer (specs/Flat has the kinds). The letter is an ASCII code; what a kind does not have is 0.
 #[repr(C)]
@@ -45,64 +30,120 @@ pub struct FlatAnswer {
     pub exits: u64,
 }
 
-// What a call hands back.
-#[repr(C)]
-pub struct FlatReply {
-    pub unit: FlatRecord,
-    pub answer: FlatAnswer,
+// ---- the record in numbers
+
+// The head that 15 words say.
+fn head_in(w: &[u64; 15]) -> Head
+    ensures { λ r. ⌜ r ≡ headIn (now (w .entry)) ⌝ }
+{
+    Head {
+        layout: Layout {
+            levels: w[0],
+            hosts: w[1],
+            shadows: w[2],
+            frames: w[3],
+        },
+        pools: Pools {
+            host: Pool {
+                fresh: w[4],
+                free: w[5],
+                used: w[6],
+                top: w[7],
+            },
+            shadow: Pool {
+                fresh: w[8],
+                free: w[9],
+                used: w[10],
+                top: w[11],
+            },
+        },
+        root: GuestPhysical(w[12]),
+        held: HostPhysical(w[13]),
+        set: w[14],
+    }
 }
 
-fn record_of(r: FlatRecord) -> Record
-    ensures { λ u. ⌜ u ≡ recordOf r ⌝ }
+// And back.
+fn head_words(h: Head) -> [u64; 15]
+    ensures { λ r. ⌜ r ≡ headWords h ⌝ }
 {
-    let place = r.place;
+    let l = h.layout;
+    let host = h.pools.host;
+    let shadow = h.pools.shadow;
+    [
+        l.levels,
+        l.hosts,
+        l.shadows,
+        l.frames,
+        host.fresh,
+        host.free,
+        host.used,
+        host.top,
+        shadow.fresh,
+        shadow.free,
+        shadow.used,
+        shadow.top,
+        h.root.0,
+        h.held.0,
+        h.set,
+    ]
+}
+
+// The whole record, for a call that changes the marks.
+fn record_in(head: &[u64; 15], place: &[u64; 64]) -> Record
+    ensures { λ r. ⌜ r ≡ recordIn (now (head .entry)) (now (place .entry)) ⌝ }
+{
+    let h = head_in(head);
+    let layout = h.layout;
+    let pools = h.pools;
+    let root = h.root;
+    let held = h.held;
+    let places = *place;
     Record {
-        words: r.words,
-        hosts: r.hosts,
-        shadows: r.shadows,
-        root: r.root,
-        top: r.top,
-        host: Pool {
-            fresh: r.host.fresh,
-            free: r.host.free,
-            used: r.host.used,
-        },
-        shadow: Pool {
-            fresh: r.shadow.fresh,
-            free: r.shadow.free,
-            used: r.shadow.used,
-        },
-        marks: Marks {
-            set: r.set,
-            place: place,
+        layout: layout,
+        pools: pools,
+        guest: Guest {
+            root: root,
+            held: held,
+            marks: Marks {
+                set: h.set,
+                place: places,
+            },
         },
     }
 }
 
-fn flat_of(r: Record) -> FlatRecord
-    ensures { λ f. ⌜ f ≡ flatOf r ⌝ }
+// The words of a head.
+fn words_in(head: &[u64; 15]) -> [u64; 15]
+    ensures { λ r. ⌜ r ≡ now (head .entry) ⌝ }
 {
-    let place = r.marks.place;
-    FlatRecord {
-        words: r.words,
-        hosts: r.hosts,
-        shadows: r.shadows,
-        root: r.root,
-        top: r.top,
-        host: FlatPool {
-            fresh: r.host.fresh,
-            free: r.host.free,
-            used: r.host.used,
-        },
-        shadow: FlatPool {
-            fresh: r.shadow.fresh,
-            free: r.shadow.free,
-            used: r.shadow.used,
-        },
-        set: r.marks.set,
-        place: place,
-    }
+    *head
 }
+
+// What is held takes the place of what was; a request changes no other word of a head.
+fn put_held(head: &mut [u64; 15], held: Held)
+    ensures { λ _. ⌜ now (head .exit) ≡ headWords (headHeld (headIn (now (head .entry))) held) ⌝ }
+{
+    let mut words = words_in(head);
+    let pool = held.pool;
+    words[8] = pool.fresh;
+    words[9] = pool.free;
+    words[10] = pool.used;
+    words[11] = pool.top;
+    words[13] = held.frame.0;
+    *head = words;
+}
+
+// A record takes the place of the one lent.
+fn put_back(head: &mut [u64; 15], place: &mut [u64; 64], unit: Record)
+    ensures { λ _. ⌜ (now (head .exit) ≡ headWords (headOf unit)) × (now (place .exit) ≡ unit .guest .marks .place) ⌝ }
+{
+    let places = unit.guest.marks.place;
+    *head = head_words(unit.head());
+    *place = places;
+}
+
+// ---- answers
 
 fn answer_of(a: Answer) -> FlatAnswer
     ensures { λ r. ⌜ r ≡ answerOf a ⌝ }
@@ -164,111 +205,167 @@ fn answer_of(a: Answer) -> FlatAnswer
     }
 }
 
-fn reply_of(r: Reply) -> FlatReply
-    ensures { λ f. ⌜ f ≡ replyOf r ⌝ }
-{
-    let unit = r.unit;
-    let answer = r.answer;
-    FlatReply {
-        unit: flat_of(unit),
-        answer: answer_of(answer),
-    }
-}
+// ---- the calls
 
 // Opens the memory: 1, 2.
 #[no_mangle]
-pub extern "C" fn cangrieb_open(mem: &mut [u64], hosts: u64, shadows: u64) -> FlatReply
-    ensures { λ r. ⌜ yields r (now (mem .exit)) ≡ leftOf (openCall (now (mem .entry)) hosts shadows) ⌝ }
+pub extern "C" fn cangrieb_open(
+    head: &mut [u64; 15],
+    place: &mut [u64; 64],
+    mem: &mut [u64],
+    hosts: u64,
+    shadows: u64,
+) -> FlatAnswer
+    ensures { λ r. ⌜ yields (flat (now (head .exit)) (now (place .exit)) r) (now (mem .exit)) ≡ leftOf (openCall (now (mem .entry)) hosts shadows) ⌝ }
 {
-    reply_of(unit::open(mem, hosts, shadows))
+    let r = unit::open(mem, hosts, shadows);
+    let answer = r.answer;
+    put_back(head, place, r.unit);
+    answer_of(answer)
 }
 
 // Loads a word: 3, 4, 11.
 #[no_mangle]
-pub extern "C" fn cangrieb_load(unit: FlatRecord, mem: &mut [u64], address: u64) -> FlatReply
-    ensures { λ r. ⌜ yields r (now (mem .exit)) ≡ leftOf (loadOf (recordOf unit) (now (mem .entry)) address) ⌝ }
+pub extern "C" fn cangrieb_load(
+    head: &mut [u64; 15],
+    place: &[u64; 64],
+    mem: &mut [u64],
+    address: u64,
+) -> FlatAnswer
+    ensures { λ r. ⌜ yields (flat (now (head .exit)) (now (place .entry)) r) (now (mem .exit)) ≡ leftOf (loadCall (recordIn (now (head .entry)) (now (place .entry))) (now (mem .entry)) address) ⌝ }
 {
-    reply_of(unit::load(record_of(unit), mem, address))
+    let h = head_in(head);
+    let s = unit::load_at(h, place, mem, address);
+    let answer = s.answer;
+    let held = s.held;
+    put_held(head, held);
+    answer_of(answer)
 }
 
 // Stores a word; the paths whose shadow part read it are dropped: 3, 4, 11.
 #[no_mangle]
 pub extern "C" fn cangrieb_store(
-    unit: FlatRecord,
+    head: &mut [u64; 15],
+    place: &[u64; 64],
     mem: &mut [u64],
     address: u64,
     value: u64,
-) -> FlatReply
-    ensures { λ r. ⌜ yields r (now (mem .exit)) ≡ leftOf (storeCall (recordOf unit) (now (mem .entry)) address value) ⌝ }
+) -> FlatAnswer
+    ensures { λ r. ⌜ yields (flat (now (head .exit)) (now (place .entry)) r) (now (mem .exit)) ≡ leftOf (storeCall (recordIn (now (head .entry)) (now (place .entry))) (now (mem .entry)) address value) ⌝ }
 {
-    reply_of(unit::store(record_of(unit), mem, address, value))
+    let h = head_in(head);
+    let s = unit::store_at(h, place, mem, address, value);
+    let answer = s.answer;
+    let held = s.held;
+    put_held(head, held);
+    answer_of(answer)
 }
 
 // A device stores a word at a guest-physical address: 3, 4, 11.
 #[no_mangle]
 pub extern "C" fn cangrieb_device_store(
-    unit: FlatRecord,
+    head: &mut [u64; 15],
+    place: &[u64; 64],
     mem: &mut [u64],
     address: u64,
     value: u64,
-) -> FlatReply
-    ensures { λ r. ⌜ yields r (now (mem .exit)) ≡ leftOf (deviceCall (recordOf unit) (now (mem .entry)) address value) ⌝ }
+) -> FlatAnswer
+    ensures { λ r. ⌜ yields (flat (now (head .exit)) (now (place .entry)) r) (now (mem .exit)) ≡ leftOf (deviceCall (recordIn (now (head .entry)) (now (place .entry))) (now (mem .entry)) address value) ⌝ }
 {
-    reply_of(unit::device_store(record_of(unit), mem, address, value))
+    let h = head_in(head);
+    let s = unit::device_store_at(h, place, mem, address, value);
+    let answer = s.answer;
+    let held = s.held;
+    put_held(head, held);
+    answer_of(answer)
 }
 
 // Another root; all held paths are dropped: 3, 8.
 #[no_mangle]
-pub extern "C" fn cangrieb_root(unit: FlatRecord, mem: &mut [u64], guest: u64) -> FlatReply
-    ensures { λ r. ⌜ yields r (now (mem .exit)) ≡ leftOf (rootCall (recordOf unit) (now (mem .entry)) guest) ⌝ }
+pub extern "C" fn cangrieb_root(
+    head: &mut [u64; 15],
+    place: &[u64; 64],
+    mem: &[u64],
+    guest: u64,
+) -> FlatAnswer
+    ensures { λ r. ⌜ yields (flat (now (head .exit)) (now (place .entry)) r) (now (mem .entry)) ≡ leftOf (rootCall (recordIn (now (head .entry)) (now (place .entry))) (now (mem .entry)) guest) ⌝ }
 {
-    reply_of(unit::load_root(record_of(unit), mem, guest))
+    let h = head_in(head);
+    let t = unit::root_at(h, place, mem, guest);
+    let answer = t.answer;
+    let next = t.head;
+    *head = head_words(next);
+    answer_of(answer)
 }
 
 // Maps a guest frame to a host frame, or maps it anew: 3, 8, 9, 10, 11.
 #[no_mangle]
 pub extern "C" fn cangrieb_map(
-    unit: FlatRecord,
+    head: &mut [u64; 15],
+    place: &[u64; 64],
     mem: &mut [u64],
     guest: u64,
     frame: u64,
     writable: bool,
-) -> FlatReply
-    ensures { λ r. ⌜ yields r (now (mem .exit)) ≡ leftOf (mapCall (recordOf unit) (now (mem .entry)) guest frame writable) ⌝ }
+) -> FlatAnswer
+    ensures { λ r. ⌜ yields (flat (now (head .exit)) (now (place .entry)) r) (now (mem .exit)) ≡ leftOf (mapCall (recordIn (now (head .entry)) (now (place .entry))) (now (mem .entry)) guest frame writable) ⌝ }
 {
-    reply_of(unit::map(record_of(unit), mem, guest, frame, writable))
+    let h = head_in(head);
+    let t = unit::map_at(h, place, mem, guest, frame, writable);
+    let answer = t.answer;
+    let next = t.head;
+    *head = head_words(next);
+    answer_of(answer)
 }
 
 // Unmaps a guest frame: 3, 8, 12, 11.
 #[no_mangle]
-pub extern "C" fn cangrieb_unmap(unit: FlatRecord, mem: &mut [u64], guest: u64) -> FlatReply
-    ensures { λ r. ⌜ yields r (now (mem .exit)) ≡ leftOf (unmapCall (recordOf unit) (now (mem .entry)) guest) ⌝ }
+pub extern "C" fn cangrieb_unmap(
+    head: &mut [u64; 15],
+    place: &[u64; 64],
+    mem: &mut [u64],
+    guest: u64,
+) -> FlatAnswer
+    ensures { λ r. ⌜ yields (flat (now (head .exit)) (now (place .entry)) r) (now (mem .exit)) ≡ leftOf (unmapCall (recordIn (now (head .entry)) (now (place .entry))) (now (mem .entry)) guest) ⌝ }
 {
-    reply_of(unit::unmap(record_of(unit), mem, guest))
+    let h = head_in(head);
+    let t = unit::unmap_at(h, place, mem, guest);
+    let answer = t.answer;
+    let next = t.head;
+    *head = head_words(next);
+    answer_of(answer)
 }
 
 // Sets a mark: 3, 4, 5, 6, 7, 11.
 #[no_mangle]
 pub extern "C" fn cangrieb_set_mark(
-    unit: FlatRecord,
+    head: &mut [u64; 15],
+    place: &mut [u64; 64],
     mem: &mut [u64],
     address: u64,
     level: u64,
-) -> FlatReply
-    ensures { λ r. ⌜ yields r (now (mem .exit)) ≡ leftOf (setMarkCall (recordOf unit) (now (mem .entry)) address level) ⌝ }
+) -> FlatAnswer
+    ensures { λ r. ⌜ yields (flat (now (head .exit)) (now (place .exit)) r) (now (mem .exit)) ≡ leftOf (setMarkCall (recordIn (now (head .entry)) (now (place .entry))) (now (mem .entry)) address level) ⌝ }
 {
-    reply_of(unit::set_mark(record_of(unit), mem, address, level))
+    let r = unit::set_mark(record_in(head, place), mem, address, level);
+    let answer = r.answer;
+    put_back(head, place, r.unit);
+    answer_of(answer)
 }
 
 // Clears a mark: 3, 4, 5, 6, 11.
 #[no_mangle]
 pub extern "C" fn cangrieb_clear_mark(
-    unit: FlatRecord,
+    head: &mut [u64; 15],
+    place: &mut [u64; 64],
     mem: &mut [u64],
     address: u64,
     level: u64,
-) -> FlatReply
-    ensures { λ r. ⌜ yields r (now (mem .exit)) ≡ leftOf (clearMarkCall (recordOf unit) (now (mem .entry)) address level) ⌝ }
+) -> FlatAnswer
+    ensures { λ r. ⌜ yields (flat (now (head .exit)) (now (place .exit)) r) (now (mem .exit)) ≡ leftOf (clearMarkCall (recordIn (now (head .entry)) (now (place .entry))) (now (mem .entry)) address level) ⌝ }
 {
-    reply_of(unit::clear_mark(record_of(unit), mem, address, level))
+    let r = unit::clear_mark(record_in(head, place), mem, address, level);
+    let answer = r.answer;
+    put_back(head, place, r.unit);
+    answer_of(answer)
 }

@@ -1,9 +1,9 @@
 -- What every host walk over memory satisfies, damaged memory too.
 -- Assumes nothing.
-use mathlib.Core.Path.{_≡_, refl, sym, ap, _∙_}
+use mathlib.Core.Path.{_≡_, refl}
 use Prim.Native.Nat.{ℕ, suc, _+_, _<_, _≤_}
 use native.Mathlib.Omega.{arith}
-use mathlib.Core.Bool.{Bool, true, false, _&&_, cond}
+use mathlib.Core.Bool.{Bool, true, false, cond}
 use mathlib.Core.List.{List, [], _∷_}
 use lib.Dec.{T, leb, ltb, leb→le, ltb→lt}
 use lib.ListN.{length}
@@ -17,7 +17,7 @@ use Rattle.area.specs.declared.Way.the-variants.{To, Not, Bad}
 use Rattle.area.specs.declared.Look.{Look}
 use Rattle.area.specs.declared.Look.the-variants.{Seen, Broken}
 use Rattle.area.specs.Header.{entryIn}
-use Rattle.area.specs.Pool.{hopOf, onWay, link}
+use Rattle.area.specs.Pool.{hopOf, onWay}
 use Rattle.area.specs.Tree.{lookOf}
 use Rattle.host.specs.declared.HostWalk.{HostWalk}
 use Rattle.host.specs.declared.HostWalk.the-variants.{Found, Absent, Damaged}
@@ -65,9 +65,9 @@ leaf-fits c e n h = go (present e) (inGuestArea c (frameOf e)) refl
     go true false q = tt
     go false a q = h
 
-pub host-fits : (c : Config) (m : List ℕ) (g : ℕ) → HostFits c (hostWalkOf c m g)
+pub host-fits : (c : Config) (top : ℕ) (m : List ℕ) (g : ℕ) → HostFits c (hostWalkOf c top m g)
 unfolding hostWalkOf
-host-fits c m g = go (lookOf 0 (c .hosts) m (link 0) (indexes (c .levels) g) 0) (look-fits 0 (c .hosts) m (indexes (c .levels) g) (link 0) 0)
+host-fits c top m g = go (lookOf 0 (c .hosts) m top (indexes (c .levels) g) 0) (look-fits 0 (c .hosts) m (indexes (c .levels) g) top 0)
   where
     go : (r : Look) → LookFits (0 + length (indexes (c .levels) g)) r → HostFits c (hostBy c r)
     go (Seen e n) h = leaf-fits c e n (omega (arith, indexes-length (c .levels) g))

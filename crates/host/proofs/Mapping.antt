@@ -2,7 +2,7 @@
 -- frame the host walk with its count, are the specification's; the guest area is untouched.
 -- Assumes nothing.
 use mathlib.Core.Path.{_≡_, refl, sym, ap, ap₂, _∙_, subst}
-use Prim.Native.Nat.{ℕ, zero, suc, _+_, _*_, _^_, min, _<_, _≤_}
+use Prim.Native.Nat.{ℕ, _*_, _^_, _<_, _≤_}
 use native.Mathlib.Omega.{arith}
 use mathlib.Core.Bool.{Bool, true, false, not, _||_, cond}
 use mathlib.Core.List.{List, [], _∷_}
@@ -11,31 +11,28 @@ use lib.Dec.{T, eqb, leb, ltb, ltb→lt, leb→le, nleb→lt, lt→ltb, le→leb
 use lib.Pow.{pow-mono}
 use lib.ListN.{length, drop}
 use Rattle.spec.specs.Config.{Config, guestBase, frameBits}
-use Rattle.spec.specs.Entry.{present, writable, frameOf, indexes}
+use Rattle.spec.specs.Entry.{indexes}
 use Rattle.spec.specs.Plain.{Place}
-use Rattle.spec.specs.Prefix.{any}
-use Rattle.spec.specs.Machine.{Machine, Mapping, lookup, with, without, isMapped, hostTables, hostCost}
+use Rattle.spec.specs.Machine.{Mapping, lookup, with, without, isMapped, hostTables, hostCost}
 use Rattle.spec.specs.Refusal.{firstFailed, frameFits, inGuestArea, tests, refusal}
-use Rattle.laws.proofs.Lists.{All, is-true, is-false, both}
+use Rattle.laws.proofs.Lists.{All, is-true, both}
 use Rattle.area.specs.declared.Pool.{Pool}
-use Rattle.area.specs.declared.Way.the-variants.{To, Not, Bad}
-use Rattle.area.specs.declared.Look.the-variants.{Seen}
-use Rattle.area.specs.Pool.{link, end, noneOf}
-use Rattle.area.specs.Tree.{lookOf, enterOf, insertOf}
+use Rattle.area.specs.Pool.{noneOf}
+use Rattle.area.specs.Tree.{enterOf, insertOf}
 use Rattle.area.specs.Remove.{removeOf}
 use Rattle.tree.specs.Host.{hostEntry, entryBy, hostMap}
 use Rattle.tree.proofs.Stores.{Beside, beside-refl, beside-trans, beside-drop}
 use Rattle.tree.proofs.Invariant.{present-zero}
 use Rattle.tree.specs.Run.{get}
-use Rattle.tree.proofs.Whole.{Holds, Next, holds-leaves, holds-top}
+use Rattle.tree.proofs.Whole.{Holds, holds-leaves, holds-top}
 use Rattle.tree.proofs.Claim.{leaves}
-use Rattle.tree.proofs.Hosts.{Frames, entry-present, entry-writable, entry-frame, host-look, host-top, host-map, host-full, host-unmap, host-absent}
+use Rattle.tree.proofs.Hosts.{Frames, entry-present, entry-writable, entry-frame, host-look, host-map, host-full, host-unmap, host-absent}
 use Rattle.host.specs.declared.HostWalk.{HostWalk}
-use Rattle.host.specs.declared.HostWalk.the-variants.{Found, Absent, Damaged}
+use Rattle.host.specs.declared.HostWalk.the-variants.{Found, Absent}
 use Rattle.host.specs.Walk.{page, leafOf, hostBy, hostWalkOf}
-use Rattle.host.specs.Map.{hostArea, changed, changeBy, changedBy, mapOf, unmapOf, Remap, maps, unmaps, remapOf, Remapped, remapsOf, asCall, mappedBy, mappingOnly, noBook, numberBy, mappingBy, Mapped, mapsOf}
+use Rattle.host.specs.Map.{hostArea, changed, changedBy, mapOf, unmapOf, Remap, maps, unmaps, remapOf, Remapped, remapsOf, asCall, mappingOnly, noBook, numberBy, mappingBy, Mapped, mapsOf}
 use Rattle.host.proofs.Laws.{InGuestArea, in-guest-area}
-use Rattle.words.specs.After.{After, yields}
+use Rattle.words.specs.After.{After}
 use Rattle.area.specs.declared.Went.{Went}
 use Rattle.host.specs.declared.Change.{Change}
 
@@ -71,12 +68,11 @@ area-test c f b = is-true (inGuestArea c f) (both (leb (guestBase c) f) (ltb f (
 
 module _ (c : Config) (xs : List Mapping) (p : Pool) (m : List ℕ) (h : Maps c xs p m) where
   -- the host walk of every guest frame, with its count
-  pub walk-is : (g : ℕ) → g < 2 ^ frameBits c → hostWalkOf c m g ≡ answerOf c xs g
+  pub walk-is : (g : ℕ) → g < 2 ^ frameBits c → hostWalkOf c (p .top) m g ≡ answerOf c xs g
   unfolding hostWalkOf leafOf
   walk-is g b =
       let s = frame-small c g b in
-      ap (λ e. hostBy c (lookOf 0 (c .hosts) m e (indexes (c .levels) g) 0)) (sym (host-top c g s xs (h .frames) (h .deep) refl (h .holds)))
-      ∙ ap (hostBy c) (host-look c g s xs (h .frames) (h .deep) refl (h .holds))
+      ap (hostBy c) (host-look c g s xs (h .frames) (h .deep) refl (h .holds))
       ∙ go (lookup g xs) refl
     where
       go : (r : Option Place) → lookup g xs ≡ r → leafOf c (entryBy r) (hostCost c xs g) ≡ answerBy (hostCost c xs g) r
@@ -250,7 +246,7 @@ remaps-area c ms p m xs h = beside-drop ((remaps-are c ms p m xs h) .beside) (51
 
 -- and every guest frame is walked as the mapping says
 pub remaps-walk : (c : Config) (ms : List Mapping) (p : Pool) (m : List ℕ) (xs : List Remap) → Maps c ms p m → (g : ℕ) → g < 2 ^ frameBits c
-    → hostWalkOf c ((remapsOf c p m xs) .memory) g ≡ answerOf c ((mapsOf c ms xs) .mapping) g
+    → hostWalkOf c ((remapsOf c p m xs) .pool .top) ((remapsOf c p m xs) .memory) g ≡ answerOf c ((mapsOf c ms xs) .mapping) g
 remaps-walk c ms p m xs h g b =
     let t = remapsOf c p m xs in
     walk-is c ((mapsOf c ms xs) .mapping) (t .pool) (t .memory) ((remaps-are c ms p m xs h) .stands) g b

@@ -8,7 +8,8 @@ use Rattle.spec.specs.Config.{Config}
 use Rattle.spec.specs.Entry.{indexes}
 use Rattle.spec.specs.Machine.{Machine, Mapping, with, without}
 use Rattle.spec.specs.Book.{Book}
-use Rattle.spec.specs.Call.{Call, map, unmap}
+use Rattle.spec.specs.declared.Call.{Call}
+use Rattle.spec.specs.declared.Call.the-variants.{Map as map, Unmap as unmap}
 use Rattle.spec.specs.Refusal.{frameFits, inGuestArea, refusal}
 use Rattle.area.specs.declared.Area.{Area}
 use Rattle.area.specs.declared.Pool.{Pool}
@@ -21,7 +22,7 @@ use Rattle.host.specs.declared.Change.{Change}
 use Rattle.words.specs.After.{After, yields}
 use Rattle.area.specs.declared.Went.{Went}
 
--- the host tables: frames 0 to H, the top table in frame 0
+-- the host tables: the first H frames
 abbrev pub hostArea : Config → Area
 hostArea c = record { base = 0; size = c .hosts; levels = c .levels }
 

@@ -1,7 +1,7 @@
 -- The host walk over the words of the lent memory, damaged memory too. Document 01, "Host walk".
 -- Assumes nothing.
 use Prim.Native.Nat.{ℕ, _≤_}
-use mathlib.Core.Bool.{Bool, cond}
+use mathlib.Core.Bool.{cond}
 use mathlib.Core.List.{List}
 use Rattle.spec.specs.Config.{Config}
 use Rattle.spec.specs.Entry.{present, writable, frameOf, indexes}
@@ -9,7 +9,6 @@ use Rattle.spec.specs.Refusal.{inGuestArea}
 use Rattle.entry.specs.declared.HostPhysical.{HostPhysical}
 use Rattle.area.specs.declared.Look.{Look}
 use Rattle.area.specs.declared.Look.the-variants.{Seen, Broken}
-use Rattle.area.specs.Pool.{link}
 use Rattle.area.specs.Tree.{lookOf}
 use Rattle.host.specs.declared.Layout.{Layout}
 use Rattle.host.specs.declared.HostWalk.{HostWalk}
@@ -35,6 +34,6 @@ abbrev pub hostBy : Config → Look → HostWalk
 hostBy c (Seen e reads) = leafOf c e reads
 hostBy c Broken = Damaged
 
--- "Read the host entries from level 4 to level 1", from the top table in frame 0
-unfoldable pub hostWalkOf : Config → List ℕ → ℕ → HostWalk
-hostWalkOf c m g = hostBy c (lookOf 0 (c .hosts) m (link 0) (indexes (c .levels) g) 0)
+-- "Read the host entries from level 4 to level 1", from the entry of the top table on
+unfoldable pub hostWalkOf : Config → ℕ → List ℕ → ℕ → HostWalk
+hostWalkOf c top m g = hostBy c (lookOf 0 (c .hosts) m top (indexes (c .levels) g) 0)

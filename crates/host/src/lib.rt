@@ -22,6 +22,12 @@ pub struct Layout {
     pub frames: u64,
 }
 
+// A guest's space of frames: how the memory is laid out, and the entry of the guest's top host table.
+pub struct Space {
+    pub layout: Layout,
+    pub top: u64,
+}
+
 // What a host walk comes to. Found reads one word a level; Damaged: an entry names a frame outside the area it must lie in.
 pub enum HostWalk {
     Found { page: HostPhysical, writable: bool },
@@ -62,11 +68,12 @@ pub fn leaf(l: Layout, e: u64, reads: u64) -> HostWalk
 }
 
 // The host walk of a guest frame.
-pub fn host_walk(mem: &[u64], l: Layout, g: GuestPhysical) -> HostWalk
-    requires { ⌜ LayoutFits l ⌝ }
-    ensures { λ r. ⌜ r ≡ hostWalkOf (config l) (now (mem .entry)) (g .0) ⌝ }
+pub fn host_walk(mem: &[u64], s: Space, g: GuestPhysical) -> HostWalk
+    requires { ⌜ LayoutFits (s .layout) ⌝ }
+    ensures { λ r. ⌜ r ≡ hostWalkOf (config (s .layout)) (s .top) (now (mem .entry)) (g .0) ⌝ }
 {
-    match area::lookup(0, l.hosts, 1, mem, g.0, l.levels) {
+    let l = s.layout;
+    match area::lookup(0, l.hosts, s.top, mem, g.0, l.levels) {
         Look::Seen { entry, reads } => leaf(l, entry, reads),
         Look::Broken => HostWalk::Damaged,
     }
@@ -80,7 +87,7 @@ pub struct Change {
     pub refusal: u64,
 }
 
-// The host tables as an area; the top table is frame 0.
+// The host tables as an area.
 pub fn tables(l: Layout) -> Area
     ensures { λ r. ⌜ r ≡ hostArea (config l) ⌝ }
 {

@@ -7,39 +7,24 @@ use mathlib.Core.List.{List, [], _∷_, _++_, map}
 use mathlib.Core.Option.{Option, none, some}
 use lib.ListN.{length}
 use native.Mathlib.Decide.{ℕ-discrete}
-use mathlib.Core.Logic.{_≢_}
 use Rattle.spec.specs.declared.Answer.{Answer}
 use Rattle.spec.specs.declared.Answer.the-variants as answer
 use Rattle.spec.specs.Answer.{Line, line}
-use Rattle.spec.specs.Run.{State, step, opened, opening}
+use Rattle.spec.specs.Run.{State, step, opened}
 use Rattle.record.specs.declared.Record.{Record}
-use Rattle.record.specs.Record.{configOf, configBy, zeros}
-use Rattle.record.specs.Open.{refusalOf, firstOf, grantedOf}
+use Rattle.record.specs.Record.{configOf}
+use Rattle.record.specs.Open.{refusalOf}
 use Rattle.record.proofs.Opening.{refused-opening, granted-opening}
-use Rattle.records.specs.declared.Call.{Call}
-use Rattle.records.specs.declared.Call.the-variants as call
+use Rattle.spec.specs.declared.Call.{Call}
 use Rattle.records.specs.declared.Job.{Job}
 use Rattle.records.specs.declared.Job.the-variants as job
-use Rattle.jobs.specs.Run as jobs
 use Rattle.jobs.specs.Run.{runOf}
 use Rattle.lines.specs.Text.{decimal, lineOf}
-use Rattle.claims.specs.Run as claims
+use Rattle.unit.specs.Calls.{callOf}
 use Rattle.claims.proofs.Invariant.{Inv, at}
 use Rattle.claims.proofs.Opens.{opened-inv, granted-call, refused-call}
 use Rattle.claims.proofs.Demands.{follows, at-self, opened-config}
-use Rattle.job_claims.specs.Job.{answers, callFor, said, saidAll, textOf, linesFrom, textsFrom}
-
--- one text for a call of a record, in job and claims
-same-call : (x : Call) (r : Record) (m : List ℕ) → jobs.callOf r m x ≡ claims.callOf (callFor x) r m
-unfolding jobs.callOf claims.callOf
-same-call (call.Root g) r m = refl
-same-call (call.Map g f w) r m = refl
-same-call (call.Unmap g) r m = refl
-same-call (call.SetMark a n) r m = refl
-same-call (call.ClearMark a n) r m = refl
-same-call (call.Load a) r m = refl
-same-call (call.Store a v) r m = refl
-same-call (call.Device a v) r m = refl
+use Rattle.job_claims.specs.Job.{answers, said, saidAll, textOf, linesFrom, textsFrom}
 
 -- record and memory of a job stand for machine and book, once an open was granted
 abbrev Stands : Option State → Bool → Record → List ℕ → Type 0
@@ -71,14 +56,14 @@ calls-alike : (x : Call) (k : Option State) (o : Bool) (r : Record) (m : List �
 unfolding runOf
 calls-alike x none o r m i = record { says = rw i; stands = rw i }
 calls-alike x (some k) o r m i =
-    let f = follows (callFor x) k r m (i .2) in
-    let now : step (callFor x) (at (configOf r) k) ≡ step (callFor x) k = ap (step (callFor x)) (at-self (configOf r) k (i .1)) in
+    let f = follows x k r m (i .2) in
+    let now : step x (at (configOf r) k) ≡ step x k = ap (step x) (at-self (configOf r) k (i .1)) in
     record {
-      says = rw (i .0, same-call x r m) (f .says ∙ ap (λ u. u .0) now);
-      stands = rw (i .0, same-call x r m) (
+      says = rw (i .0) (f .says ∙ ap (λ u. u .0) now);
+      stands = rw (i .0) (
         refl,
         sym (f .config ∙ ap (λ u. u .1 .config) now),
-        subst (λ u. Inv (u .1) (claims.callOf (callFor x) r m .result .unit) (claims.callOf (callFor x) r m .memory)) now (f .next),
+        subst (λ u. Inv (u .1) (callOf x r m .result .unit) (callOf x r m .memory)) now (f .next),
       );
     }
 

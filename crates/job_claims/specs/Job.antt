@@ -1,19 +1,17 @@
 -- A job as a list of records: what the unit says to each, and what the specification says. Document 01, "Job program".
 -- Assumes nothing.
 use Prim.Native.Nat.{ℕ, suc}
-use mathlib.Core.Bool.{Bool, true, false, cond}
+use mathlib.Core.Bool.{Bool, cond}
 use mathlib.Core.List.{List, [], _∷_, _++_}
 use mathlib.Core.Option.{Option, none, some}
 use lib.ListN.{length}
 use Rattle.spec.specs.declared.Answer.{Answer}
 use Rattle.spec.specs.Answer as say
-use Rattle.spec.specs.Answer.{Line, line}
-use Rattle.spec.specs.Call as machine
+use Rattle.spec.specs.Answer.{Line}
+use Rattle.spec.specs.declared.Call.{Call}
 use Rattle.spec.specs.Run.{State, step, opening}
 use Rattle.record.specs.declared.Record.{Record}
 use Rattle.record.specs.Record.{configBy}
-use Rattle.records.specs.declared.Call.{Call}
-use Rattle.records.specs.declared.Call.the-variants as call
 use Rattle.records.specs.declared.Job.{Job}
 use Rattle.records.specs.declared.Job.the-variants as job
 use Rattle.jobs.specs.Run.{runOf}
@@ -32,17 +30,6 @@ answers (j ∷ js) o r m =
 
 -- ---- machine and book
 
--- the specification's call of a record
-abbrev pub callFor : Call → machine.Call
-callFor (call.Root g) = machine.root g
-callFor (call.Map g f w) = machine.map g f w
-callFor (call.Unmap g) = machine.unmap g
-callFor (call.SetMark a n) = machine.setMark a n
-callFor (call.ClearMark a n) = machine.clearMark a n
-callFor (call.Load a) = machine.load a
-callFor (call.Store a v) = machine.store a v
-callFor (call.Device a v) = machine.device a v
-
 -- "A refused open keeps the unit's earlier record in use"
 abbrev pub openedBy : Option State → Option State → Option State
 openedBy (some s) before = some s
@@ -52,7 +39,7 @@ openedBy none before = before
 abbrev pub called : Option State → Call → Line × Option State
 called none x = (say.no 3, none)
 called (some s) x =
-    let u : Line × State = step (callFor x) s in
+    let u : Line × State = step x s in
     (u .0, some (u .1))
 
 -- what is said to one record. An opening takes the memory it meets.

@@ -6,9 +6,7 @@ use mathlib.Core.List.{List}
 use Rattle.spec.specs.declared.Answer.{Answer}
 use Rattle.spec.specs.declared.Answer.the-variants as answer
 use Rattle.record.specs.declared.Record.{Record}
-use Rattle.unit.specs.Calls.{openCall, loadOf, storeCall, deviceCall, rootCall, mapCall, unmapCall, setMarkCall, clearMarkCall}
-use Rattle.records.specs.declared.Call.{Call}
-use Rattle.records.specs.declared.Call.the-variants as call
+use Rattle.unit.specs.Calls.{openCall, callOf}
 use Rattle.records.specs.declared.Job.{Job}
 use Rattle.records.specs.declared.Job.the-variants as job
 use Rattle.jobs.specs.declared.Ran.{Ran}
@@ -18,16 +16,6 @@ use Rattle.unit.specs.declared.Reply.{Reply}
 -- what a record leaves
 abbrev pub ran : Bool → Record → Answer → Bool → List ℕ → After Ran
 ran o r x more m = yields (record { opened = o; unit = r; answer = x; more = more }) m
-
-unfoldable pub callOf : Record → List ℕ → Call → After Reply
-callOf r m (call.Root g) = rootCall r m g
-callOf r m (call.Map g f w) = mapCall r m g f w
-callOf r m (call.Unmap g) = unmapCall r m g
-callOf r m (call.SetMark a n) = setMarkCall r m a n
-callOf r m (call.ClearMark a n) = clearMarkCall r m a n
-callOf r m (call.Load a) = loadOf r m a
-callOf r m (call.Store a v) = storeCall r m a v
-callOf r m (call.Device a v) = deviceCall r m a v
 
 abbrev pub isOk : Answer → Bool
 isOk answer.Ok = true
@@ -48,5 +36,5 @@ calledBy e = ran true (e .result .unit) (e .result .answer) true (e .memory)
 -- "13 and the end"; "Checked next: 3 for any kind but 1 before a granted open"
 unfoldable pub runOf : Bool → Record → List ℕ → Job → After Ran
 runOf o r m (job.Open h s) = openedBy o r (openCall m h s)
-runOf o r m (job.Call x) = cond o (calledBy (callOf r m x)) (ran false r (answer.Refused 3) true m)
+runOf o r m (job.Call x) = cond o (calledBy (callOf x r m)) (ran false r (answer.Refused 3) true m)
 runOf o r m job.Bad = ran o r (answer.Refused 13) false m

@@ -1,13 +1,13 @@
 // What a record of a job does to the unit.
 ghost use mathlib.Core.Path.{_≡_};
-ghost use Rattle.unit.specs.Calls.{openCall};
-ghost use Rattle.jobs.specs.Run.{isOk, callOf, openedBy, runOf};
+ghost use Rattle.words.specs.After.{yields};
+ghost use Rattle.unit.specs.Calls.{openCall, callOf};
+ghost use Rattle.jobs.specs.Run.{isOk, openedBy, runOf};
 use record::Record;
-use records::Call;
 use records::Job;
 use spec::Answer;
+use spec::Call;
 use unit::Reply;
-ghost use Rattle.words.specs.After.{yields};
 
 // What a record leaves: whether an open was granted so far, the record in use, the answer, and whether the job goes on.
 pub struct Ran {
@@ -19,7 +19,7 @@ pub struct Ran {
 
 // The unit's call.
 fn run_call(unit: Record, mem: &mut [u64], call: Call) -> Reply
-    ensures { λ r. ⌜ yields r (now (mem .exit)) ≡ callOf unit (now (mem .entry)) call ⌝ }
+    ensures { λ r. ⌜ yields r (now (mem .exit)) ≡ callOf call unit (now (mem .entry)) ⌝ }
 {
     match call {
         Call::Root(g) => unit::load_root(unit, mem, g),

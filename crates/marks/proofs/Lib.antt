@@ -2,6 +2,7 @@ pub mod Turn
 pub mod Search
 pub mod Insert
 pub mod Ascending
+pub mod ByLevel
 pub mod Reading
 pub mod Order
 pub mod Tables

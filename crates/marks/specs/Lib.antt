@@ -1,3 +1,4 @@
 pub mod Key
+pub mod ByLevel
 pub mod Table
 pub mod Reading

@@ -7,12 +7,13 @@ ghost use mathlib.Core.Bool.{not, _&&_};
 ghost use mathlib.Core.List.{[]};
 ghost use lib.Count.{ones};
 ghost use lib.Dec.{eqb, ltb};
-ghost use Prim.Native.Nat.{_-_, _<_, min, max};
+ghost use Prim.Native.Nat.{_-_, _<_, _≤_, min, max};
 ghost use Rattle.spec.specs.Entry.{pageOf};
 ghost use Rattle.spec.specs.Prefix.{any};
 ghost use Rattle.spec.specs.Refusal.{levelFits};
 ghost use Rattle.entry.specs.Levels.{ofLevels};
-ghost use Rattle.marks.specs.Key.{keyOf, levelAt, depthOf, keyFits, keysFit, ascending};
+ghost use Rattle.marks.specs.Key.{keyOf, depthOf, keysFit, ascending};
+ghost use Rattle.marks.specs.ByLevel.{endOf, endsOf, wantsOf, fitsBy, wantedFrom};
 ghost use Rattle.marks.specs.Table.{keys, placeOf, inserted, tableOf, withKey, withoutKey, setRefusal, clearRefusal, number};
 
 // The places that are set, and the key at each place.
@@ -41,31 +42,58 @@ pub fn key_of(level: u64, address: GuestVirtual) -> u64
     (address.page() >> (9 * level)) * 8 + level
 }
 
-// The level of the key where the page begins with its indexes, else 0.
-fn level_at(page: u64, key: u64) -> u64
-    ensures { λ r. ⌜ r ≡ levelAt page key ⌝ }
+// The key of the mark of each level at an address, made once for a search.
+fn wants_of(address: GuestVirtual) -> [u64; 8]
+    ensures { λ r. ⌜ r ≡ wantsOf (pageOf (address .0)) ⌝ }
 {
-    let level = key % 8;
-    if page >> (9 * level) == key / 8 {
-        level
-    } else {
-        0
+    [
+        key_of(0, address),
+        key_of(1, address),
+        key_of(2, address),
+        key_of(3, address),
+        key_of(4, address),
+        key_of(5, address),
+        key_of(6, address),
+        key_of(7, address),
+    ]
+}
+
+// The set from the first place on whose key is wanted. A loop of its own, so that passing a key takes few instructions.
+fn wanted_from(place: &[u64; 64], set: u64, wants: &[u64; 8]) -> u64
+    ensures { λ r. ⌜ (keys (now (place .entry)) r ≡ wantedFrom (now (wants .entry)) (keys (now (place .entry)) set)) × (r ≤ set) ⌝ }
+{
+    let mut rest = set;
+    while rest != 0 {
+        let i = bits::lowest(rest);
+        let key = place[i];
+        let level = (key % 8) as usize;
+        if wants[level] == key {
+            return rest;
+        }
+        rest = bits::after_lowest(rest);
     }
+    0
 }
 
 // The depth of an address: the set places are visited in their order.
 pub fn depth(place: &[u64; 64], set: u64, address: GuestVirtual) -> u64
     ensures { λ r. ⌜ r ≡ depthOf (pageOf (address .0)) (keys (now (place .entry)) set) ⌝ }
 {
-    let page = address.page();
+    if set == 0 {
+        return 0;
+    }
+    let wants = wants_of(address);
     let mut found = 0;
     let mut rest = set;
-    while rest != 0 {
+    loop {
+        rest = wanted_from(place, rest, &wants);
+        if rest == 0 {
+            return found;
+        }
         let i = bits::lowest(rest);
-        found = greater(found, level_at(page, place[i]));
+        found = greater(found, place[i] % 8);
         rest = bits::after_lowest(rest);
     }
-    found
 }
 
 // The first set place that holds the key; 64 where none does.
@@ -90,28 +118,48 @@ fn kept(levels: u64, level: u64) -> u64
     if level < levels { levels - level } else { 0 }
 }
 
-// Is it the key of a mark, with only the indexes that the mark keeps?
-fn key_fits(levels: u64, key: u64) -> bool
+// The first number too large for a key of that level; 0 where no mark has it.
+fn end_of(levels: u64, level: u64) -> u64
     requires { ⌜ levels < 6 ⌝ }
-    ensures { λ r. ⌜ r ≡ keyFits levels key ⌝ }
+    ensures { λ r. ⌜ r ≡ endOf levels level ⌝ }
 {
-    let level = key % 8;
-    if level < 1 {
-        return false;
+    if level_fits(levels, level) {
+        return 8 * bits::power(9 * kept(levels, level));
     }
-    if levels + 1 < level {
-        return false;
-    }
-    (key / 8) >> (9 * kept(levels, level)) == 0
+    0
+}
+
+// The end of each level's keys, made once for a pass.
+fn ends_of(levels: u64) -> [u64; 8]
+    requires { ⌜ levels < 6 ⌝ }
+    ensures { λ r. ⌜ r ≡ endsOf levels ⌝ }
+{
+    [
+        end_of(levels, 0),
+        end_of(levels, 1),
+        end_of(levels, 2),
+        end_of(levels, 3),
+        end_of(levels, 4),
+        end_of(levels, 5),
+        end_of(levels, 6),
+        end_of(levels, 7),
+    ]
+}
+
+// Is it the key of a mark, with only the indexes that the mark keeps?
+fn key_fits(ends: &[u64; 8], key: u64) -> bool
+    ensures { λ r. ⌜ r ≡ fitsBy (now (ends .entry)) key ⌝ }
+{
+    let level = (key % 8) as usize;
+    key < ends[level]
 }
 
 // The next key of an ascending table.
-fn follows(levels: u64, last: u64, key: u64) -> bool
-    requires { ⌜ levels < 6 ⌝ }
-    ensures { λ r. ⌜ r ≡ (ltb last key && keyFits levels key) ⌝ }
+fn follows(ends: &[u64; 8], last: u64, key: u64) -> bool
+    ensures { λ r. ⌜ r ≡ (ltb last key && fitsBy (now (ends .entry)) key) ⌝ }
 {
     if last < key {
-        return key_fits(levels, key);
+        return key_fits(ends, key);
     }
     false
 }
@@ -121,12 +169,16 @@ fn ascends(place: &[u64; 64], set: u64, levels: u64) -> bool
     requires { ⌜ levels < 6 ⌝ }
     ensures { λ r. ⌜ r ≡ ascending levels 0 (keys (now (place .entry)) set) ⌝ }
 {
+    if set == 0 {
+        return true;
+    }
+    let ends = ends_of(levels);
     let mut last = 0;
     let mut rest = set;
     while rest != 0 {
         let i = bits::lowest(rest);
         let key = place[i];
-        if !follows(levels, last, key) {
+        if !follows(&ends, last, key) {
             return false;
         }
         last = key;
@@ -143,11 +195,10 @@ fn holds(place: &[u64; 64], set: u64, key: u64) -> bool
 }
 
 // Is the key one of a mark, and at no place of the rest?
-fn differs(place: &[u64; 64], rest: u64, levels: u64, key: u64) -> bool
-    requires { ⌜ levels < 6 ⌝ }
-    ensures { λ r. ⌜ r ≡ (keyFits levels key && not (any (eqb key) (keys (now (place .entry)) rest))) ⌝ }
+fn differs(place: &[u64; 64], rest: u64, ends: &[u64; 8], key: u64) -> bool
+    ensures { λ r. ⌜ r ≡ (fitsBy (now (ends .entry)) key && not (any (eqb key) (keys (now (place .entry)) rest))) ⌝ }
 {
-    if key_fits(levels, key) {
+    if key_fits(ends, key) {
         return !holds(place, rest, key);
     }
     false
@@ -158,11 +209,12 @@ fn all_differ(place: &[u64; 64], set: u64, levels: u64) -> bool
     requires { ⌜ levels < 6 ⌝ }
     ensures { λ r. ⌜ r ≡ keysFit levels (keys (now (place .entry)) set) ⌝ }
 {
+    let ends = ends_of(levels);
     let mut rest = set;
     while rest != 0 {
         let i = bits::lowest(rest);
         rest = bits::after_lowest(rest);
-        if !differs(place, rest, levels, place[i]) {
+        if !differs(place, rest, &ends, place[i]) {
             return false;
         }
     }

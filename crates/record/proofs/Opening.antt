@@ -1,11 +1,11 @@
 -- What an opening leaves: the answer of the specification, the guest words, a record that breaks no rule, tables of no leaf.
 -- Assumes nothing.
-use mathlib.Core.Path.{_≡_, refl, _∙_}
+use mathlib.Core.Path.{_≡_, refl, sym, _∙_}
 use mathlib.Core.Logic.{_≢_, inl, inr}
 use mathlib.Core.Bool.{Bool, true, false}
 use mathlib.Core.List.{List, [], _∷_}
 use mathlib.Core.Option.{none, some}
-use Prim.Native.Nat.{ℕ, _+_, _*_}
+use Prim.Native.Nat.{ℕ, _+_, _*_, _/_}
 use native.Mathlib.Omega.{arith}
 use borrow.Author.Tests.{eq-eqb, ne-eqb}
 use lib.ListN.{length, drop}
@@ -27,9 +27,9 @@ use Rattle.marks.specs.Table.{tableOf, number}
 use Rattle.marks.specs.Reading.{marksOf}
 use Rattle.marks.proofs.Book.{keysOf, no-marks, none-ascend}
 use Rattle.record.specs.declared.Record.{Record}
-use Rattle.record.specs.Record.{levels, configBy, fitsOf, zeros}
+use Rattle.record.specs.Record.{levels, layoutOf, configBy, fitsOf, zeros}
 use Rattle.record.specs.Open.{refusalOf, clearedOf, enteredOf, firstOf, grantedOf, granted, openOf}
-use Rattle.record.proofs.Rules.{Sized, Fits, sized-layout, granted-tests, granted-sized, fits-true, zeros-refused}
+use Rattle.record.proofs.Rules.{Sized, Fits, holds-top, holds-pool, granted-tests, granted-sized, fits-true, zeros-refused}
 use Rattle.words.specs.After.{yields}
 
 -- ---- the refusal
@@ -86,13 +86,16 @@ module _ (m : List ℕ) (h s : ℕ) (grant : refusalOf (length m) h s ≡ 0) whe
   unfolding openOf
   granted-open = rw (eq-eqb _ _ grant)
 
-  fits : Sized (length m) h s
-  fits = granted-sized (length m) h s grant
+  fits : Sized (layoutOf (length m) h s)
+  fits = granted-sized (length m) h s grant .0
 
-  entered : Maps c [] (unit .host) memory × Beside (hostArea c) (clearedOf m (h + s)) memory
+  whole : length m / 512 * 512 ≡ length m
+  whole = granted-sized (length m) h s grant .1
+
+  entered : Maps c [] (unit .pools .host) memory × Beside (hostArea c) (clearedOf m (h + s)) memory
   unfolding grantedOf firstOf enteredOf
   entered = enter-maps c (clearedOf m (h + s)) (omega arith) (omega arith) (omega (arith, fits .hosts)) (omega (arith, fits .guest, fits .frames)) (fits .frames)
-      (omega (arith, clear-beside m (h + s) .len, fits .guest, fits .whole))
+      (omega (arith, clear-beside m (h + s) .len, fits .guest, whole))
 
   pub granted-long : length memory ≡ length m
   granted-long = entered .1 .len ∙ clear-beside m (h + s) .len
@@ -103,40 +106,40 @@ module _ (m : List ℕ) (h s : ℕ) (grant : refusalOf (length m) h s ≡ 0) whe
       beside-drop (entered .1) (512 * guestBase c) (omega arith) ∙ beside-drop (clear-beside m (h + s)) (512 * guestBase c) (omega arith)
 
   -- ---- the tables: nothing is mapped, no path is held
-  pub granted-maps : Maps c [] (unit .host) memory
+  pub granted-maps : Maps c [] (unit .pools .host) memory
   granted-maps = entered .0
 
-  pub granted-host : Holds (hostArea c) true (unit .host) memory (λ x. 0) (λ x. 0)
+  pub granted-host : Holds (hostArea c) true (unit .pools .host) memory (λ x. 0) (λ x. 0)
   unfolding hostMap get
   granted-host = holds-leaves (granted-maps .holds) (λ x. 0) (λ x. refl)
 
-  pub granted-shadow : (guest : List ℕ → ℕ) → Holds (record { base = h; size = s; levels = levels }) false (unit .shadow) memory (λ x. 0) guest
+  pub granted-shadow : (guest : List ℕ → ℕ) → Holds (record { base = h; size = s; levels = levels }) false (unit .pools .shadow) memory (λ x. 0) guest
   unfolding grantedOf firstOf
   granted-shadow guest = holds-none (record { base = h; size = s; levels = levels }) guest memory
-      (omega (arith, fits .guest, fits .frames)) (omega arith) (omega (arith, granted-long, fits .guest, fits .whole))
+      (omega (arith, fits .guest, fits .frames)) (omega arith) (omega (arith, granted-long, fits .guest, whole))
 
   -- ---- the record breaks no rule
-  no-mark : marksOf levels (unit .marks) ≡ []
+  no-mark : marksOf levels (unit .guest .marks) ≡ []
   unfolding grantedOf firstOf tableOf
   no-mark = no-marks levels (tableOf []) refl
 
   rules : Fits unit (length memory)
   unfolding grantedOf firstOf noneOf
   rules = record {
-    long = granted-long;
+    long = granted-long ∙ sym whole;
     sizes = fits;
-    layout = sized-layout fits;
     root = omega arith;
     marks = rw no-mark;
-    top = inl refl;
-    host = (granted-host .tables .room, omega (arith, granted-host .tables .count));
-    shadow = (omega arith, omega arith);
+    held = inl refl;
+    top = holds-top granted-host;
+    host = holds-pool granted-host;
+    shadow = (omega arith, omega arith, inl refl);
   }
 
   pub granted-fits : fitsOf unit (length memory) ≡ true
   granted-fits = fits-true unit (length memory) rules
 
   -- its keys ascend, so that the rule of marks takes one pass
-  pub granted-ascend : ascending levels 0 (keysOf (unit .marks)) ≡ true
+  pub granted-ascend : ascending levels 0 (keysOf (unit .guest .marks)) ≡ true
   unfolding grantedOf firstOf tableOf
   granted-ascend = none-ascend levels (tableOf []) refl

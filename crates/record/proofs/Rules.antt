@@ -1,26 +1,32 @@
 -- What the rules of a record give: the ranges that every crate below asks for.
 -- Assumes nothing.
-use mathlib.Core.Path.{_≡_, refl, sym, _∙_}
+use mathlib.Core.Path.{_≡_, refl, sym, ap, _∙_}
 use mathlib.Core.Logic.{_⊎_, inl, inr}
-use mathlib.Core.Bool.{Bool, true, false, _&&_, cond, and-eq-true-iff}
-use mathlib.Core.List.{[], _∷_}
-use mathlib.Core.Option.{none, some}
+use mathlib.Core.Bool.{Bool, true, false, _&&_, _||_, cond, and-eq-true-iff}
+use mathlib.Core.List.{List, [], _∷_}
+use mathlib.Core.Option.{Option, none, some, IsSome}
 use Prim.Native.Nat.{ℕ, _+_, _-_, _*_, _/_, _%_, _^_, _<_, _≤_}
 use native.Mathlib.Omega.{arith}
 use borrow.Author.Tests.{eqb-true, eqb-false, leb-true, ltb-true, ltb-false, lt-ltb, le-ltb, le-leb, eq-eqb}
 use lib.Dec.{eqb, leb, ltb}
 use Rattle.spec.specs.Config.{Config, guestBase, frameBits}
 use Rattle.spec.specs.Refusal.{wordsFit, areasFit, frameFits, marksFit, topFits, recordFits, openRefusal}
+use Rattle.area.specs.declared.Area.{Area}
 use Rattle.area.specs.declared.Pool.{Pool}
-use Rattle.area.specs.Pool.{noneOf}
-use Rattle.host.specs.Walk.{LayoutFits}
+use Rattle.area.specs.Header.{insideOf}
+use Rattle.area.specs.Pool.{link}
+use Rattle.area.proofs.Laws.{inside-true}
+use Rattle.tree.proofs.Invariant.{slot, inside-is}
+use Rattle.tree.proofs.Whole.{Holds}
+use Rattle.host.specs.declared.Layout.{Layout}
+use Rattle.host.specs.Walk.{LayoutFits, config}
 use Rattle.host.proofs.Laws.{InGuestArea}
 use Rattle.marks.specs.declared.Marks.{Marks}
 use Rattle.marks.specs.Key.{keysFit}
 use Rattle.marks.specs.Reading.{marksOf}
 use Rattle.marks.proofs.Book.{keysOf, marks-fit, all-held}
 use Rattle.record.specs.declared.Record.{Record}
-use Rattle.record.specs.Record.{levels, layoutOf, configBy, configOf, heldTop, poolFits, fitsOf, sizesFit, tablesFit, zeros, withRoot, withMarks}
+use Rattle.record.specs.Record.{levels, layoutOf, configBy, configOf, heldTop, isTable, poolFits, poolsFit, fitsOf, sizesFit, tablesFit, zeros, headOf, headRoot, withHead, withMarks}
 use Rattle.record.specs.Open.{refusalOf}
 
 both : (a b : Bool) → a && b ≡ true → (a ≡ true) × (b ≡ true)
@@ -35,33 +41,32 @@ below h s n l = go (ltb (h + s) n) refl
     go false q = let k = ltb-false (h + s) n q in le-ltb s (n - h) (omega arith)
 
 -- ---- sizes as for opening
-pub record Sized (words h s : ℕ) : Type 0 where
-  pub whole : words / 512 * 512 ≡ words
-  pub frames : words / 512 ≤ 65536
-  pub hosts : levels ≤ h
-  pub shadows : levels ≤ s
-  pub guest : h + s < words / 512
+pub record Sized (l : Layout) : Type 0 where
+  pub deep : l .levels ≡ levels
+  pub frames : l .frames ≤ 65536
+  pub hosts : l .levels ≤ l .hosts
+  pub shadows : l .levels ≤ l .shadows
+  pub guest : l .hosts + l .shadows < l .frames
 
-pub sized : (words h s : ℕ) → wordsFit words ≡ true → areasFit (configBy words h s) ≡ true → Sized words h s
-sized words h s e f =
-    let w = both (eqb (words % 512) 0 && ltb 0 (words / 512)) (leb (words / 512) 65536) e in
-    let d = eqb-true (words % 512) 0 (both (eqb (words % 512) 0) (ltb 0 (words / 512)) (w .0) .0) in
-    let a = both (leb levels h && leb levels s) (ltb (h + s) (words / 512)) f in
-    let b = both (leb levels h) (leb levels s) (a .0) in
+sized : (l : Layout) → l .levels ≡ levels → l .frames ≤ 65536 → areasFit (config l) ≡ true → Sized l
+sized l n f e =
+    let a = both (leb (l .levels) (l .hosts) && leb (l .levels) (l .shadows)) (ltb (l .hosts + l .shadows) (l .frames)) e in
+    let b = both (leb (l .levels) (l .hosts)) (leb (l .levels) (l .shadows)) (a .0) in
     record {
-      whole = omega arith;
-      frames = leb-true (words / 512) 65536 (w .1);
-      hosts = leb-true levels h (b .0);
-      shadows = leb-true levels s (b .1);
-      guest = ltb-true (h + s) (words / 512) (a .1);
+      deep = n;
+      frames = f;
+      hosts = leb-true (l .levels) (l .hosts) (b .0);
+      shadows = leb-true (l .levels) (l .shadows) (b .1);
+      guest = ltb-true (l .hosts + l .shadows) (l .frames) (a .1);
     }
 
-pub sizes-fit : (words h s len : ℕ) → sizesFit words h s len ≡ true → (len ≡ words) × Sized words h s
+pub sizes-say : (l : Layout) (len : ℕ) → l .levels ≡ levels → sizesFit l len ≡ true → Sized l
 unfolding sizesFit
-sizes-fit words h s len e =
-    let x = both (eqb len words && wordsFit words) (areasFit (configBy words h s)) e in
-    let y = both (eqb len words) (wordsFit words) (x .0) in
-    (eqb-true len words (y .0), sized words h s (y .1) (x .1))
+sizes-say l len n e =
+    let x = both (eqb len (l .frames * 512) && (ltb 0 (l .frames) && leb (l .frames) 65536)) (areasFit (config l)) e in
+    let y = both (eqb len (l .frames * 512)) (ltb 0 (l .frames) && leb (l .frames) 65536) (x .0) in
+    let z = both (ltb 0 (l .frames)) (leb (l .frames) 65536) (y .1) in
+    sized l n (leb-true (l .frames) 65536 (z .1)) (x .1)
 
 -- a granted opening
 pub granted-tests : (words h s : ℕ) → refusalOf words h s ≡ 0 → (wordsFit words ≡ true) × (areasFit (configBy words h s) ≡ true)
@@ -70,35 +75,98 @@ granted-tests words h s e =
     let t = all-held ((wordsFit words, 1) ∷ (areasFit (configBy words h s), 2) ∷ []) (omega arith, (omega arith, tt)) e in
     (t .0, t .1 .0)
 
-pub granted-sized : (words h s : ℕ) → refusalOf words h s ≡ 0 → Sized words h s
-granted-sized words h s e = let t = granted-tests words h s e in sized words h s (t .0) (t .1)
+pub granted-sized : (words h s : ℕ) → refusalOf words h s ≡ 0 → Sized (layoutOf words h s) × (words / 512 * 512 ≡ words)
+granted-sized words h s e =
+    let t = granted-tests words h s e in
+    let w = both (eqb (words % 512) 0 && ltb 0 (words / 512)) (leb (words / 512) 65536) (t .0) in
+    let d = eqb-true (words % 512) 0 (both (eqb (words % 512) 0) (ltb 0 (words / 512)) (w .0) .0) in
+    (sized (layoutOf words h s) refl (leb-true (words / 512) 65536 (w .1)) (t .1), omega arith)
 
 -- the ranges of a layout
-pub sized-layout : {words h s : ℕ} → Sized words h s → LayoutFits (layoutOf words h s)
-sized-layout z = (omega arith, omega (arith, z .guest, z .frames), omega (arith, z .guest, z .frames), z .frames)
+pub sized-layout : {l : Layout} → Sized l → LayoutFits l
+sized-layout z = (omega (arith, z .deep), omega (arith, z .guest, z .frames), omega (arith, z .guest, z .frames), z .frames)
+
+-- ---- what the areas keep
+pub record Table (b s e : ℕ) : Type 0 where
+  pub frame : ℕ
+  pub is : e ≡ link frame
+  pub low : b ≤ frame
+  pub high : frame < b + s
+
+pub table-is : (b s e : ℕ) → isTable b s e ≡ true → Table b s e
+unfolding isTable link
+table-is b s e h =
+    let x = both (eqb (e % 4096) 1) (insideOf b s (e / 4096)) h in
+    let one = eqb-true (e % 4096) 1 (x .0) in
+    let i = inside-true b s (e / 4096) (x .1) in
+    record { frame = e / 4096; is = omega arith; low = i .0; high = i .1 }
+
+is-table : (b s e : ℕ) → Table b s e → isTable b s e ≡ true
+unfolding isTable link
+is-table b s e t =
+    let one : e % 4096 ≡ 1 = omega (arith, t .is) in
+    let at : e / 4096 ≡ t .frame = omega (arith, t .is) in
+    rw (eq-eqb _ _ one, at, inside-is b s (t .frame) (t .low) (t .high))
+
+abbrev pub PoolFits : ℕ → ℕ → Pool → Type 0
+PoolFits b s p = (p .fresh ≤ s) × (p .used ≤ p .fresh) × ((p .top ≡ 0) ⊎ Table b s (p .top))
+
+pool-fits : (b s : ℕ) (p : Pool) → poolFits b s p ≡ true → PoolFits b s p
+unfolding poolFits
+pool-fits b s p e =
+    let x = both (leb (p .fresh) s && leb (p .used) (p .fresh)) (eqb (p .top) 0 || isTable b s (p .top)) e in
+    let y = both (leb (p .fresh) s) (leb (p .used) (p .fresh)) (x .0) in
+    (leb-true (p .fresh) s (y .0), leb-true (p .used) (p .fresh) (y .1), top (eqb (p .top) 0) refl (x .1))
+  where
+    top : (t : Bool) → eqb (p .top) 0 ≡ t → (t || isTable b s (p .top)) ≡ true → (p .top ≡ 0) ⊎ Table b s (p .top)
+    top true q k = inl (eqb-true (p .top) 0 q)
+    top false q k = inr (table-is b s (p .top) k)
+
+fits-pool : (b s : ℕ) (p : Pool) → PoolFits b s p → poolFits b s p ≡ true
+unfolding poolFits
+fits-pool b s p f = rw (le-leb _ _ (f .0), le-leb _ _ (f .1)) (top (f .2))
+  where
+    top : (p .top ≡ 0) ⊎ Table b s (p .top) → (eqb (p .top) 0 || isTable b s (p .top)) ≡ true
+    top (inl e) = rw (eq-eqb _ _ e)
+    top (inr t) = or (eqb (p .top) 0) (is-table b s (p .top) t)
+      where
+        or : (a : Bool) → isTable b s (p .top) ≡ true → (a || isTable b s (p .top)) ≡ true
+        or true e = refl
+        or false e = e
+
+-- an area that holds leaves keeps a pool in its ranges, and its top table is one of it
+top-table : {a : Area} {stays : Bool} {p : Pool} {m : List ℕ} {lv guest : List ℕ → ℕ} (h : Holds a stays p m lv guest) (f : ℕ) → h .tabs [] ≡ some f → Table (a .base) (a .size) (p .top)
+top-table h f e =
+    let i = h .tables .inside [] f e in
+    record { frame = f; is = h .tables .top ∙ ap (λ o. slot o 0) e; low = i .0; high = omega (arith, i .1, h .tables .room) }
+
+pub holds-top : {a : Area} {p : Pool} {m : List ℕ} {lv guest : List ℕ → ℕ} → Holds a true p m lv guest → Table (a .base) (a .size) (p .top)
+holds-top {a} {p} h = go (h .tabs []) refl (h .top tt)
+  where
+    go : (o : Option ℕ) → h .tabs [] ≡ o → IsSome o → Table (a .base) (a .size) (p .top)
+    go none e k = absurd k
+    go (some f) e k = top-table h f e
+
+pub holds-pool : {a : Area} {stays : Bool} {p : Pool} {m : List ℕ} {lv guest : List ℕ → ℕ} → Holds a stays p m lv guest → PoolFits (a .base) (a .size) p
+holds-pool {a} {stays} {p} h = (h .tables .room, omega (arith, h .tables .count), go (h .tabs []) refl)
+  where
+    go : (o : Option ℕ) → h .tabs [] ≡ o → (p .top ≡ 0) ⊎ Table (a .base) (a .size) (p .top)
+    go none e = inl (h .tables .top ∙ ap (λ o. slot o 0) e)
+    go (some f) e = inr (top-table h f e)
 
 -- ---- a record that breaks no rule
-abbrev pub PoolFits : ℕ → Pool → Type 0
-PoolFits size p = (p .fresh ≤ size) × (p .used ≤ p .fresh)
-
-pub pool-fits : (size : ℕ) (p : Pool) → poolFits size p ≡ true → PoolFits size p
-unfolding poolFits
-pool-fits size p e =
-    let x = both (leb (p .fresh) size) (leb (p .used) (p .fresh)) e in
-    (leb-true (p .fresh) size (x .0), leb-true (p .used) (p .fresh) (x .1))
-
 pub record Fits (r : Record) (len : ℕ) : Type 0 where
-  pub long : len ≡ r .words
-  pub sizes : Sized (r .words) (r .hosts) (r .shadows)
-  pub layout : LayoutFits (layoutOf (r .words) (r .hosts) (r .shadows))
-  pub root : r .root < 2 ^ frameBits (configOf r)
-  pub marks : marksFit (configOf r) (marksOf levels (r .marks)) ≡ true
-  pub top : (r .top ≡ 0) ⊎ InGuestArea (configOf r) (r .top)
-  pub host : PoolFits (r .hosts) (r .host)
-  pub shadow : PoolFits (r .shadows) (r .shadow)
+  pub long : len ≡ r .layout .frames * 512
+  pub sizes : Sized (r .layout)
+  pub root : r .guest .root .0 < 2 ^ frameBits (configOf r)
+  pub marks : marksFit (configOf r) (marksOf (r .layout .levels) (r .guest .marks)) ≡ true
+  pub held : (r .guest .held .0 ≡ 0) ⊎ InGuestArea (configOf r) (r .guest .held .0)
+  pub top : Table 0 (r .layout .hosts) (r .pools .host .top)
+  pub host : PoolFits 0 (r .layout .hosts) (r .pools .host)
+  pub shadow : PoolFits (r .layout .hosts) (r .layout .shadows) (r .pools .shadow)
 
-top-fits : (c : Config) (f : ℕ) → topFits c (heldTop f) ≡ true → (f ≡ 0) ⊎ InGuestArea c f
-top-fits c f = go (eqb f 0) refl
+held-fits : (c : Config) (f : ℕ) → topFits c (heldTop f) ≡ true → (f ≡ 0) ⊎ InGuestArea c f
+held-fits c f = go (eqb f 0) refl
   where
     go : (t : Bool) → eqb f 0 ≡ t → topFits c (cond t none (some f)) ≡ true → (f ≡ 0) ⊎ InGuestArea c f
     go true q e = inl (eqb-true f 0 q)
@@ -106,48 +174,8 @@ top-fits c f = go (eqb f 0) refl
         let x = both (leb (guestBase c) f) (ltb f (c .frames)) e in
         inr (leb-true (guestBase c) f (x .0), ltb-true f (c .frames) (x .1))
 
-pub fits-layout : (r : Record) (len : ℕ) → fitsOf r len ≡ true → Fits r len
-unfolding fitsOf recordFits
-fits-layout r len e =
-    let c = configOf r in
-    let a = eqb len (r .words) in
-    let b = wordsFit (r .words) in
-    let d = areasFit c in
-    let f = eqb (r .words / 512) (r .words / 512) in
-    let g = frameFits c (r .root) in
-    let h = marksFit c (marksOf levels (r .marks)) in
-    let i = topFits c (heldTop (r .top)) in
-    let j = poolFits (r .hosts) (r .host) in
-    let k = poolFits (r .shadows) (r .shadow) in
-    let xk = both (a && b && d && f && g && h && i && j) k e in
-    let xj = both (a && b && d && f && g && h && i) j (xk .0) in
-    let xi = both (a && b && d && f && g && h) i (xj .0) in
-    let xh = both (a && b && d && f && g) h (xi .0) in
-    let xg = both (a && b && d && f) g (xh .0) in
-    let xf = both (a && b && d) f (xg .0) in
-    let xd = both (a && b) d (xf .0) in
-    let xb = both a b (xd .0) in
-    let z = sized (r .words) (r .hosts) (r .shadows) (xb .1) (xd .1) in
-    record {
-      long = eqb-true len (r .words) (xb .0);
-      sizes = z;
-      layout = sized-layout z;
-      root = ltb-true (r .root) (2 ^ frameBits c) (xg .1);
-      marks = xh .1;
-      top = top-fits c (r .top) (xi .1);
-      host = pool-fits (r .hosts) (r .host) (xj .1);
-      shadow = pool-fits (r .shadows) (r .shadow) (xk .1);
-    }
-
--- and the other way round
-sized-tests : {words h s : ℕ} → Sized words h s → (wordsFit words ≡ true) × (areasFit (configBy words h s) ≡ true)
-sized-tests {words} {h} {s} z =
-    let even : words % 512 ≡ 0 = omega (arith, z .whole) in
-    let some : 0 < words / 512 = omega (arith, z .guest) in
-    (rw (eq-eqb _ _ even, lt-ltb _ _ some, le-leb _ _ (z .frames)), rw (le-leb _ _ (z .hosts), le-leb _ _ (z .shadows), lt-ltb _ _ (z .guest)))
-
-fits-top : (c : Config) (f : ℕ) → (f ≡ 0) ⊎ InGuestArea c f → topFits c (heldTop f) ≡ true
-fits-top c f o = go (eqb f 0) refl
+fits-held : (c : Config) (f : ℕ) → (f ≡ 0) ⊎ InGuestArea c f → topFits c (heldTop f) ≡ true
+fits-held c f o = go (eqb f 0) refl
   where
     go : (t : Bool) → eqb f 0 ≡ t → topFits c (cond t none (some f)) ≡ true
     go true q = refl
@@ -156,84 +184,147 @@ fits-top c f o = go (eqb f 0) refl
       | inr k ↦ rw (le-leb _ _ (k .0), lt-ltb _ _ (k .1))
     ]
 
-fits-pool : (size : ℕ) (p : Pool) → PoolFits size p → poolFits size p ≡ true
-unfolding poolFits
-fits-pool size p f = rw (le-leb _ _ (f .0), le-leb _ _ (f .1))
+-- ---- the rule in the order in which it is tested, the marks by their keys
+
+-- the words of a whole number of frames
+words-whole : (f : ℕ) → (wordsFit (f * 512) ≡ (ltb 0 f && leb f 65536)) × (f * 512 / 512 ≡ f)
+words-whole f =
+    let none : f * 512 % 512 ≡ 0 = omega arith in
+    let back : f * 512 / 512 ≡ f = omega arith in
+    (rw (eq-eqb _ _ none, back), back)
+
+tested : (n s g h i p : Bool) → s && true && g && h && i && n && p ≡ (n && s && g && h && (i && p))
+tested true true true true true p = refl
+tested true true true true false p = refl
+tested true true true false i p = refl
+tested true true false h i p = refl
+tested true false g h i p = refl
+tested false true true true true p = refl
+tested false true true true false p = refl
+tested false true true false i p = refl
+tested false true false h i p = refl
+tested false false g h i p = refl
+
+pub fits-by : (r : Record) (len : ℕ) (b : Bool) → r .guest .marks .set < 2 ^ 64 → r .layout .levels ≤ 5
+    → b
+    ≡ (eqb (r .layout .levels) levels && sizesFit (r .layout) len && frameFits (configOf r) (r .guest .root .0)
+    && keysFit (r .layout .levels) (keysOf (r .guest .marks)) && tablesFit (r .layout) (r .guest .held .0) (r .pools))
+    → b ≡ fitsOf r len
+unfolding fitsOf recordFits sizesFit tablesFit
+fits-by r len b l d e =
+    let c = configOf r in
+    let w = words-whole (r .layout .frames) in
+    rw (w .0, w .1, eq-eqb (r .layout .frames) (r .layout .frames) refl, marks-fit c (r .guest .marks) l (omega arith))
+    (e ∙ sym (tested (eqb (r .layout .levels) levels) (eqb len (r .layout .frames * 512) && (ltb 0 (r .layout .frames) && leb (r .layout .frames) 65536) && areasFit c)
+    (frameFits c (r .guest .root .0)) (keysFit (r .layout .levels) (keysOf (r .guest .marks))) (topFits c (heldTop (r .guest .held .0))) (poolsFit (r .layout) (r .pools))))
+
+-- another number of levels breaks the rule
+pub fits-levels : (r : Record) (len : ℕ) → eqb (r .layout .levels) levels ≡ false → fitsOf r len ≡ false
+unfolding fitsOf
+fits-levels r len e = rw e (go (recordFits _ len))
+  where
+    go : (b : Bool) → b && false && poolsFit (r .layout) (r .pools) ≡ false
+    go true = refl
+    go false = refl
+
+pub fits-layout : (r : Record) (len : ℕ) → fitsOf r len ≡ true → Fits r len
+unfolding fitsOf recordFits poolsFit
+fits-layout r len e =
+    let c = configOf r in
+    let f = r .layout .frames in
+    let a = eqb len (f * 512) in
+    let b = wordsFit (f * 512) in
+    let d = areasFit c in
+    let q = eqb f (f * 512 / 512) in
+    let g = frameFits c (r .guest .root .0) in
+    let h = marksFit c (marksOf (r .layout .levels) (r .guest .marks)) in
+    let i = topFits c (heldTop (r .guest .held .0)) in
+    let n = eqb (r .layout .levels) levels in
+    let x = isTable 0 (r .layout .hosts) (r .pools .host .top) in
+    let y = poolFits 0 (r .layout .hosts) (r .pools .host) in
+    let z = poolFits (r .layout .hosts) (r .layout .shadows) (r .pools .shadow) in
+    let last = both (a && b && d && q && g && h && i && n) (x && y && z) e in
+    let pools = both (x && y) z (last .1) in
+    let host = both x y (pools .0) in
+    let xn = both (a && b && d && q && g && h && i) n (last .0) in
+    let xi = both (a && b && d && q && g && h) i (xn .0) in
+    let xh = both (a && b && d && q && g) h (xi .0) in
+    let xg = both (a && b && d && q) g (xh .0) in
+    let xq = both (a && b && d) q (xg .0) in
+    let xd = both (a && b) d (xq .0) in
+    let xb = both a b (xd .0) in
+    let few = both (ltb 0 f) (leb f 65536) (sym (words-whole f .0) ∙ xb .1) in
+    record {
+      long = eqb-true len (f * 512) (xb .0);
+      sizes = sized (r .layout) (eqb-true (r .layout .levels) levels (xn .1)) (leb-true f 65536 (few .1)) (xd .1);
+      root = ltb-true (r .guest .root .0) (2 ^ frameBits c) (xg .1);
+      marks = xh .1;
+      held = held-fits c (r .guest .held .0) (xi .1);
+      top = table-is 0 (r .layout .hosts) (r .pools .host .top) (host .0);
+      host = pool-fits 0 (r .layout .hosts) (r .pools .host) (host .1);
+      shadow = pool-fits (r .layout .hosts) (r .layout .shadows) (r .pools .shadow) (pools .1);
+    }
+
+-- and the other way round
+sized-areas : {l : Layout} → Sized l → areasFit (config l) ≡ true
+sized-areas z = rw (le-leb _ _ (z .hosts), le-leb _ _ (z .shadows), lt-ltb _ _ (z .guest))
 
 pub fits-true : (r : Record) (len : ℕ) → Fits r len → fitsOf r len ≡ true
-unfolding fitsOf recordFits
+unfolding fitsOf recordFits poolsFit
 fits-true r len f =
-    let z = sized-tests (f .sizes) in
+    let z = f .sizes in
+    let w = words-whole (r .layout .frames) in
+    let some : 0 < r .layout .frames = omega (arith, z .guest) in
     rw (
       eq-eqb _ _ (f .long),
-      z .0,
-      z .1,
-      eq-eqb (r .words / 512) (r .words / 512) refl,
+      w .0,
+      lt-ltb _ _ some,
+      le-leb _ _ (z .frames),
+      sized-areas z,
+      w .1,
+      eq-eqb (r .layout .frames) (r .layout .frames) refl,
       lt-ltb _ _ (f .root),
       f .marks,
-      fits-top (configOf r) (r .top) (f .top),
-      fits-pool (r .hosts) (r .host) (f .host),
-      fits-pool (r .shadows) (r .shadow) (f .shadow),
+      fits-held (configOf r) (r .guest .held .0) (f .held),
+      eq-eqb _ _ (z .deep),
+      is-table 0 (r .layout .hosts) (r .pools .host .top) (f .top),
+      fits-pool 0 (r .layout .hosts) (r .pools .host) (f .host),
+      fits-pool (r .layout .hosts) (r .layout .shadows) (r .pools .shadow) (f .shadow),
     )
 
 -- with another root, with other marks
 module _ {r : Record} {len : ℕ} (f : Fits r len) where
-  pub fits-root : (g : ℕ) → g < 2 ^ frameBits (configOf r) → Fits (withRoot r g) len
-  unfolding withRoot
+  pub fits-root : (g : ℕ) → g < 2 ^ frameBits (configOf r) → Fits (withHead r (headRoot (headOf r) g)) len
+  unfolding headRoot
   fits-root g l = record {
     long = f .long;
     sizes = f .sizes;
-    layout = f .layout;
     root = l;
     marks = f .marks;
+    held = f .held;
     top = f .top;
     host = f .host;
     shadow = f .shadow;
   }
 
-  pub fits-marks : (t : Marks) → marksFit (configOf r) (marksOf levels t) ≡ true → Fits (withMarks r t) len
+  pub fits-marks : (t : Marks) → marksFit (configOf r) (marksOf (r .layout .levels) t) ≡ true → Fits (withMarks r t) len
   unfolding withMarks
   fits-marks t e = record {
     long = f .long;
     sizes = f .sizes;
-    layout = f .layout;
     root = f .root;
     marks = e;
+    held = f .held;
     top = f .top;
     host = f .host;
     shadow = f .shadow;
   }
 
 -- what the depth search and the table of marks ask
-pub fits-keys : {r : Record} {len : ℕ} → r .marks .set < 2 ^ 64 → Fits r len → keysFit levels (keysOf (r .marks)) ≡ true
-fits-keys {r} l f = sym (marks-fit (configOf r) (r .marks) l (omega arith)) ∙ f .marks
-
--- the rule in the order in which it is tested, the marks by their keys
-parts : (a g h i j k : Bool) → a && true && g && h && i && j && k ≡ (a && g && h && (i && j && k))
-parts true true true i j k = refl
-parts true true false i j k = refl
-parts true false h i j k = refl
-parts false g h i j k = refl
-
-pub fits-by : (r : Record) (len : ℕ) (b : Bool) → r .marks .set < 2 ^ 64
-    → b
-    ≡ (sizesFit (r .words) (r .hosts) (r .shadows) len && frameFits (configOf r) (r .root) && keysFit levels (keysOf (r .marks))
-    && tablesFit (layoutOf (r .words) (r .hosts) (r .shadows)) (r .top) (r .host) (r .shadow))
-    → b ≡ fitsOf r len
-unfolding fitsOf recordFits sizesFit tablesFit
-fits-by r len b l e =
-    let c = configOf r in
-    let sizes = eqb len (r .words) && wordsFit (r .words) && areasFit c in
-    let host = poolFits (r .hosts) (r .host) in
-    let shadow = poolFits (r .shadows) (r .shadow) in
-    rw (eq-eqb (r .words / 512) (r .words / 512) refl, marks-fit c (r .marks) l (omega arith))
-    (e ∙ sym (parts sizes (frameFits c (r .root)) (keysFit levels (keysOf (r .marks))) (topFits c (heldTop (r .top))) host shadow))
+pub fits-keys : {r : Record} {len : ℕ} → r .guest .marks .set < 2 ^ 64 → Fits r len → keysFit (r .layout .levels) (keysOf (r .guest .marks)) ≡ true
+fits-keys {r} l f = sym (marks-fit (configOf r) (r .guest .marks) l (omega (arith, f .sizes .deep))) ∙ f .marks
 
 -- ---- a record of zeros breaks a rule on every memory
 pub zeros-refused : (len : ℕ) → fitsOf zeros len ≡ false
-unfolding fitsOf recordFits zeros
-zeros-refused len = go (eqb len 0)
-  where
-    go : (t : Bool) → t && wordsFit 0 && areasFit (configOf zeros) && true && true && marksFit (configOf zeros) (marksOf levels (zeros .marks)) && true && poolFits 0 noneOf && poolFits 0 noneOf ≡ false
-    go true = refl
-    go false = refl
+unfolding zeros
+zeros-refused len = fits-levels zeros len refl

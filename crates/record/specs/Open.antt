@@ -14,7 +14,9 @@ use Rattle.host.specs.Map.{hostArea}
 use Rattle.marks.specs.Table.{tableOf, number}
 use Rattle.record.specs.declared.Record.{Record}
 use Rattle.record.specs.declared.Opened.{Opened}
-use Rattle.record.specs.Record.{configBy, zeros}
+use Rattle.host.specs.declared.Layout.{Layout}
+use Rattle.host.specs.Walk.{page}
+use Rattle.record.specs.Record.{layoutOf, configBy, guestFrame, zeros}
 use Rattle.words.specs.After.{After, yields}
 use Rattle.area.specs.declared.Went.{Went}
 
@@ -31,24 +33,17 @@ unfoldable pub enteredOf : List ℕ → ℕ → ℕ → After Went
 enteredOf m h s = enterOf (hostArea (configBy (length m) h s)) noneOf (clearedOf m (h + s)) 0
 
 -- "root 0, no marks"; no path is held
-unfoldable pub firstOf : ℕ → ℕ → ℕ → Pool → Record
-firstOf words h s p = record {
-  words = words;
-  hosts = h;
-  shadows = s;
-  root = 0;
-  top = 0;
-  host = p;
-  shadow = noneOf;
-  marks = tableOf [];
+unfoldable pub firstOf : Layout → Pool → Record
+firstOf l p = record {
+  layout = l;
+  pools = record { host = p; shadow = noneOf };
+  guest = record { root = guestFrame 0; held = page 0; marks = tableOf [] };
 }
 
--- a record and the memory beside it
 -- what a granted opening leaves
 unfoldable pub grantedOf : List ℕ → ℕ → ℕ → After Record
-grantedOf m h s = let t = enteredOf m h s in yields (firstOf (length m) h s (t .result .pool)) (t .memory)
+grantedOf m h s = let t = enteredOf m h s in yields (firstOf (layoutOf (length m) h s) (t .result .pool)) (t .memory)
 
--- what a granted opening leaves
 abbrev pub granted : After Record → After Opened
 granted k = yields (record { unit = k .result; refusal = 0 }) (k .memory)
 

@@ -1,27 +1,32 @@
 -- The unit's record: what it says in the specification's terms, and whether it breaks a rule.
 -- Assumes nothing.
-use Prim.Native.Nat.{ℕ, _/_}
-use mathlib.Core.Bool.{Bool, _&&_, cond}
+use Prim.Native.Nat.{ℕ, _*_, _/_, _%_}
+use mathlib.Core.Bool.{Bool, _&&_, _||_, cond}
 use mathlib.Core.List.{List}
 use mathlib.Core.Option.{Option, none, some}
-use lib.Dec.{eqb, leb}
+use lib.Dec.{eqb, leb, ltb}
 use lib.ListN.{replicate}
 use Rattle.spec.specs.Config.{Config}
 use Rattle.spec.specs.Refusal as rule
-use Rattle.spec.specs.Refusal.{wordsFit, areasFit, topFits, recordFits}
+use Rattle.spec.specs.Refusal.{areasFit, topFits, recordFits}
+use Rattle.entry.specs.declared.GuestPhysical.{GuestPhysical}
+use Rattle.entry.specs.declared.HostPhysical.{HostPhysical}
 use Rattle.area.specs.declared.Pool.{Pool}
+use Rattle.area.specs.Header.{insideOf}
 use Rattle.area.specs.Pool.{noneOf}
 use Rattle.host.specs.declared.Layout.{Layout}
-use Rattle.host.specs.Walk.{config}
+use Rattle.host.specs.Walk.{config, page}
 use Rattle.marks.specs.declared.Marks.{Marks}
 use Rattle.marks.specs.Reading.{marksOf}
+use Rattle.record.specs.declared.Pools.{Pools}
 use Rattle.record.specs.declared.Record.{Record}
+use Rattle.record.specs.declared.Head.{Head}
 
 -- "four levels"
 abbrev pub levels : ℕ
 levels = 4
 
--- the layout of a memory of that many words; "A frame is 512 words"
+-- the layout that an opening gives a memory of that many words; "A frame is 512 words"
 abbrev pub layoutOf : ℕ → ℕ → ℕ → Layout
 layoutOf words h s = record { levels = levels; hosts = h; shadows = s; frames = words / 512 }
 
@@ -29,7 +34,11 @@ abbrev pub configBy : ℕ → ℕ → ℕ → Config
 configBy words h s = config (layoutOf words h s)
 
 abbrev pub configOf : Record → Config
-configOf r = configBy (r .words) (r .hosts) (r .shadows)
+configOf r = config (r .layout)
+
+-- a guest frame, by its number
+abbrev pub guestFrame : ℕ → GuestPhysical
+guestFrame g = record { 0 = g }
 
 -- "a held d = 4 frame", where the path of no index is held; 0 says that it is not, since frame 0 is a host frame
 abbrev pub heldTop : ℕ → Option ℕ
@@ -38,70 +47,78 @@ heldTop f = cond (eqb f 0) none (some f)
 -- what the record says, as the rule reads it
 abbrev pub reading : Record → rule.Record
 reading r = record {
-  words = r .words;
+  words = r .layout .frames * 512;
   config = configOf r;
-  root = r .root;
-  marks = marksOf levels (r .marks);
-  top = heldTop (r .top);
+  root = r .guest .root .0;
+  marks = marksOf (r .layout .levels) (r .guest .marks);
+  top = heldTop (r .guest .held .0);
 }
 
--- the ranges of what an area of that size keeps: no more frames handed out than it has, nor more tables in use
-unfoldable pub poolFits : ℕ → Pool → Bool
-poolFits size p = leb (p .fresh) size && leb (p .used) (p .fresh)
+-- the entry of a table in the area of s frames from b on
+unfoldable pub isTable : ℕ → ℕ → ℕ → Bool
+isTable b s e = eqb (e % 4096) 1 && insideOf b s (e / 4096)
+
+-- the ranges of what that area keeps: no more frames handed out than it has, nor more tables in use; the top table is one of it
+unfoldable pub poolFits : ℕ → ℕ → Pool → Bool
+poolFits b s p = leb (p .fresh) s && leb (p .used) (p .fresh) && (eqb (p .top) 0 || isTable b s (p .top))
+
+-- of the host tables a top one stands always
+unfoldable pub poolsFit : Layout → Pools → Bool
+poolsFit l p = isTable 0 (l .hosts) (p .host .top) && poolFits 0 (l .hosts) (p .host) && poolFits (l .hosts) (l .shadows) (p .shadow)
 
 -- a record that does not meet 3 on a memory of that length
 unfoldable pub fitsOf : Record → ℕ → Bool
-fitsOf r len = recordFits (reading r) len && poolFits (r .hosts) (r .host) && poolFits (r .shadows) (r .shadow)
+fitsOf r len = recordFits (reading r) len && eqb (r .layout .levels) levels && poolsFit (r .layout) (r .pools)
 
 -- ---- in parts
 
 -- the sizes: the memory's length, "words, H and S as for opening"
-unfoldable pub sizesFit : ℕ → ℕ → ℕ → ℕ → Bool
-sizesFit words h s len = eqb len words && wordsFit words && areasFit (configBy words h s)
+unfoldable pub sizesFit : Layout → ℕ → Bool
+sizesFit l len = eqb len (l .frames * 512) && (ltb 0 (l .frames) && leb (l .frames) 65536) && areasFit (config l)
 
 -- the held frame and what the areas keep
-unfoldable pub tablesFit : Layout → ℕ → Pool → Pool → Bool
-tablesFit l top host shadow = topFits (config l) (heldTop top) && poolFits (l .hosts) host && poolFits (l .shadows) shadow
+unfoldable pub tablesFit : Layout → ℕ → Pools → Bool
+tablesFit l held p = topFits (config l) (heldTop held) && poolsFit l p
 
--- a record by its fields
-abbrev pub recordOf : ℕ → ℕ → ℕ → ℕ → ℕ → Pool → Pool → ℕ → List ℕ → Record
-recordOf words h s root top host shadow set place = record {
-  words = words;
-  hosts = h;
-  shadows = s;
-  root = root;
-  top = top;
-  host = host;
-  shadow = shadow;
-  marks = record { set = set; place = place };
+-- a record by its head and the places of its marks
+abbrev pub recordBy : Head → List ℕ → Record
+recordBy h place = record {
+  layout = h .layout;
+  pools = h .pools;
+  guest = record { root = h .root; held = h .held; marks = record { set = h .set; place = place } };
+}
+
+abbrev pub headOf : Record → Head
+headOf r = record {
+  layout = r .layout;
+  pools = r .pools;
+  root = r .guest .root;
+  held = r .guest .held;
+  set = r .guest .marks .set;
 }
 
 -- "one of zeros"
 unfoldable pub zeros : Record
-zeros = recordOf 0 0 0 0 0 noneOf noneOf 0 (replicate 64 0)
-
--- ---- a record with one field changed
-
-unfoldable pub withRoot : Record → ℕ → Record
-withRoot r g = record {
-  words = r .words;
-  hosts = r .hosts;
-  shadows = r .shadows;
-  root = g;
-  top = r .top;
-  host = r .host;
-  shadow = r .shadow;
-  marks = r .marks;
+zeros = record {
+  layout = record { levels = 0; hosts = 0; shadows = 0; frames = 0 };
+  pools = record { host = noneOf; shadow = noneOf };
+  guest = record { root = guestFrame 0; held = page 0; marks = record { set = 0; place = replicate 64 0 } };
 }
+
+-- ---- with one part changed
+
+unfoldable pub headRoot : Head → ℕ → Head
+headRoot h g = record { layout = h .layout; pools = h .pools; root = guestFrame g; held = h .held; set = h .set }
+
+unfoldable pub headTables : Head → Pools → HostPhysical → Head
+headTables h p f = record { layout = h .layout; pools = p; root = h .root; held = f; set = h .set }
+
+abbrev pub withHead : Record → Head → Record
+withHead r h = recordBy h (r .guest .marks .place)
 
 unfoldable pub withMarks : Record → Marks → Record
 withMarks r t = record {
-  words = r .words;
-  hosts = r .hosts;
-  shadows = r .shadows;
-  root = r .root;
-  top = r .top;
-  host = r .host;
-  shadow = r .shadow;
-  marks = t;
+  layout = r .layout;
+  pools = r .pools;
+  guest = record { root = r .guest .root; held = r .guest .held; marks = t };
 }

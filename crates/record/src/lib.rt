@@ -2,36 +2,54 @@
 use area::Pool;
 use entry::GuestPhysical;
 use entry::GuestVirtual;
+use entry::HostPhysical;
 use host::Layout;
 use marks::Marks;
 ghost use mathlib.Core.Path.{_≡_};
 ghost use Prim.Native.Nat.{_+_, _≤_};
 ghost use Rattle.spec.specs.Entry.{pageOf};
 ghost use Rattle.spec.specs.Refusal.{wordsFit, areasFit, topFits};
+ghost use Rattle.words.specs.After.{yields};
 ghost use Rattle.host.specs.Walk.{LayoutFits, config};
 ghost use Rattle.marks.specs.Key.{depthOf};
 ghost use Rattle.marks.specs.Table.{keys};
-ghost use Rattle.record.specs.Record.{layoutOf, configBy, heldTop, poolFits, sizesFit, tablesFit, recordOf, fitsOf, zeros, withRoot, withMarks};
+ghost use Rattle.record.specs.Record.{layoutOf, heldTop, isTable, poolFits, sizesFit, tablesFit, recordBy, headOf, fitsOf, zeros, headRoot, headTables, withHead, withMarks};
 ghost use Rattle.record.specs.Open.{refusalOf, clearedOf, firstOf, grantedOf, openOf};
-ghost use Rattle.words.specs.After.{yields};
 
-// Levels of the guest's tables and of the host's.
+// Levels of the guest's tables and of the host's that an opening chooses.
 pub const LEVELS: u64 = 4;
 
-// What a call is given and hands back: the opening's sizes, the root, the host frame of the path that is held at depth
-// LEVELS (or 0: frame 0 is never in the guest area), what the areas of host and of shadow tables keep, the marks.
-pub struct Record {
-    pub words: u64,
-    pub hosts: u64,
-    pub shadows: u64,
-    pub root: u64,
-    pub top: u64,
+// What the areas of host tables and of shadow tables keep.
+pub struct Pools {
     pub host: Pool,
     pub shadow: Pool,
+}
+
+// A guest's part of the record: its root, the host frame of the path that is held at the depth of all levels (or 0: frame 0 is
+// never in the guest area), its marks.
+pub struct Guest {
+    pub root: GuestPhysical,
+    pub held: HostPhysical,
     pub marks: Marks,
 }
 
-// How a memory of that many words is laid out.
+// What a call is given and hands back.
+pub struct Record {
+    pub layout: Layout,
+    pub pools: Pools,
+    pub guest: Guest,
+}
+
+// The record without the places of the marks: numbers that a request takes along while the places are lent.
+pub struct Head {
+    pub layout: Layout,
+    pub pools: Pools,
+    pub root: GuestPhysical,
+    pub held: HostPhysical,
+    pub set: u64,
+}
+
+// How an opening lays out a memory of that many words.
 pub fn layout(words: u64, hosts: u64, shadows: u64) -> Layout
     ensures { λ r. ⌜ r ≡ layoutOf words hosts shadows ⌝ }
 {
@@ -44,6 +62,231 @@ pub fn layout(words: u64, hosts: u64, shadows: u64) -> Layout
 }
 
 // ---- the rules of a record
+
+// Have the host tables and the shadow tables room, and is a guest frame left?
+fn areas_fit(l: Layout) -> bool
+    ensures { λ r. ⌜ r ≡ areasFit (config l) ⌝ }
+{
+    if l.hosts < l.levels {
+        return false;
+    }
+    if l.shadows < l.levels {
+        return false;
+    }
+    if l.frames < l.hosts {
+        return false;
+    }
+    l.shadows < l.frames - l.hosts
+}
+
+// Are these the sizes of an opened memory of that length?
+fn sizes_fit(l: Layout, len: usize) -> bool
+    ensures { λ r. ⌜ r ≡ sizesFit l len ⌝ }
+{
+    if l.frames == 0 {
+        return false;
+    }
+    if 65536 < l.frames {
+        return false;
+    }
+    if len as u64 != l.frames * 512 {
+        return false;
+    }
+    areas_fit(l)
+}
+
+// Is it the entry of a table in an area of frames base to base + size?
+fn is_table(base: u64, size: u64, e: u64) -> bool
+    ensures { λ r. ⌜ r ≡ isTable base size e ⌝ }
+{
+    if e % 4096 != 1 {
+        return false;
+    }
+    area::inside(base, size, e / 4096)
+}
+
+// Is what an area keeps in its range?
+fn pool_fits(base: u64, size: u64, pool: Pool) -> bool
+    ensures { λ r. ⌜ r ≡ poolFits base size pool ⌝ }
+{
+    if size < pool.fresh {
+        return false;
+    }
+    if pool.fresh < pool.used {
+        return false;
+    }
+    if pool.top == 0 {
+        return true;
+    }
+    is_table(base, size, pool.top)
+}
+
+// Does the held frame, if there is one, lie in the guest area?
+fn held_fits(l: Layout, held: HostPhysical) -> bool
+    requires { ⌜ LayoutFits l ⌝ }
+    ensures { λ r. ⌜ r ≡ topFits (config l) (heldTop (held .0)) ⌝ }
+{
+    if held.0 == 0 {
+        return true;
+    }
+    host::in_guest_area(l, held.0)
+}
+
+// The held frame and what the areas keep. The top host table stands always.
+fn tables_fit(l: Layout, held: HostPhysical, pools: Pools) -> bool
+    requires { ⌜ LayoutFits l ⌝ }
+    ensures { λ r. ⌜ r ≡ tablesFit l (held .0) pools ⌝ }
+{
+    if !held_fits(l, held) {
+        return false;
+    }
+    if !is_table(0, l.hosts, pools.host.top) {
+        return false;
+    }
+    if !pool_fits(0, l.hosts, pools.host) {
+        return false;
+    }
+    pool_fits(l.hosts, l.shadows, pools.shadow)
+}
+
+impl Head {
+    // Does the record, with these places of its marks, break no rule on a memory of that length?
+    pub fn fits(self, place: &[u64; 64], len: usize) -> bool
+        ensures { λ r. ⌜ r ≡ fitsOf (recordBy self (now (place .entry))) len ⌝ }
+    {
+        let l = self.layout;
+        if l.levels != LEVELS {
+            return false;
+        }
+        if !sizes_fit(l, len) {
+            return false;
+        }
+        if !host::frame_fits(l, self.root) {
+            return false;
+        }
+        if !marks::fits(place, self.set, l.levels) {
+            return false;
+        }
+        tables_fit(l, self.held, self.pools)
+    }
+
+    // With another root.
+    pub fn with_root(mut self, root: GuestPhysical) -> Head
+        ensures { λ r. ⌜ r ≡ headRoot self (root .0) ⌝ }
+    {
+        self.root = root;
+        self
+    }
+
+    // With other pools and another frame held in the record.
+    pub fn with_tables(mut self, pools: Pools, held: HostPhysical) -> Head
+        ensures { λ r. ⌜ r ≡ headTables self pools held ⌝ }
+    {
+        self.pools = pools;
+        self.held = held;
+        self
+    }
+}
+
+impl Record {
+    // Nothing is opened.
+    pub fn zeros() -> Record
+        ensures { λ r. ⌜ r ≡ zeros ⌝ }
+    {
+        Record {
+            layout: Layout {
+                levels: 0,
+                hosts: 0,
+                shadows: 0,
+                frames: 0,
+            },
+            pools: Pools {
+                host: area::no_tables(),
+                shadow: area::no_tables(),
+            },
+            guest: Guest {
+                root: GuestPhysical(0),
+                held: HostPhysical(0),
+                marks: Marks {
+                    set: 0,
+                    place: [0u64; 64],
+                },
+            },
+        }
+    }
+
+    // The record without the places of its marks.
+    pub fn head(self) -> Head
+        ensures { λ r. ⌜ r ≡ headOf self ⌝ }
+    {
+        let layout = self.layout;
+        let pools = self.pools;
+        let root = self.guest.root;
+        let held = self.guest.held;
+        Head {
+            layout: layout,
+            pools: pools,
+            root: root,
+            held: held,
+            set: self.guest.marks.set,
+        }
+    }
+
+    // Does the record break no rule on a memory of that length?
+    pub fn fits(self, len: usize) -> bool
+        ensures { λ r. ⌜ r ≡ fitsOf self len ⌝ }
+    {
+        self.head().fits(&self.guest.marks.place, len)
+    }
+
+    // The depth of an address.
+    pub fn depth(self, address: GuestVirtual) -> u64
+        ensures { λ r. ⌜ r ≡ depthOf (pageOf (address .0)) (keys (self .guest .marks .place) (self .guest .marks .set)) ⌝ }
+    {
+        marks::depth(&self.guest.marks.place, self.guest.marks.set, address)
+    }
+
+    // The record with another head; the places of the marks stay.
+    pub fn with_head(self, head: Head) -> Record
+        ensures { λ r. ⌜ r ≡ withHead self head ⌝ }
+    {
+        let layout = head.layout;
+        let pools = head.pools;
+        let root = head.root;
+        let held = head.held;
+        let place = self.guest.marks.place;
+        Record {
+            layout: layout,
+            pools: pools,
+            guest: Guest {
+                root: root,
+                held: held,
+                marks: Marks {
+                    set: head.set,
+                    place: place,
+                },
+            },
+        }
+    }
+
+    // The record with other marks.
+    pub fn with_marks(mut self, marks: Marks) -> Record
+        ensures { λ r. ⌜ r ≡ withMarks self marks ⌝ }
+    {
+        let mut guest = self.guest;
+        guest.marks = marks;
+        self.guest = guest;
+        self
+    }
+}
+
+// ---- opening
+
+// What an opening yields: the record, and the number of the refusal, or 0.
+pub struct Opened {
+    pub unit: Record,
+    pub refusal: u64,
+}
 
 // Is it a number of words that can be opened?
 fn words_fit(words: u64) -> bool
@@ -58,176 +301,14 @@ fn words_fit(words: u64) -> bool
     words / 512 <= 65536
 }
 
-// Have the host tables and the shadow tables room, and is a guest frame left?
-fn areas_fit(words: u64, hosts: u64, shadows: u64) -> bool
-    ensures { λ r. ⌜ r ≡ areasFit (configBy words hosts shadows) ⌝ }
-{
-    if hosts < LEVELS {
-        return false;
-    }
-    if shadows < LEVELS {
-        return false;
-    }
-    if words / 512 < hosts {
-        return false;
-    }
-    shadows < words / 512 - hosts
-}
-
-// Are these the sizes of an opened memory of that length?
-fn sizes_fit(words: u64, hosts: u64, shadows: u64, len: usize) -> bool
-    ensures { λ r. ⌜ r ≡ sizesFit words hosts shadows len ⌝ }
-{
-    if len as u64 != words {
-        return false;
-    }
-    if words_fit(words) {
-        return areas_fit(words, hosts, shadows);
-    }
-    false
-}
-
-// Is what an area of that size keeps in its range?
-fn pool_fits(size: u64, pool: Pool) -> bool
-    ensures { λ r. ⌜ r ≡ poolFits size pool ⌝ }
-{
-    if size < pool.fresh {
-        return false;
-    }
-    pool.used <= pool.fresh
-}
-
-// Does the held frame, if there is one, lie in the guest area?
-fn top_fits(l: Layout, top: u64) -> bool
-    requires { ⌜ LayoutFits l ⌝ }
-    ensures { λ r. ⌜ r ≡ topFits (config l) (heldTop top) ⌝ }
-{
-    if top == 0 {
-        return true;
-    }
-    host::in_guest_area(l, top)
-}
-
-// The held frame and what the areas keep.
-fn tables_fit(l: Layout, top: u64, host: Pool, shadow: Pool) -> bool
-    requires { ⌜ LayoutFits l ⌝ }
-    ensures { λ r. ⌜ r ≡ tablesFit l top host shadow ⌝ }
-{
-    if !top_fits(l, top) {
-        return false;
-    }
-    if !pool_fits(l.hosts, host) {
-        return false;
-    }
-    pool_fits(l.shadows, shadow)
-}
-
-// Does a record of these fields break no rule on a memory of that length? Every call asks, so no record is copied.
-pub fn fits(
-    place: &[u64; 64],
-    set: u64,
-    words: u64,
-    hosts: u64,
-    shadows: u64,
-    root: u64,
-    top: u64,
-    host: Pool,
-    shadow: Pool,
-    len: usize,
-) -> bool
-    ensures { λ r. ⌜ r ≡ fitsOf (recordOf words hosts shadows root top host shadow set (now (place .entry))) len ⌝ }
-{
-    if !sizes_fit(words, hosts, shadows, len) {
-        return false;
-    }
-    let l = layout(words, hosts, shadows);
-    if !host::frame_fits(l, GuestPhysical(root)) {
-        return false;
-    }
-    if !marks::fits(place, set, LEVELS) {
-        return false;
-    }
-    tables_fit(l, top, host, shadow)
-}
-
-impl Record {
-    // Nothing is opened.
-    pub fn zeros() -> Record
-        ensures { λ r. ⌜ r ≡ zeros ⌝ }
-    {
-        Record {
-            words: 0,
-            hosts: 0,
-            shadows: 0,
-            root: 0,
-            top: 0,
-            host: area::no_tables(),
-            shadow: area::no_tables(),
-            marks: Marks {
-                set: 0,
-                place: [0u64; 64],
-            },
-        }
-    }
-
-    // Does the record break no rule on a memory of that length?
-    pub fn fits(self, len: usize) -> bool
-        ensures { λ r. ⌜ r ≡ fitsOf self len ⌝ }
-    {
-        fits(
-            &self.marks.place,
-            self.marks.set,
-            self.words,
-            self.hosts,
-            self.shadows,
-            self.root,
-            self.top,
-            self.host,
-            self.shadow,
-            len,
-        )
-    }
-
-    // The depth of an address.
-    pub fn depth(self, address: GuestVirtual) -> u64
-        ensures { λ r. ⌜ r ≡ depthOf (pageOf (address .0)) (keys (self .marks .place) (self .marks .set)) ⌝ }
-    {
-        marks::depth(&self.marks.place, self.marks.set, address)
-    }
-
-    // The record with another root.
-    pub fn with_root(mut self, root: GuestPhysical) -> Record
-        ensures { λ r. ⌜ r ≡ withRoot self (root .0) ⌝ }
-    {
-        self.root = root.0;
-        self
-    }
-
-    // The record with other marks.
-    pub fn with_marks(mut self, marks: Marks) -> Record
-        ensures { λ r. ⌜ r ≡ withMarks self marks ⌝ }
-    {
-        self.marks = marks;
-        self
-    }
-}
-
-// ---- opening
-
-// What an opening yields: the record, and the number of the refusal, or 0.
-pub struct Opened {
-    pub unit: Record,
-    pub refusal: u64,
-}
-
 // The number with which an opening on that many words is refused, or 0.
-pub fn open_refusal(words: u64, hosts: u64, shadows: u64) -> u64
+fn open_refusal(words: u64, hosts: u64, shadows: u64) -> u64
     ensures { λ r. ⌜ r ≡ refusalOf words hosts shadows ⌝ }
 {
     if !words_fit(words) {
         return 1;
     }
-    if !areas_fit(words, hosts, shadows) {
+    if !areas_fit(layout(words, hosts, shadows)) {
         return 2;
     }
     0
@@ -247,18 +328,20 @@ fn clear_frames(mem: &mut [u64], frames: u64)
 }
 
 // The record of a memory that was just opened.
-fn first(words: u64, hosts: u64, shadows: u64, host: Pool) -> Record
-    ensures { λ r. ⌜ r ≡ firstOf words hosts shadows host ⌝ }
+fn first(l: Layout, host: Pool) -> Record
+    ensures { λ r. ⌜ r ≡ firstOf l host ⌝ }
 {
     Record {
-        words: words,
-        hosts: hosts,
-        shadows: shadows,
-        root: 0,
-        top: 0,
-        host: host,
-        shadow: area::no_tables(),
-        marks: Marks::empty(),
+        layout: l,
+        pools: Pools {
+            host: host,
+            shadow: area::no_tables(),
+        },
+        guest: Guest {
+            root: GuestPhysical(0),
+            held: HostPhysical(0),
+            marks: Marks::empty(),
+        },
     }
 }
 
@@ -267,16 +350,11 @@ fn open_granted(mem: &mut [u64], hosts: u64, shadows: u64) -> Record
     requires { ⌜ hosts + shadows ≤ 65536 ⌝ }
     ensures { λ r. ⌜ yields r (now (mem .exit)) ≡ grantedOf (now (mem .entry)) hosts shadows ⌝ }
 {
-    let words = mem.len() as u64;
+    let l = layout(mem.len() as u64, hosts, shadows);
     clear_frames(mem, hosts + shadows);
-    let went = area::enter(
-        host::tables(layout(words, hosts, shadows)),
-        area::no_tables(),
-        mem,
-        0,
-    );
+    let went = area::enter(host::tables(l), area::no_tables(), mem, 0);
     let pool = went.pool;
-    first(words, hosts, shadows, pool)
+    first(l, pool)
 }
 
 // The opening: 1, 2.
@@ -284,16 +362,15 @@ pub fn open(mem: &mut [u64], hosts: u64, shadows: u64) -> Opened
     ensures { λ r. ⌜ yields r (now (mem .exit)) ≡ openOf (now (mem .entry)) hosts shadows ⌝ }
 {
     let refusal = open_refusal(mem.len() as u64, hosts, shadows);
-    if refusal == 0 {
-        let unit = open_granted(mem, hosts, shadows);
-        Opened {
-            unit: unit,
-            refusal: 0,
-        }
-    } else {
-        Opened {
+    if refusal != 0 {
+        return Opened {
             unit: Record::zeros(),
             refusal: refusal,
-        }
+        };
+    }
+    let unit = open_granted(mem, hosts, shadows);
+    Opened {
+        unit: unit,
+        refusal: 0,
     }
 }

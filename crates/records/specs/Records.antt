@@ -7,7 +7,7 @@ use lib.Dec.{eqb, ltb, leb}
 use lib.ListN.{length, getD, take, drop}
 use Rattle.records.specs.declared.Cut.{Cut}
 use Rattle.records.specs.declared.Cut.the-variants.{Body, Short, Wrong}
-use Rattle.records.specs.declared.Call.the-variants as call
+use Rattle.spec.specs.declared.Call.the-variants as call
 use Rattle.records.specs.declared.Job.{Job}
 use Rattle.records.specs.declared.Job.the-variants as job
 

@@ -3,6 +3,7 @@ ghost use mathlib.Core.Path.{_≡_};
 ghost use Prim.Native.Nat.{_+_, _≤_, _<_};
 ghost use lib.ListN.{length};
 ghost use Rattle.records.specs.Records.{number, cutAt, bodyOf, nextOf, jobOf, openBody, mapBody, numberBody, markBody, pairBody, jobAt};
+use spec::Call;
 
 // ---- splitting the input
 
@@ -100,34 +101,6 @@ pub fn next_at(s: &[u8], at: usize) -> usize
 }
 
 // ---- what a record asks for
-
-// The calls after an opening, with their arguments.
-pub enum Call {
-    Root(u64),
-    Map {
-        guest: u64,
-        host: u64,
-        writable: bool,
-    },
-    Unmap(u64),
-    SetMark {
-        address: u64,
-        level: u64,
-    },
-    ClearMark {
-        address: u64,
-        level: u64,
-    },
-    Load(u64),
-    Store {
-        address: u64,
-        value: u64,
-    },
-    Device {
-        address: u64,
-        value: u64,
-    },
-}
 
 // Bad: 13.
 pub enum Job {

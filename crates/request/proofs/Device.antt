@@ -23,11 +23,11 @@ pub device-script : (g : ℕ) → next true true g true ≡ deviceScript g
 unfolding next
 device-script g = refl
 
-pub device-walk : (c : Config) (m : List ℕ) (g : ℕ) → walkedOf c m 0 (next true true g true) ≡ walkedOf c m 0 (deviceScript g)
-device-walk c m g = ap (walkedOf c m 0) (device-script g)
+pub device-walk : (c : Config) (ht : ℕ) (m : List ℕ) (g : ℕ) → walkedOf c ht m 0 (next true true g true) ≡ walkedOf c ht m 0 (deviceScript g)
+device-walk c ht m g = ap (walkedOf c ht m 0) (device-script g)
 
-pub device-in : (c : Config) (m : List ℕ) (g : ℕ) → ArrivedIn c (walkedOf c m 0 (next true true g true))
-device-in c m g = go (walkedOf c m 0 (next true true g true)) (page-fits c m 0 true g true)
+pub device-in : (c : Config) (ht : ℕ) (m : List ℕ) (g : ℕ) → ArrivedIn c (walkedOf c ht m 0 (next true true g true))
+device-in c ht m g = go (walkedOf c ht m 0 (next true true g true)) (page-fits c ht m 0 true g true)
   where
     go : (r : Walked) → TurnFits c 0 r → ArrivedIn c r
     go (walked.Arrived p w n) f = f .0

@@ -1,7 +1,8 @@
 -- Where a translation arrives, whatever the memory holds: a frame of the guest area.
 -- Assumes nothing.
 use mathlib.Core.Path.{_≡_, refl}
-use Prim.Native.Nat.{ℕ, pred, _+_, _-_, _≤_}
+use mathlib.Core.Logic.{inl, inr}
+use Prim.Native.Nat.{ℕ, pred, _+_, _-_, _<_, _≤_}
 use native.Mathlib.Omega.{arith}
 use mathlib.Core.Bool.{Bool, true, false, cond}
 use mathlib.Core.List.{List, [], _∷_}
@@ -13,7 +14,7 @@ use Rattle.spec.specs.Refusal.{inGuestArea}
 use Rattle.spec.specs.Plain.{next, levels, walk}
 use Rattle.area.specs.declared.Look.{Look}
 use Rattle.area.specs.declared.Look.the-variants.{Seen, Broken}
-use Rattle.area.specs.Tree.{topOf, lookOf}
+use Rattle.area.specs.Tree.{lookOf}
 use Rattle.host.specs.declared.HostWalk.{HostWalk}
 use Rattle.host.specs.declared.HostWalk.the-variants as host
 use Rattle.host.specs.Walk.{page, leafOf, hostBy}
@@ -23,7 +24,8 @@ use Rattle.walk.specs.declared.Walked.the-variants as walked
 use Rattle.walk.specs.Memory.{walkedOf, turn}
 use Rattle.walk.proofs.Laws.{thenWalked, TurnFits, table-fits, turn-fits, levels-step, levels-end, walk-step}
 use Rattle.shadow.specs.Held.{heldOf}
-use Rattle.request.specs.Translate.{exitBy, pathIndexes, directOf, foundOf}
+use Rattle.request.specs.declared.Held.{Held}
+use Rattle.request.specs.Translate.{exitBy, pathIndexes, HeldFits, directOf, foundOf}
 
 pub exit-small : (r : Walked) → exitBy r ≤ 1
 exit-small (walked.Arrived t w n) = omega arith
@@ -40,31 +42,31 @@ ArrivedIn c (walked.Arrived p w n) = InGuestArea c (p .0)
 ArrivedIn c (walked.Faulted x n) = Unit {0}
 ArrivedIn c walked.Damaged = Unit {0}
 
-module _ (c : Config) (m : List ℕ) (st : Bool) where
-  pub levels-in : (is : List ℕ) (n level t : ℕ) (right : Bool) → InGuestArea c t → ArrivedIn c (walkedOf c m n (levels c st level t right is))
-  levels-in [] n level t right g = rw (levels-end c m n st level t right) g
+module _ (c : Config) (ht : ℕ) (m : List ℕ) (st : Bool) where
+  pub levels-in : (is : List ℕ) (n level t : ℕ) (right : Bool) → InGuestArea c t → ArrivedIn c (walkedOf c ht m n (levels c st level t right is))
+  levels-in [] n level t right g = rw (levels-end c ht m n st level t right) g
   levels-in (i ∷ is) n level t right g =
-      rw (levels-step c m n st level t i is right)
-      (go (walkedOf c m n (turn c st level t i right)) (turn-fits c m n st level t i right) (λ k u v. levels-in is k (pred level) u v))
+      rw (levels-step c ht m n st level t i is right)
+      (go (walkedOf c ht m n (turn c st level t i right)) (turn-fits c ht m n st level t i right) (λ k u v. levels-in is k (pred level) u v))
     where
       go : (r : Walked) → TurnFits c (n + 1) r
-          → ((k u : ℕ) (v : Bool) → InGuestArea c u → ArrivedIn c (walkedOf c m k (levels c st (pred level) u v is)))
-          → ArrivedIn c (thenWalked r (λ u v k. walkedOf c m k (levels c st (pred level) u v is)))
+          → ((k u : ℕ) (v : Bool) → InGuestArea c u → ArrivedIn c (walkedOf c ht m k (levels c st (pred level) u v is)))
+          → ArrivedIn c (thenWalked r (λ u v k. walkedOf c ht m k (levels c st (pred level) u v is)))
       go (walked.Arrived p w k) f on = on k (p .0) w (f .0)
       go (walked.Faulted x k) f on = tt
       go walked.Damaged f on = tt
 
-  pub walk-in : (n root : ℕ) (is : List ℕ) → ArrivedIn c (walkedOf c m n (walk c st root is))
+  pub walk-in : (n root : ℕ) (is : List ℕ) → ArrivedIn c (walkedOf c ht m n (walk c st root is))
   walk-in n root is =
-      rw (walk-step c m n st root is)
-      (go (walkedOf c m n (next false false root true)) (table-fits c m n false root true))
+      rw (walk-step c ht m n st root is)
+      (go (walkedOf c ht m n (next false false root true)) (table-fits c ht m n false root true))
     where
-      go : (r : Walked) → TurnFits c n r → ArrivedIn c (thenWalked r (λ u v k. walkedOf c m k (levels c st (c .levels) u true is)))
+      go : (r : Walked) → TurnFits c n r → ArrivedIn c (thenWalked r (λ u v k. walkedOf c ht m k (levels c st (c .levels) u true is)))
       go (walked.Arrived p w k) f = levels-in is k (c .levels) (p .0) true (f .0)
       go (walked.Faulted x k) f = tt
       go walked.Damaged f = tt
 
-  pub direct-in : (a d t : ℕ) (w : Bool) → InGuestArea c t → ArrivedIn c (directOf c m st a d t w)
+  pub direct-in : (a d t : ℕ) (w : Bool) → InGuestArea c t → ArrivedIn c (directOf c ht m st a d t w)
   unfolding directOf
   direct-in a d t w g = levels-in (indexes d (pageOf a)) (c .levels - d) (0 + d) t w g
 
@@ -84,19 +86,23 @@ module _ (c : Config) (P : ℕ → Type 0) (all : (f : ℕ) → InGuestArea c f 
       go true false q = tt
       go false a q = tt
 
-  held-is : (m : List ℕ) (fresh : ℕ) (is : List ℕ) → FoundIs (heldOf c m fresh is)
+  held-is : (m : List ℕ) (top : ℕ) (is : List ℕ) → FoundIs (heldOf c m top is)
   unfolding heldOf
-  held-is m fresh is = go (lookOf (c .hosts) (c .shadows) m (topOf (c .hosts) fresh) is 0)
+  held-is m top is = go (lookOf (c .hosts) (c .shadows) m top is 0)
     where
       go : (r : Look) → FoundIs (hostBy c r)
       go (Seen e n) = leaf-is e n
       go Broken = tt
 
-  pub found-is : (m : List ℕ) (fresh top a d : ℕ) → (eqb top 0 ≡ false → P top) → FoundIs (foundOf c m fresh top a d)
+  pub found-is : (m : List ℕ) (h : Held) (a d : ℕ) → (eqb (h .frame .0) 0 ≡ false → P (h .frame .0)) → FoundIs (foundOf c m h a d)
   unfolding foundOf
-  found-is m fresh top a d h = go (ltb d (c .levels)) (eqb top 0) refl
+  found-is m h a d k = go (ltb d (c .levels)) (eqb (h .frame .0) 0) refl
     where
-      go : (b z : Bool) → eqb top 0 ≡ z → FoundIs (cond b (heldOf c m fresh (pathIndexes c d a)) (cond z (host.Absent 0) (host.Found (page top) true)))
-      go true z q = held-is m fresh (pathIndexes c d a)
+      go : (b z : Bool) → eqb (h .frame .0) 0 ≡ z → FoundIs (cond b (heldOf c m (h .pool .top) (pathIndexes c d a)) (cond z (host.Absent 0) (host.Found (h .frame) true)))
+      go true z q = held-is m (h .pool .top) (pathIndexes c d a)
       go false true q = tt
-      go false false q = h q
+      go false false q = k q
+
+-- the frame in the record, as a number that a place of a word can be made of
+pub held-small : (c : Config) (h : Held) → HeldFits c h → c .frames ≤ 65536 → h .frame .0 < 1099511627776
+held-small c h f l = elim (f .1) [ inl z ↦ omega (arith, z) | inr g ↦ omega (arith, g .1) ]

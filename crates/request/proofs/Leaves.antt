@@ -26,7 +26,7 @@ use Rattle.host.specs.Walk.{page}
 use Rattle.host.proofs.Laws.{InGuestArea}
 use Rattle.walk.specs.declared.Walked.{Walked}
 use Rattle.walk.specs.declared.Walked.the-variants as walked
-use Rattle.walk.specs.Memory.{walkedOf}
+use Rattle.walk.specs.Memory.{walkedOf, trailFrom, trailOf}
 use Rattle.shadow.specs.declared.Cut.the-variants.{Word}
 use Rattle.shadow.specs.Held.{entryFor}
 use Rattle.shadow.specs.Fill.{fillOf}
@@ -34,8 +34,9 @@ use Rattle.shadow.specs.Cut.{watchedOf}
 use Rattle.shadow.specs.Drop.{scanOf}
 use Rattle.shadow.proofs.Outside.{fill-out, scan-out}
 use Rattle.shadow.proofs.Fresh.{fill-fits, scan-fits}
-use Rattle.request.specs.Translate.{pathOf, pathIndexes, directOf, servedOf, servesOf, foundOf, fillBy, filledOf, missedBy, missedOf, foundBy, plainOf, translateOf}
-use Rattle.request.specs.Store.{stored, writtenBy, storeOf}
+use Rattle.request.specs.declared.Held.{Held}
+use Rattle.request.specs.Translate.{pathOf, pathIndexes, holding, HeldFits, translation, directOf, servedOf, servesOf, foundOf, fillBy, filledOf, missedBy, missedOf, foundBy, plainOf, translateOf}
+use Rattle.request.specs.Access.{stored, putBy, putOf}
 use Rattle.request.proofs.Fits.{exit-small, ArrivedIn, direct-in, walk-in, FoundIs, found-is}
 use Rattle.words.specs.After.{After, yields}
 use Rattle.area.specs.declared.Went.{Went}
@@ -43,91 +44,89 @@ use Rattle.request.specs.declared.Translated.{Translated}
 use Rattle.request.specs.declared.Put.{Put}
 use Rattle.shadow.specs.declared.Left.{Left}
 
--- the frame held at the greatest depth, 0 if none is
-abbrev pub TopFits : Config → ℕ → Type 0
-TopFits c f = (f ≡ 0) ⊎ InGuestArea c f
-
-top-held : (c : Config) (f : ℕ) → TopFits c f → eqb f 0 ≡ false → InGuestArea c f
-top-held c f (inl z) q = absurd (eqb-false f 0 q z)
-top-held c f (inr g) q = g
+top-held : (c : Config) (h : Held) → HeldFits c h → eqb (h .frame .0) 0 ≡ false → InGuestArea c (h .frame .0)
+top-held c h f q = elim (f .1) [ inl z ↦ absurd (eqb-false (h .frame .0) 0 q z) | inr g ↦ g ]
 
 -- ---- a translation
 pub record Leaves (c : Config) (m : List ℕ) (o : After Translated) : Type 0 where
   pub same : SameOutside (c .hosts) (c .shadows) m (o .memory)
-  pub fresh : o .result .pool .fresh ≤ c .shadows
-  pub top : TopFits c (o .result .top)
+  pub held : HeldFits c (o .result .held)
   pub exits : o .result .exits ≤ 2
   pub arrived : ArrivedIn c (o .result .walked)
 
-module _ (c : Config) (room : 0 < c .shadows) (m : List ℕ) (st : Bool) where
-  served-leaves : (n : List ℕ) (p : Pool) (top a d t : ℕ) (w : Bool) (e : ℕ) → SameOutside (c .hosts) (c .shadows) m n
-      → p .fresh ≤ c .shadows → TopFits c top → InGuestArea c t → e ≤ 1 → Leaves c m (yields (servedOf c n p top st a d t w e) n)
+module _ (c : Config) (ht : ℕ) (m : List ℕ) (st : Bool) where
+  served-leaves : (n : List ℕ) (h : Held) (a d t : ℕ) (w : Bool) (e : ℕ) → SameOutside (c .hosts) (c .shadows) m n
+      → HeldFits c h → InGuestArea c t → e ≤ 1 → Leaves c m (yields (servedOf c ht n h st a d t w e) n)
   unfolding servedOf
-  served-leaves n p top a d t w e s h f g l =
-      record { same = s; fresh = h; top = f; exits = omega (arith, exit-small (directOf c n st a d t w)); arrived = direct-in c n st a d t w g }
+  served-leaves n h a d t w e s f g l =
+      record { same = s; held = f; exits = omega (arith, exit-small (directOf c ht n st a d t w)); arrived = direct-in c ht n st a d t w g }
 
-  module _ (p : Pool) (h : p .fresh ≤ c .shadows) (top : ℕ) (f : TopFits c top) (root a d : ℕ) where
+  module _ (h : Held) (f : HeldFits c h) (root a d : ℕ) where
     none : SameOutside (c .hosts) (c .shadows) m m
     none = out-refl (c .hosts) (c .shadows) m
 
-    filled-leaves : (t : ℕ) (w : Bool) → InGuestArea c t → Leaves c m (filledOf c m p top root st a d t w)
+    stopped : (n : List ℕ) (e : ℕ) (r : Walked) → SameOutside (c .hosts) (c .shadows) m n → e ≤ 1 → ArrivedIn c r → Leaves c m (yields (translation h e r) n)
+    stopped n e r s l g = record { same = s; held = f; exits = omega arith; arrived = g }
+
+    filled-leaves : (gs : List ℕ) (t : ℕ) (w : Bool) → InGuestArea c t → Leaves c m (filledOf c ht m h gs st a d t w)
     unfolding filledOf
-    filled-leaves t w g = go (ltb d (c .levels))
+    filled-leaves gs t w g = go (leb (c .levels) d)
       where
         e : ℕ
         e = entryFor t (ltb 0 d) w
 
         s : After Went
-        s = fillOf c p m root (pathIndexes c d a) e
+        s = fillOf c gs (h .pool) m (pathIndexes c d a) e
 
         same : SameOutside (c .hosts) (c .shadows) m (s .memory)
-        same = fill-out c p m root (pathIndexes c d a) e room (indexes-narrow (c .levels - d) (pathOf d a))
+        same = fill-out c gs (h .pool) m (pathIndexes c d a) e (indexes-narrow (c .levels - d) (pathOf d a))
 
-        by : (x : Way) → Leaves c m (fillBy c p top st a d t w s x)
-        by (To i) = served-leaves (s .memory) (s .result .pool) top a d t w 1 same (fill-fits c p m root (pathIndexes c d a) e h) f g (omega arith)
-        by Not = record { same = same; fresh = h; top = f; exits = omega arith; arrived = tt }
-        by Bad = record { same = same; fresh = h; top = f; exits = omega arith; arrived = tt }
+        by : (x : Way) → Leaves c m (fillBy c ht h st a d t w s x)
+        by (To i) = served-leaves (s .memory) (record { pool = s .result .pool; frame = h .frame }) a d t w 1 same (fill-fits c gs (h .pool) m (pathIndexes c d a) e (f .0), f .1) g (omega arith)
+        by Not = stopped (s .memory) 0 walked.Damaged same (omega arith) tt
+        by Bad = stopped (s .memory) 0 walked.Damaged same (omega arith) tt
 
-        go : (b : Bool) → Leaves c m (cond b (fillBy c p top st a d t w s (s .result .way)) (yields (servedOf c m p t st a d t w 1) m))
-        go true = by (s .result .way)
-        go false = served-leaves m p t a d t w 1 none h (inr g) g (omega arith)
+        go : (b : Bool) → Leaves c m (cond b (yields (servedOf c ht m (holding (h .pool) t) st a d t w 1) m) (fillBy c ht h st a d t w s (s .result .way)))
+        go true = served-leaves m (holding (h .pool) t) a d t w 1 none (f .0, inr g) g (omega arith)
+        go false = by (s .result .way)
 
-    missed-leaves : Leaves c m (missedOf c m p top root st a d)
-    unfolding missedOf
-    missed-leaves = go (walkedOf c m 0 (walk c st root (pathIndexes c d a))) (walk-in c m st 0 root (pathIndexes c d a))
+    missed-leaves : Leaves c m (missedOf c ht m h root st a d)
+    unfolding missedOf trailFrom
+    missed-leaves = go (walkedOf c ht m 0 (walk c st root (pathIndexes c d a))) (walk-in c ht m st 0 root (pathIndexes c d a))
       where
-        go : (r : Walked) → ArrivedIn c r → Leaves c m (missedBy c m p top root st a d r)
-        go (walked.Arrived t w n) g = filled-leaves (t .0) w g
-        go (walked.Faulted x n) g = record { same = none; fresh = h; top = f; exits = omega arith; arrived = tt }
-        go walked.Damaged g = record { same = none; fresh = h; top = f; exits = omega arith; arrived = tt }
+        gs : List ℕ
+        gs = trailOf c ht m 0 (walk c st root (pathIndexes c d a)) .tables
 
-    found-leaves : (r : HostWalk) → FoundIs c (InGuestArea c) (λ i g. g) r → Leaves c m (foundBy c m p top root st a d r)
+        go : (r : Walked) → ArrivedIn c r → Leaves c m (missedBy c ht m h st a d gs r)
+        go (walked.Arrived t w n) g = filled-leaves gs (t .0) w g
+        go (walked.Faulted x n) g = stopped m 1 (walked.Faulted x n) none (omega arith) tt
+        go walked.Damaged g = stopped m 0 walked.Damaged none (omega arith) tt
+
+    found-leaves : (r : HostWalk) → FoundIs c (InGuestArea c) (λ i g. g) r → Leaves c m (foundBy c ht m h root st a d r)
     found-leaves (host.Found t w) g = go (servesOf st d w)
       where
-        go : (b : Bool) → Leaves c m (cond b (yields (servedOf c m p top st a d (t .0) w 0) m) (missedOf c m p top root st a d))
-        go true = served-leaves m p top a d (t .0) w 0 none h f g (omega arith)
+        go : (b : Bool) → Leaves c m (cond b (yields (servedOf c ht m h st a d (t .0) w 0) m) (missedOf c ht m h root st a d))
+        go true = served-leaves m h a d (t .0) w 0 none f g (omega arith)
         go false = missed-leaves
     found-leaves (host.Absent n) g = missed-leaves
-    found-leaves host.Damaged g = record { same = none; fresh = h; top = f; exits = omega arith; arrived = tt }
+    found-leaves host.Damaged g = stopped m 0 walked.Damaged none (omega arith) tt
 
-    plain-leaves : Leaves c m (yields (plainOf c m p top root st a) m)
+    plain-leaves : Leaves c m (yields (plainOf c ht m h root st a) m)
     unfolding plainOf
     plain-leaves =
         let is = indexes (c .levels) (pageOf a) in
-        record { same = none; fresh = h; top = f; exits = omega (arith, exit-small (walkedOf c m 0 (walk c st root is))); arrived = walk-in c m st 0 root is }
+        stopped m _ _ none (exit-small (walkedOf c ht m 0 (walk c st root is))) (walk-in c ht m st 0 root is)
 
-    pub translate-leaves : Leaves c m (translateOf c m p top root st a d)
+    pub translate-leaves : Leaves c m (translateOf c ht m h root st a d)
     unfolding translateOf
-    translate-leaves = go (leb d (c .levels))
+    translate-leaves = go (ltb (c .levels) d)
       where
-        at-depth : Leaves c m (foundBy c m p top root st a d (foundOf c m (p .fresh) top a d))
-        at-depth =
-            found-leaves (foundOf c m (p .fresh) top a d) (found-is c (InGuestArea c) (λ i g. g) m (p .fresh) top a d (top-held c top f))
+        at-depth : Leaves c m (foundBy c ht m h root st a d (foundOf c m h a d))
+        at-depth = found-leaves (foundOf c m h a d) (found-is c (InGuestArea c) (λ i g. g) m h a d (top-held c h f))
 
-        go : (b : Bool)
-            → Leaves c m (cond b (foundBy c m p top root st a d (foundOf c m (p .fresh) top a d)) (yields (plainOf c m p top root st a) m))
-        go true = at-depth
-        go false = plain-leaves
+        go : (b : Bool) → Leaves c m (cond b (yields (plainOf c ht m h root st a) m) (foundBy c ht m h root st a d (foundOf c m h a d)))
+        go true = plain-leaves
+        go false = at-depth
 
 -- ---- a store
 module _ (b s : ℕ) (m n : List ℕ) (e : SameOutside b s m n) (t i v : ℕ) where
@@ -154,9 +153,9 @@ pub record Stores (c : Config) (m : List ℕ) (t i v : ℕ) (o : After Put) : Ty
   pub fresh : o .result .pool .fresh ≤ c .shadows
   pub exits : o .result .exits ≤ 1
 
-pub store-leaves : (c : Config) (m : List ℕ) (p : Pool) (t i v : ℕ) → p .fresh ≤ c .shadows → Stores c m t i v (storeOf c m p t i v)
-unfolding storeOf
-store-leaves c m p t i v h = go (watchedOf c m (p .fresh) t)
+pub put-leaves : (c : Config) (m : List ℕ) (p : Pool) (t i v : ℕ) → p .fresh ≤ c .shadows → Stores c m t i v (putOf c m p t i v)
+unfolding putOf
+put-leaves c m p t i v h = go (watchedOf c m (p .fresh) t)
   where
     o : After Left
     o = scanOf c (Word (page t) i) p m
@@ -170,6 +169,6 @@ store-leaves c m p t i v h = go (watchedOf c m (p .fresh) t)
         }
     by false = record { same = scan-out c (Word (page t) i) p m h; fresh = h; exits = omega arith }
 
-    go : (b : Bool) → Stores c m t i v (cond b (writtenBy p t i v o) (stored p 0 true (setIn m t i v)))
+    go : (b : Bool) → Stores c m t i v (cond b (putBy p t i v o) (stored p 0 true (setIn m t i v)))
     go true = by (o .result .ok)
     go false = record { same = out-refl (c .hosts) (c .shadows) (setIn m t i v); fresh = h; exits = omega arith }

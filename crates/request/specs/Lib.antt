@@ -1,2 +1,2 @@
 pub mod Translate
-pub mod Store
+pub mod Access

@@ -1,9 +1,13 @@
-// A load's or a store's way to its word: the translation, and the store with what it drops.
+// A request of the guest or of a device, from its address to the word: the held path found or filled, the direct part walked,
+// the word read or written. The word of a load and the word of a store are each touched in one place, `read_word` and `put_word`.
 ghost use mathlib.Core.Path.{_≡_};
 ghost use Prim.Native.Nat.{_<_, _≤_};
+ghost use Rattle.spec.specs.Entry.{wordOf};
+ghost use Rattle.words.specs.After.{yields};
+ghost use Rattle.words.specs.Words.{wordIn};
 ghost use Rattle.host.specs.Walk.{LayoutFits, config};
-ghost use Rattle.request.specs.Translate.{exitBy, pathOf, directOf, servedOf, servesOf, foundOf, filledOf, missedOf, plainOf, translateOf};
-ghost use Rattle.request.specs.Store.{storeOf};
+ghost use Rattle.request.specs.Translate.{HeldFits, exitBy, directOf, servedOf, servesOf, pathOf, foundOf, filledOf, missedOf, plainOf, translateOf};
+ghost use Rattle.request.specs.Access.{putOf, loadOf, writtenBy, storeOf, deviceOf};
 use area::Pool;
 use area::Way;
 use entry::GuestPhysical;
@@ -11,29 +15,41 @@ use entry::GuestVirtual;
 use entry::HostPhysical;
 use host::HostWalk;
 use host::Layout;
-use shadow::Cut;
+use host::Space;
+use spec::Answer;
 use spec::Fault;
 use walk::Walked;
-ghost use Rattle.words.specs.After.{yields};
 
-// What a translation leaves: the shadow tables' pool, the frame held at the greatest depth, exits, and where it came to.
-pub struct Translated {
+// What is held: the shadow tables, and the host frame of the path of no index, which stands in the record; frame 0 if it is
+// not held.
+pub struct Held {
     pub pool: Pool,
-    pub top: u64,
+    pub frame: HostPhysical,
+}
+
+// A load or a store of the guest, at the depth that the marks give its address.
+pub struct Request {
+    pub store: bool,
+    pub address: GuestVirtual,
+    pub depth: u64,
+}
+
+// What a translation leaves: what is held then, the exits so far, and what the walk came to.
+pub struct Translated {
+    pub held: Held,
     pub exits: u64,
     pub walked: Walked,
 }
 
-// What a store to a word leaves: the shadow tables' pool and the exits; not ok: damaged shadow tables, nothing stored.
-pub struct Put {
-    pub pool: Pool,
-    pub exits: u64,
-    pub ok: bool,
+// What a request leaves: what is held then, and its answer.
+pub struct Served {
+    pub held: Held,
+    pub answer: Answer,
 }
 
 // ---- the direct part
 
-// The exits of a walk: one for H or W.
+// One exit for a fault of the host.
 pub fn exit_of(walked: Walked) -> u64
     ensures { λ r. ⌜ r ≡ exitBy walked ⌝ }
 {
@@ -54,42 +70,48 @@ pub fn exit_of(walked: Walked) -> u64
     }
 }
 
-// The walk on from the guest table of level d.
-pub fn direct(
-    mem: &[u64],
-    l: Layout,
-    store: bool,
-    a: GuestVirtual,
-    d: u64,
-    page: HostPhysical,
-    writable: bool,
-) -> Walked
-    requires { ⌜ (LayoutFits l) × (d ≤ l .levels) × (page .0 < 1099511627776) ⌝ }
-    ensures { λ r. ⌜ r ≡ directOf (config l) (now (mem .entry)) store (a .0) d (page .0) writable ⌝ }
+// The walk on from the guest table of the request's depth, or from its page at depth 0.
+fn direct(mem: &[u64], s: Space, q: Request, page: HostPhysical, writable: bool) -> Walked
+    requires { ⌜ (LayoutFits (s .layout)) × (q .depth ≤ s .layout .levels) × (page .0 < 1099511627776) ⌝ }
+    ensures { λ r. ⌜ r ≡ directOf (config (s .layout)) (s .top) (now (mem .entry)) (q .store) (q .address .0) (q .depth) (page .0) writable ⌝ }
 {
-    walk::walk_tables(mem, l, store, a.page(), d, 0, page, writable, l.levels - d)
+    if q.depth == 0 {
+        return Walked::Arrived {
+            page: page,
+            writable: writable,
+            reads: s.layout.levels,
+        };
+    }
+    let trail = walk::walk_tables(
+        mem,
+        s,
+        q.store,
+        q.address.page(),
+        q.depth,
+        0,
+        page,
+        writable,
+        s.layout.levels - q.depth,
+    );
+    trail.walked
 }
 
 // Through a path that is held or was just filled, after some exits.
-pub fn served(
+fn serve(
     mem: &[u64],
-    l: Layout,
-    pool: Pool,
-    top: u64,
-    store: bool,
-    a: GuestVirtual,
-    d: u64,
+    s: Space,
+    held: Held,
+    q: Request,
     page: HostPhysical,
     writable: bool,
     exits: u64,
 ) -> Translated
-    requires { ⌜ (LayoutFits l) × (d ≤ l .levels) × (page .0 < 1099511627776) × (exits ≤ 65536) ⌝ }
-    ensures { λ r. ⌜ r ≡ servedOf (config l) (now (mem .entry)) pool top store (a .0) d (page .0) writable exits ⌝ }
+    requires { ⌜ (LayoutFits (s .layout)) × (q .depth ≤ s .layout .levels) × (page .0 < 1099511627776) × (exits ≤ 65536) ⌝ }
+    ensures { λ r. ⌜ r ≡ servedOf (config (s .layout)) (s .top) (now (mem .entry)) held (q .store) (q .address .0) (q .depth) (page .0) writable exits ⌝ }
 {
-    let walked = direct(mem, l, store, a, d, page, writable);
+    let walked = direct(mem, s, q, page, writable);
     Translated {
-        pool: pool,
-        top: top,
+        held: held,
         exits: exits + exit_of(walked),
         walked: walked,
     }
@@ -98,7 +120,7 @@ pub fn served(
 // ---- held paths
 
 // Whether a held path with this writable bit serves the request.
-pub fn serves(store: bool, d: u64, writable: bool) -> bool
+fn serves(store: bool, d: u64, writable: bool) -> bool
     ensures { λ r. ⌜ r ≡ servesOf store d writable ⌝ }
 {
     if d == 0 {
@@ -109,201 +131,384 @@ pub fn serves(store: bool, d: u64, writable: bool) -> bool
 }
 
 // The page number of an address without its d lowest indexes.
-pub fn path_of(a: GuestVirtual, d: u64) -> u64
+fn path_of(a: GuestVirtual, d: u64) -> u64
     requires { ⌜ d ≤ 7 ⌝ }
     ensures { λ r. ⌜ r ≡ pathOf d (a .0) ⌝ }
 {
     a.page() >> (9 * d)
 }
 
-// The path held at depth d.
-pub fn found(mem: &[u64], l: Layout, fresh: u64, top: u64, a: GuestVirtual, d: u64) -> HostWalk
+// The path held at depth d: a shadow entry, or at the depth of all levels the frame in the record.
+fn found(mem: &[u64], l: Layout, held: Held, a: GuestVirtual, d: u64) -> HostWalk
     requires { ⌜ LayoutFits l ⌝ }
-    ensures { λ r. ⌜ r ≡ foundOf (config l) (now (mem .entry)) fresh top (a .0) d ⌝ }
+    ensures { λ r. ⌜ r ≡ foundOf (config l) (now (mem .entry)) held (a .0) d ⌝ }
 {
     if d < l.levels {
-        shadow::held(mem, l, fresh, path_of(a, d), l.levels - d)
-    } else {
-        if top == 0 {
-            HostWalk::Absent { reads: 0 }
-        } else {
-            HostWalk::Found {
-                page: HostPhysical(top),
-                writable: true,
-            }
-        }
+        return shadow::held(mem, l, held.pool.top, path_of(a, d), l.levels - d);
+    }
+    if held.frame.0 == 0 {
+        return HostWalk::Absent { reads: 0 };
+    }
+    let frame = held.frame;
+    HostWalk::Found {
+        page: frame,
+        writable: true,
     }
 }
 
-// The path is filled, and the request served through it.
-pub fn filled(
+// A translation that met damage: what was held, and no exit.
+fn damaged(held: Held) -> Translated
+    ensures { λ r. ⌜ r ≡ record { held = held; exits = 0; walked = Walked.Damaged } ⌝ }
+{
+    Translated {
+        held: held,
+        exits: 0,
+        walked: Walked::Damaged,
+    }
+}
+
+// The path is filled, and the request served through it; guests: the host frames of the guest tables on its way.
+fn filled(
     mem: &mut [u64],
-    l: Layout,
-    pool: Pool,
-    top: u64,
-    root: GuestPhysical,
-    store: bool,
-    a: GuestVirtual,
-    d: u64,
+    s: Space,
+    held: Held,
+    guests: &[u64; 8],
+    q: Request,
     page: HostPhysical,
     writable: bool,
 ) -> Translated
-    requires { ⌜ (LayoutFits l) × (d ≤ l .levels) × (page .0 < 1099511627776) ⌝ }
-    ensures { λ r. ⌜ yields r (now (mem .exit)) ≡ filledOf (config l) (now (mem .entry)) pool top (root .0) store (a .0) d (page .0) writable ⌝ }
+    requires { ⌜ (LayoutFits (s .layout)) × (q .depth ≤ s .layout .levels) × (page .0 < 1099511627776) ⌝ }
+    ensures { λ r. ⌜ yields r (now (mem .exit)) ≡ filledOf (config (s .layout)) (s .top) (now (mem .entry)) held (now (guests .entry)) (q .store) (q .address .0) (q .depth) (page .0) writable ⌝ }
 {
-    if d < l.levels {
-        let e = shadow::entry_for(page, 0 < d, writable);
-        let went = shadow::fill(mem, l, pool, root, path_of(a, d), l.levels - d, e);
-        let way = went.way;
-        let after = went.pool;
-        match way {
-            Way::To(f) => served(mem, l, after, top, store, a, d, page, writable, 1),
-            Way::Not => Translated {
+    let l = s.layout;
+    let pool = held.pool;
+    let frame = held.frame;
+    if l.levels <= q.depth {
+        return serve(
+            mem,
+            s,
+            Held {
                 pool: pool,
-                top: top,
-                exits: 0,
-                walked: Walked::Damaged,
+                frame: page,
             },
-            Way::Bad => Translated {
-                pool: pool,
-                top: top,
-                exits: 0,
-                walked: Walked::Damaged,
+            q,
+            page,
+            writable,
+            1,
+        );
+    }
+    let e = shadow::entry_for(page, 0 < q.depth, writable);
+    let path = path_of(q.address, q.depth);
+    let went = shadow::fill(mem, l, pool, guests, path, l.levels - q.depth, e);
+    let way = went.way;
+    let after = went.pool;
+    match way {
+        Way::To(f) => serve(
+            mem,
+            s,
+            Held {
+                pool: after,
+                frame: frame,
             },
-        }
-    } else {
-        served(mem, l, pool, page.0, store, a, d, page, writable, 1)
+            q,
+            page,
+            writable,
+            1,
+        ),
+        Way::Not => damaged(held),
+        Way::Bad => damaged(held),
     }
 }
 
-// The path does not serve: its shadow part is walked.
-pub fn missed(
-    mem: &mut [u64],
-    l: Layout,
-    pool: Pool,
-    top: u64,
-    root: GuestPhysical,
-    store: bool,
-    a: GuestVirtual,
-    d: u64,
-) -> Translated
-    requires { ⌜ (LayoutFits l) × (d ≤ l .levels) ⌝ }
-    ensures { λ r. ⌜ yields r (now (mem .exit)) ≡ missedOf (config l) (now (mem .entry)) pool top (root .0) store (a .0) d ⌝ }
+// The path does not serve: its shadow part is walked, and filled where it arrives.
+fn missed(mem: &mut [u64], s: Space, root: GuestPhysical, held: Held, q: Request) -> Translated
+    requires { ⌜ (LayoutFits (s .layout)) × (q .depth ≤ s .layout .levels) ⌝ }
+    ensures { λ r. ⌜ yields r (now (mem .exit)) ≡ missedOf (config (s .layout)) (s .top) (now (mem .entry)) held (root .0) (q .store) (q .address .0) (q .depth) ⌝ }
 {
-    match walk::walk_root(mem, l, store, root, path_of(a, d), l.levels - d, d) {
+    let path = path_of(q.address, q.depth);
+    let trail = walk::walk_root(
+        mem,
+        s,
+        q.store,
+        root,
+        path,
+        s.layout.levels - q.depth,
+        q.depth,
+    );
+    let walked = trail.walked;
+    match walked {
         Walked::Arrived {
             page,
             writable,
             reads,
-        } => filled(mem, l, pool, top, root, store, a, d, page, writable),
+        } => filled(mem, s, held, &trail.tables, q, page, writable),
         Walked::Faulted { fault, reads } => Translated {
-            pool: pool,
-            top: top,
+            held: held,
             exits: 1,
-            walked: Walked::Faulted {
-                fault: fault,
-                reads: reads,
-            },
+            walked: walked,
         },
-        Walked::Damaged => Translated {
-            pool: pool,
-            top: top,
-            exits: 0,
-            walked: Walked::Damaged,
-        },
+        Walked::Damaged => damaged(held),
     }
 }
 
 // ---- translation
 
-// Where nothing is shadowed.
-pub fn plain(
+// Where nothing is shadowed: the whole plain walk.
+fn plain(
     mem: &[u64],
-    l: Layout,
-    pool: Pool,
-    top: u64,
+    s: Space,
     root: GuestPhysical,
+    held: Held,
     store: bool,
     a: GuestVirtual,
 ) -> Translated
-    requires { ⌜ LayoutFits l ⌝ }
-    ensures { λ r. ⌜ r ≡ plainOf (config l) (now (mem .entry)) pool top (root .0) store (a .0) ⌝ }
+    requires { ⌜ LayoutFits (s .layout) ⌝ }
+    ensures { λ r. ⌜ r ≡ plainOf (config (s .layout)) (s .top) (now (mem .entry)) held (root .0) store (a .0) ⌝ }
 {
-    let walked = walk::walk_root(mem, l, store, root, a.page(), l.levels, 0);
+    let trail = walk::walk_root(mem, s, store, root, a.page(), s.layout.levels, 0);
+    let walked = trail.walked;
     Translated {
-        pool: pool,
-        top: top,
+        held: held,
         exits: exit_of(walked),
         walked: walked,
     }
 }
 
-// A load's or a store's translation at depth d; the frame held at the greatest depth is top, 0 if none is.
-pub fn translate(
-    mem: &mut [u64],
-    l: Layout,
-    pool: Pool,
-    top: u64,
-    root: GuestPhysical,
-    store: bool,
-    a: GuestVirtual,
-    d: u64,
-) -> Translated
-    requires { ⌜ (LayoutFits l) × (top < 1099511627776) ⌝ }
-    ensures { λ r. ⌜ yields r (now (mem .exit)) ≡ translateOf (config l) (now (mem .entry)) pool top (root .0) store (a .0) d ⌝ }
+// A request's translation.
+fn translate(mem: &mut [u64], s: Space, root: GuestPhysical, held: Held, q: Request) -> Translated
+    requires { ⌜ (LayoutFits (s .layout)) × (held .frame .0 < 1099511627776) ⌝ }
+    ensures { λ r. ⌜ yields r (now (mem .exit)) ≡ translateOf (config (s .layout)) (s .top) (now (mem .entry)) held (root .0) (q .store) (q .address .0) (q .depth) ⌝ }
 {
-    if d <= l.levels {
-        match found(mem, l, pool.fresh, top, a, d) {
-            HostWalk::Found { page, writable } => {
-                if serves(store, d, writable) {
-                    served(mem, l, pool, top, store, a, d, page, writable, 0)
-                } else {
-                    missed(mem, l, pool, top, root, store, a, d)
-                }
+    if s.layout.levels < q.depth {
+        return plain(mem, s, root, held, q.store, q.address);
+    }
+    match found(mem, s.layout, held, q.address, q.depth) {
+        HostWalk::Found { page, writable } => {
+            if serves(q.store, q.depth, writable) {
+                return serve(mem, s, held, q, page, writable, 0);
             }
-            HostWalk::Absent { reads } => missed(mem, l, pool, top, root, store, a, d),
-            HostWalk::Damaged => Translated {
-                pool: pool,
-                top: top,
-                exits: 0,
-                walked: Walked::Damaged,
-            },
+            missed(mem, s, root, held, q)
         }
-    } else {
-        plain(mem, l, pool, top, root, store, a)
+        HostWalk::Absent { reads } => missed(mem, s, root, held, q),
+        HostWalk::Damaged => damaged(held),
     }
 }
 
-// ---- the store
+// ---- the word
 
-// The word i of a host frame gets v, and the held paths whose shadow part read it are dropped.
-pub fn put_word(mem: &mut [u64], l: Layout, pool: Pool, t: HostPhysical, i: u64, v: u64) -> Put
-    requires { ⌜ (LayoutFits l) × (pool .fresh ≤ l .shadows) × (t .0 < 1099511627776) × (i < 512) ⌝ }
-    ensures { λ r. ⌜ yields r (now (mem .exit)) ≡ storeOf (config l) (now (mem .entry)) pool (t .0) i v ⌝ }
+// The word of its page that an address names.
+fn word_of(a: u64) -> u64
+    ensures { λ r. ⌜ (r ≡ wordOf a) × (r < 512) ⌝ }
 {
-    if shadow::watched(mem, l, pool.fresh, t) {
-        let left = shadow::scan(mem, l, Cut::Word(t, i), pool);
-        let after = left.pool;
-        if left.ok {
-            words::set_in(mem, t.0, i, v);
-            Put {
-                pool: after,
-                exits: 1,
-                ok: true,
-            }
-        } else {
-            Put {
-                pool: pool,
-                exits: 0,
-                ok: false,
-            }
-        }
-    } else {
-        words::set_in(mem, t.0, i, v);
-        Put {
+    a % 4096 / 8
+}
+
+// The word of a page that a load at that address yields.
+fn read_word(mem: &[u64], page: HostPhysical, a: u64) -> u64
+    requires { ⌜ page .0 < 1099511627776 ⌝ }
+    ensures { λ r. ⌜ r ≡ wordIn (now (mem .entry)) (page .0) (wordOf a) ⌝ }
+{
+    words::word_in(mem, page.0, word_of(a))
+}
+
+// What a store to a word leaves; not ok: damaged tables were met, and no guest word is changed.
+pub struct Put {
+    pub pool: Pool,
+    pub exits: u64,
+    pub ok: bool,
+}
+
+// The word of a page that an address names gets v, and the held paths whose shadow part read it are dropped. The drops are
+// found before the word is written, so that damage met on the way has changed no guest word.
+fn put_word(mem: &mut [u64], l: Layout, pool: Pool, page: HostPhysical, a: u64, v: u64) -> Put
+    requires { ⌜ (LayoutFits l) × (pool .fresh ≤ l .shadows) × (page .0 < 1099511627776) ⌝ }
+    ensures { λ r. ⌜ yields r (now (mem .exit)) ≡ putOf (config l) (now (mem .entry)) pool (page .0) (wordOf a) v ⌝ }
+{
+    let i = word_of(a);
+    if !shadow::watched(mem, l, pool.fresh, page) {
+        words::set_in(mem, page.0, i, v);
+        return Put {
             pool: pool,
             exits: 0,
             ok: true,
-        }
+        };
+    }
+    let left = shadow::drop_word(mem, l, pool, page, i);
+    let after = left.pool;
+    if left.ok {
+        words::set_in(mem, page.0, i, v);
+        return Put {
+            pool: after,
+            exits: 1,
+            ok: true,
+        };
+    }
+    Put {
+        pool: pool,
+        exits: 0,
+        ok: false,
+    }
+}
+
+// ---- requests
+
+// A refused request: what was held, and the number.
+pub fn refused(held: Held, number: u64) -> Served
+    ensures { λ r. ⌜ r ≡ record { held = held; answer = Answer.Refused number } ⌝ }
+{
+    Served {
+        held: held,
+        answer: Answer::Refused(number),
+    }
+}
+
+// A load: 11.
+pub fn load(
+    mem: &mut [u64],
+    s: Space,
+    root: GuestPhysical,
+    held: Held,
+    a: GuestVirtual,
+    d: u64,
+) -> Served
+    requires { ⌜ (LayoutFits (s .layout)) × (HeldFits (config (s .layout)) held) ⌝ }
+    ensures { λ r. ⌜ yields r (now (mem .exit)) ≡ loadOf (config (s .layout)) (s .top) (now (mem .entry)) held (root .0) (a .0) d ⌝ }
+{
+    let t = translate(
+        mem,
+        s,
+        root,
+        held,
+        Request {
+            store: false,
+            address: a,
+            depth: d,
+        },
+    );
+    let walked = t.walked;
+    let after = t.held;
+    match walked {
+        Walked::Arrived {
+            page,
+            writable,
+            reads,
+        } => Served {
+            held: after,
+            answer: Answer::Value {
+                word: read_word(mem, page, a.0),
+                references: reads,
+                exits: t.exits,
+            },
+        },
+        Walked::Faulted { fault, reads } => Served {
+            held: after,
+            answer: Answer::Faulted {
+                fault: fault,
+                references: reads,
+                exits: t.exits,
+            },
+        },
+        Walked::Damaged => refused(held, 11),
+    }
+}
+
+// A store that was granted: the word is written, after so many references and exits; before: what was held when it came.
+fn written(
+    mem: &mut [u64],
+    l: Layout,
+    before: Held,
+    held: Held,
+    page: HostPhysical,
+    a: u64,
+    v: u64,
+    references: u64,
+    exits: u64,
+) -> Served
+    requires { ⌜ (LayoutFits l) × (held .pool .fresh ≤ l .shadows) × (page .0 < 1099511627776) × (exits ≤ 65536) ⌝ }
+    ensures { λ r. ⌜ yields r (now (mem .exit)) ≡ writtenBy before held references exits (putOf (config l) (now (mem .entry)) (held .pool) (page .0) (wordOf a) v) ⌝ }
+{
+    let put = put_word(mem, l, held.pool, page, a, v);
+    let pool = put.pool;
+    let frame = held.frame;
+    if put.ok {
+        return Served {
+            held: Held {
+                pool: pool,
+                frame: frame,
+            },
+            answer: Answer::Done {
+                references: references,
+                exits: exits + put.exits,
+            },
+        };
+    }
+    refused(before, 11)
+}
+
+// A store; the paths whose shadow part read the word are dropped: 11.
+pub fn store(
+    mem: &mut [u64],
+    s: Space,
+    root: GuestPhysical,
+    held: Held,
+    a: GuestVirtual,
+    d: u64,
+    v: u64,
+) -> Served
+    requires { ⌜ (LayoutFits (s .layout)) × (HeldFits (config (s .layout)) held) ⌝ }
+    ensures { λ r. ⌜ yields r (now (mem .exit)) ≡ storeOf (config (s .layout)) (s .top) (now (mem .entry)) held (root .0) (a .0) d v ⌝ }
+{
+    let t = translate(
+        mem,
+        s,
+        root,
+        held,
+        Request {
+            store: true,
+            address: a,
+            depth: d,
+        },
+    );
+    let walked = t.walked;
+    let after = t.held;
+    match walked {
+        Walked::Arrived {
+            page,
+            writable,
+            reads,
+        } => written(mem, s.layout, held, after, page, a.0, v, reads, t.exits),
+        Walked::Faulted { fault, reads } => Served {
+            held: after,
+            answer: Answer::Faulted {
+                fault: fault,
+                references: reads,
+                exits: t.exits,
+            },
+        },
+        Walked::Damaged => refused(held, 11),
+    }
+}
+
+// A device's store at a guest-physical address: its host walk, then the word as for a store: 11.
+pub fn device_store(mem: &mut [u64], s: Space, held: Held, a: u64, v: u64) -> Served
+    requires { ⌜ (LayoutFits (s .layout)) × (held .pool .fresh ≤ s .layout .shadows) ⌝ }
+    ensures { λ r. ⌜ yields r (now (mem .exit)) ≡ deviceOf (config (s .layout)) (s .top) (now (mem .entry)) held a v ⌝ }
+{
+    let walked = walk::to_page(mem, s, true, GuestPhysical(a / 4096), true, 0);
+    match walked {
+        Walked::Arrived {
+            page,
+            writable,
+            reads,
+        } => written(mem, s.layout, held, held, page, a, v, reads, 0),
+        Walked::Faulted { fault, reads } => Served {
+            held: held,
+            answer: Answer::Faulted {
+                fault: fault,
+                references: reads,
+                exits: exit_of(walked),
+            },
+        },
+        Walked::Damaged => refused(held, 11),
     }
 }

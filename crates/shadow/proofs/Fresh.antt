@@ -9,14 +9,14 @@ use lib.Dec.{eqb, ltb}
 use lib.ListN.{getD}
 use borrow.Author.Tests.{ltb-true}
 use Rattle.spec.specs.Config.{Config}
-use Rattle.words.specs.Words.{setIn, zeroed}
+use Rattle.words.specs.Words.{zeroed}
 use Rattle.area.specs.declared.Area.{Area}
 use Rattle.area.specs.declared.Pool.{Pool}
 use Rattle.area.specs.declared.Way.{Way}
 use Rattle.area.specs.declared.Way.the-variants as way
 use Rattle.area.specs.Header.{entryIn, putOf, parentOf, slotOf, levelOf, insideOf, bareOf}
-use Rattle.area.specs.Pool.{hopOf, onWay, end, poolOf, noneOf, freshOf, freedOf, takeOf, giveOf, backOf}
-use Rattle.area.specs.Tree.{topOf, roomOf, headed, tableOf, enterOf, hung, hangOf, descendOf, downOf, placeOf, insertOf}
+use Rattle.area.specs.Pool.{hopOf, onWay, end, poolOf, noneOf, withTop, freshOf, freedOf, takeOf, giveOf, backOf}
+use Rattle.area.specs.Tree.{roomOf, headed, tableOf, topped, topOf, enterOf, hung, hangOf, descendOf, downOf, placeOf, insertOf}
 use Rattle.area.specs.Remove.{unhangOf, shutOf, releaseOf, lastIndex}
 use Rattle.host.specs.Walk.{page}
 use Rattle.shadow.specs.declared.Cut.{Cut}
@@ -24,7 +24,7 @@ use Rattle.shadow.specs.declared.Cut.the-variants.{Slot}
 use Rattle.shadow.specs.declared.Above.{Above}
 use Rattle.shadow.specs.declared.Above.the-variants.{Met, To, Off}
 use Rattle.shadow.specs.Held.{shadowArea}
-use Rattle.shadow.specs.Fill.{trailOf, againBy, insertedOf, fillOf}
+use Rattle.shadow.specs.Fill.{againBy, fillOf}
 use Rattle.shadow.specs.Cut.{lowOf, endOf, touchOf, upFrom}
 use Rattle.shadow.specs.Drop.{outcome, clearFrom, settledBy, settleOf, sweepOf, visitBy, visitOf, scanFrom, scanOf, holderFrom, dropPrefixOf}
 use Rattle.words.specs.After.{After}
@@ -48,7 +48,7 @@ module _ (a : Area) where
   fresh-fits p m h = go (ltb (p .fresh) (a .size)) refl
     where
       go : (b : Bool) → ltb (p .fresh) (a .size) ≡ b
-          → Fits (cond b (end (poolOf (p .fresh + 1) (p .free) (p .used + 1)) (way.To (a .base + p .fresh)) (zeroed m ((a .base + p .fresh) * 512) 512)) (end p way.Bad m))
+          → Fits (cond b (end (poolOf (p .fresh + 1) (p .free) (p .used + 1) (p .top)) (way.To (a .base + p .fresh)) (zeroed m ((a .base + p .fresh) * 512) 512)) (end p way.Bad m))
       go true q = let l = ltb-true (p .fresh) (a .size) q in omega arith
       go false q = h
 
@@ -75,12 +75,21 @@ module _ (a : Area) where
       go way.Bad = take-fits p m h
 
   enter-fits : (p : Pool) (m : List ℕ) (guest : ℕ) → PoolFits a p → Fits (enterOf a p m guest)
-  unfolding enterOf
-  enter-fits p m guest h = go (eqb (p .fresh) 0)
+  unfolding enterOf topOf withTop
+  enter-fits p m guest h = go (hopOf (a .base) (a .size) (p .top))
     where
-      go : (b : Bool) → Fits (cond b (tableOf a p m guest (a .levels) 0 0) (end p (way.To (a .base)) m))
-      go true = table-fits p m guest (a .levels) 0 0 h
-      go false = h
+      new : After Went
+      new = tableOf a p m guest (a .levels) 0 0
+
+      top : (w : Way) → Fits (topped new w)
+      top (way.To f) = table-fits p m guest (a .levels) 0 0 h
+      top way.Not = table-fits p m guest (a .levels) 0 0 h
+      top way.Bad = table-fits p m guest (a .levels) 0 0 h
+
+      go : (w : Way) → Fits (onWay w (topped new (new .result .way)) (end p way.Bad m) (λ f. end p (way.To f) m))
+      go (way.To f) = h
+      go way.Not = top (new .result .way)
+      go way.Bad = h
 
   hang-fits : (p : Pool) (m : List ℕ) (guest level f i : ℕ) → PoolFits a p → Fits (hangOf a p m guest level f i)
   unfolding hangOf
@@ -155,18 +164,18 @@ module _ (a : Area) where
       go true false = h
       go false d = h
 
-  shut-fits : (stays : Bool) (p : Pool) (m : List ℕ) → PoolFits a p → Fits (shutOf a stays p m)
-  unfolding shutOf
-  shut-fits stays p m h = go stays (bareOf m (a .base) 512)
+  shut-fits : (stays : Bool) (p : Pool) (m : List ℕ) (f : ℕ) → PoolFits a p → Fits (shutOf stays p m f)
+  unfolding shutOf giveOf withTop
+  shut-fits stays p m f h = go stays (bareOf m f 512)
     where
-      go : (b d : Bool) → Fits (cond b (end p (way.To (a .base)) m) (cond d (end noneOf (way.To (a .base)) (setIn m (a .base) 1 0)) (end p (way.To (a .base)) m)))
+      go : (b d : Bool) → Fits (cond b (end p (way.To f) m) (cond d (end (giveOf (withTop p 0) f) (way.To f) (backOf m f (p .free))) (end p (way.To f) m)))
       go true d = h
-      go false true = none-fits a
+      go false true = h
       go false false = h
 
   pub release-fits : (k : ℕ) (stays : Bool) (p : Pool) (m : List ℕ) (f : ℕ) → PoolFits a p → Fits (releaseOf a stays p m k f)
   unfolding releaseOf
-  release-fits zero stays p m f h = shut-fits stays p m h
+  release-fits zero stays p m f h = shut-fits stays p m f h
   release-fits (suc k) stays p m f h =
       go (t .result .way) (λ g. release-fits k stays (t .result .pool) (t .memory) g (unhang-fits p m f h))
     where
@@ -184,9 +193,9 @@ module _ (c : Config) where
   abbrev pub Bounded : Pool → Type 0
   Bounded p = PoolFits (shadowArea c) p
 
-  inserted-fits : (guests : List ℕ) (p : Pool) (m is : List ℕ) (e : ℕ) → Bounded p → Bounded (insertedOf (shadowArea c) guests p m is e .result .pool)
-  unfolding insertedOf
-  inserted-fits guests p m is e h = go (first .result .way)
+  pub fill-fits : (guests : List ℕ) (p : Pool) (m is : List ℕ) (e : ℕ) → Bounded p → Bounded (fillOf c guests p m is e .result .pool)
+  unfolding fillOf
+  fill-fits guests p m is e h = go (first .result .way)
     where
       first : After Went
       first = insertOf (shadowArea c) guests p m is e
@@ -195,10 +204,6 @@ module _ (c : Config) where
       go (way.To f) = insert-fits (shadowArea c) guests p m is e h
       go way.Not = insert-fits (shadowArea c) guests noneOf (first .memory) is e (none-fits (shadowArea c))
       go way.Bad = insert-fits (shadowArea c) guests p m is e h
-
-  pub fill-fits : (p : Pool) (m : List ℕ) (root : ℕ) (is : List ℕ) (e : ℕ) → p .fresh ≤ c .shadows → fillOf c p m root is e .result .pool .fresh ≤ c .shadows
-  unfolding fillOf
-  fill-fits p m root is e h = inserted-fits (trailOf c m root is) p m is e h
 
   settle-fits : (p : Pool) (m : List ℕ) (n f : ℕ) → Bounded p → Bounded (settleOf c p m n f .result .pool)
   unfolding settleOf
@@ -269,7 +274,7 @@ module _ (c : Config) where
   pub prefix-fits : (p : Pool) (m is : List ℕ) → p .fresh ≤ c .shadows → dropPrefixOf c p m is .result .pool .fresh ≤ c .shadows
   unfolding dropPrefixOf
   prefix-fits p m [] h = none-fits (shadowArea c)
-  prefix-fits p m (i ∷ is) h = go (holderFrom c m (topOf (c .hosts) (p .fresh)) i is)
+  prefix-fits p m (i ∷ is) h = go (holderFrom c m (p .top) i is)
     where
       go : (w : Way) → Bounded (onWay w (outcome p true m) (outcome p false m) (λ f. scanOf c (Slot (page f) (lastIndex i is)) p m) .result .pool)
       go (way.To f) = scan-fits (Slot (page f) (lastIndex i is)) p m h

@@ -5,28 +5,21 @@ use Prim.Native.Nat.{ℕ, zero, suc, _+_, _-_, _≤_, _<_}
 use native.Mathlib.Omega.{arith}
 use mathlib.Core.Bool.{Bool, true, false, cond}
 use mathlib.Core.List.{List}
-use lib.ListN.{set, replicate}
 use Rattle.spec.specs.Config.{Config}
 use Rattle.spec.specs.Entry.{present, frameOf, index, indexes}
 use Rattle.spec.specs.Refusal.{inGuestArea}
-use Rattle.words.specs.Words.{wordIn}
 use Rattle.area.specs.declared.Pool.{Pool}
 use Rattle.area.specs.declared.Way.the-variants as way
 use Rattle.area.specs.Header.{entryIn, parentOf, slotOf, insideOf}
 use Rattle.area.specs.Pool.{onWay, noneOf}
-use Rattle.area.specs.Tree.{topOf}
 use Rattle.area.proofs.Laws.{indexes-last, parent-small, Small}
 use Rattle.laws.proofs.Indexes.{indexes-step}
-use Rattle.host.specs.declared.HostWalk.{HostWalk}
-use Rattle.host.specs.declared.HostWalk.the-variants.{Found, Absent, Damaged}
-use Rattle.host.specs.Walk.{page, hostWalkOf}
-use Rattle.host.proofs.Laws.{HostFits, host-fits}
+use Rattle.host.specs.Walk.{page}
 use Rattle.shadow.specs.declared.Kind.the-variants.{Gone, Leaf, Table, Outside}
 use Rattle.shadow.specs.declared.Cut.{Cut}
 use Rattle.shadow.specs.declared.Cut.the-variants.{Word, Names, Slot}
 use Rattle.shadow.specs.declared.Above.{Above}
 use Rattle.shadow.specs.declared.Above.the-variants.{Met, To, Off}
-use Rattle.shadow.specs.Fill.{frameFound, mappedOf, belowOf, trailFrom, trailOf}
 use Rattle.shadow.specs.Cut.{isLeaf, kindOf, watchesOf, watchedFrom, cutOf, lowOf, endOf, aboveOf, upBy, upFrom}
 use Rattle.shadow.specs.Drop.{outcome, clearOne, clearFrom, visitOf, scanFrom, scanOf, tableBy, tableNamed, holderFrom, dropPrefixOf}
 use Rattle.words.specs.After.{yields}
@@ -34,35 +27,6 @@ use Rattle.words.specs.After.{yields}
 pub bit-small : (b : Bool) (v : ℕ) → cond b v 0 ≤ v
 bit-small true v = omega arith
 bit-small false v = omega arith
-
--- ---- the trail of a path
-pub mapped-small : (c : Config) (m : List ℕ) (g : ℕ) → c .frames ≤ 65536 → mappedOf c m g < 1099511627776
-unfolding mappedOf
-mapped-small c m g l = go (hostWalkOf c m g) (host-fits c m g)
-  where
-    go : (r : HostWalk) → HostFits c r → frameFound r < 1099511627776
-    go (Found p w) h = omega (arith, h .1)
-    go (Absent n) h = omega arith
-    go Damaged h = omega arith
-
-pub below-small : (c : Config) (m : List ℕ) (t i : ℕ) → c .frames ≤ 65536 → belowOf c m t i < 1099511627776
-unfolding belowOf
-below-small c m t i l = mapped-small c m (frameOf (wordIn m t i)) l
-
-pub trail-start : (c : Config) (m : List ℕ) (root g k : ℕ) → 0 < k
-    → trailOf c m root (indexes k g) ≡ trailFrom c m (set (replicate 8 0) 0 (mappedOf c m root)) 0 (mappedOf c m root) (index (k - 1) g) (indexes (k - 1) g)
-unfolding trailOf
-trail-start c m root g k l = ap (trailOf c m root) (indexes-step k g l)
-
-pub trail-step : (c : Config) (m ts : List ℕ) (d t g left : ℕ) → 0 < left
-    → trailFrom c m ts d t (index left g) (indexes left g)
-    ≡ trailFrom c m (set ts (d + 1) (belowOf c m t (index left g))) (d + 1) (belowOf c m t (index left g)) (index (left - 1) g) (indexes (left - 1) g)
-unfolding trailFrom
-trail-step c m ts d t g left l = ap (trailFrom c m ts d t (index left g)) (indexes-step left g l)
-
-pub trail-last : (c : Config) (m ts : List ℕ) (d t g : ℕ) → trailFrom c m ts d t (index 0 g) (indexes 0 g) ≡ ts
-unfolding trailFrom indexes
-trail-last c m ts d t g = refl
 
 -- ---- watched frames
 pub watched-step : (m : List ℕ) (b t k : ℕ) → 0 < k → watchedFrom m b t k ≡ cond (watchesOf m (b + (k - 1)) t) true (watchedFrom m b t (k - 1))
@@ -163,11 +127,11 @@ holder-none c m e g = refl
 
 pub prefix-step : (c : Config) (p : Pool) (m : List ℕ) (g k : ℕ) → 0 < k
     → dropPrefixOf c p m (indexes k g)
-    ≡ onWay (holderFrom c m (topOf (c .hosts) (p .fresh)) (index (k - 1) g) (indexes (k - 1) g)) (outcome p true m) (outcome p false m) (λ f. scanOf c (Slot (page f) (index 0 g)) p m)
+    ≡ onWay (holderFrom c m (p .top) (index (k - 1) g) (indexes (k - 1) g)) (outcome p true m) (outcome p false m) (λ f. scanOf c (Slot (page f) (index 0 g)) p m)
 unfolding dropPrefixOf
 prefix-step c p m g k l =
     ap (dropPrefixOf c p m) (indexes-step k g l)
-    ∙ ap (λ i. onWay (holderFrom c m (topOf (c .hosts) (p .fresh)) (index (k - 1) g) (indexes (k - 1) g)) (outcome p true m) (outcome p false m) (λ f. scanOf c (Slot (page f) i) p m)) (indexes-last (k - 1) g)
+    ∙ ap (λ i. onWay (holderFrom c m (p .top) (index (k - 1) g) (indexes (k - 1) g)) (outcome p true m) (outcome p false m) (λ f. scanOf c (Slot (page f) i) p m)) (indexes-last (k - 1) g)
 
 pub prefix-none : (c : Config) (p : Pool) (m : List ℕ) (g : ℕ) → dropPrefixOf c p m (indexes 0 g) ≡ outcome noneOf true m
 unfolding dropPrefixOf indexes

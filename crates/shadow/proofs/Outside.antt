@@ -11,7 +11,7 @@ use Rattle.area.specs.declared.Way.{Way}
 use Rattle.area.specs.declared.Way.the-variants as way
 use Rattle.area.specs.Header.{entryIn, levelOf}
 use Rattle.area.specs.Pool.{onWay, noneOf}
-use Rattle.area.specs.Tree.{topOf, insertOf}
+use Rattle.area.specs.Tree.{insertOf}
 use Rattle.area.specs.Remove.{releaseOf, lastIndex}
 use Rattle.area.specs.Outside.{SameOutside, Narrow}
 use Rattle.area.proofs.Outside.{out-refl, out-trans, put-out, insert-out, release-out}
@@ -23,7 +23,7 @@ use Rattle.shadow.specs.declared.Cut.the-variants.{Slot}
 use Rattle.shadow.specs.declared.Above.{Above}
 use Rattle.shadow.specs.declared.Above.the-variants.{Met, To, Off}
 use Rattle.shadow.specs.Held.{shadowArea}
-use Rattle.shadow.specs.Fill.{trailOf, againBy, insertedOf, fillOf}
+use Rattle.shadow.specs.Fill.{againBy, fillOf}
 use Rattle.shadow.specs.Cut.{kindOf, lowOf, endOf, touchOf, upFrom}
 use Rattle.shadow.specs.Drop.{outcome, clearBy, goesOf, clearOne, clearFrom, settledBy, settleOf, sweepOf, visitBy, visitOf, scanFrom, scanOf, holderFrom, dropPrefixOf}
 use Rattle.shadow.proofs.Laws.{range-fits}
@@ -46,25 +46,21 @@ module _ (c : Config) where
   after m n o y x = out-trans (c .hosts) (c .shadows) m n o y x
 
   -- ---- fill
-  inserted-out : (guests : List ℕ) (p : Pool) (m is : List ℕ) (e : ℕ) → 0 < c .shadows → Narrow is → Same m (insertedOf (shadowArea c) guests p m is e .memory)
-  unfolding insertedOf
-  inserted-out guests p m is e room n = go (first .result .way)
+  pub fill-out : (guests : List ℕ) (p : Pool) (m is : List ℕ) (e : ℕ) → Narrow is → Same m (fillOf c guests p m is e .memory)
+  unfolding fillOf
+  fill-out guests p m is e n = go (first .result .way)
     where
       first : After Went
       first = insertOf (shadowArea c) guests p m is e
 
       once : Same m (first .memory)
-      once = insert-out (shadowArea c) room guests p m is e n
+      once = insert-out (shadowArea c) guests p m is e n
 
       go : (w : Way) → Same m (againBy w first (insertOf (shadowArea c) guests noneOf (first .memory) is e) .memory)
       go (way.To f) = once
       go way.Not =
-          after m (first .memory) _ (insert-out (shadowArea c) room guests noneOf (first .memory) is e n) once
+          after m (first .memory) _ (insert-out (shadowArea c) guests noneOf (first .memory) is e n) once
       go way.Bad = once
-
-  pub fill-out : (p : Pool) (m : List ℕ) (root : ℕ) (is : List ℕ) (e : ℕ) → 0 < c .shadows → Narrow is → Same m (fillOf c p m root is e .memory)
-  unfolding fillOf
-  fill-out p m root is e room n = inserted-out (trailOf c m root is) p m is e room n
 
   -- ---- drops
   module _ (x : Cut) where
@@ -102,7 +98,7 @@ module _ (c : Config) where
         t = releaseOf (shadowArea c) false p m (c .levels - n) f
 
         freed : Same m (t .memory)
-        freed = release-out (shadowArea c) (omega (arith, h .0, h .1)) (c .levels - n) false p m f h
+        freed = release-out (shadowArea c) (c .levels - n) false p m f h
 
         go : (w : Way) → Same m (settledBy w (t .result .pool) (t .memory) .memory)
         go (way.To g) = freed
@@ -167,7 +163,7 @@ module _ (c : Config) where
   pub prefix-out : (p : Pool) (m is : List ℕ) → p .fresh ≤ c .shadows → Same m (dropPrefixOf c p m is .memory)
   unfolding dropPrefixOf
   prefix-out p m [] l = same m
-  prefix-out p m (i ∷ is) l = go (holderFrom c m (topOf (c .hosts) (p .fresh)) i is)
+  prefix-out p m (i ∷ is) l = go (holderFrom c m (p .top) i is)
     where
       go : (w : Way) → Same m (onWay w (outcome p true m) (outcome p false m) (λ f. scanOf c (Slot (page f) (lastIndex i is)) p m) .memory)
       go (way.To f) = scan-out (Slot (page f) (lastIndex i is)) p m l

@@ -11,7 +11,6 @@ use Rattle.area.specs.declared.Way.{Way}
 use Rattle.area.specs.declared.Way.the-variants as way
 use Rattle.area.specs.Header.{entryIn, putOf, levelOf}
 use Rattle.area.specs.Pool.{onWay, noneOf}
-use Rattle.area.specs.Tree.{topOf}
 use Rattle.area.specs.Remove.{releaseOf, lastIndex}
 use Rattle.host.specs.Walk.{page}
 use Rattle.shadow.specs.declared.Left.{Left}
@@ -114,7 +113,7 @@ holderFrom c m e i (j ∷ is) = onWay (tableNamed c e) way.Not way.Bad (λ f. ho
 unfoldable pub dropPrefixOf : Config → Pool → List ℕ → List ℕ → After Left
 dropPrefixOf c p m [] = outcome noneOf true m
 dropPrefixOf c p m (i ∷ is) =
-    onWay (holderFrom c m (topOf (c .hosts) (p .fresh)) i is)
+    onWay (holderFrom c m (p .top) i is)
     (outcome p true m)
     (outcome p false m)
     (λ f. scanOf c (Slot (page f) (lastIndex i is)) p m)

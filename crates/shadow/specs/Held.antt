@@ -5,7 +5,7 @@ use mathlib.Core.Bool.{Bool, cond}
 use mathlib.Core.List.{List}
 use Rattle.spec.specs.Config.{Config}
 use Rattle.area.specs.declared.Area.{Area}
-use Rattle.area.specs.Tree.{topOf, lookOf}
+use Rattle.area.specs.Tree.{lookOf}
 use Rattle.host.specs.declared.HostWalk.{HostWalk}
 use Rattle.host.specs.Walk.{hostBy}
 
@@ -13,9 +13,9 @@ use Rattle.host.specs.Walk.{hostBy}
 abbrev pub shadowArea : Config → Area
 shadowArea c = record { base = c .hosts; size = c .shadows; levels = c .levels }
 
--- "A held path is a real shadow entry": what stands at the end of a path. Only the shadow entries on its way are read
+-- "A held path is a real shadow entry": what stands at the end of a path, from the entry of the top table on. Only the shadow entries on its way are read
 unfoldable pub heldOf : Config → List ℕ → ℕ → List ℕ → HostWalk
-heldOf c m fresh is = hostBy c (lookOf (c .hosts) (c .shadows) m (topOf (c .hosts) fresh) is 0)
+heldOf c m top is = hostBy c (lookOf (c .hosts) (c .shadows) m top is 0)
 
 -- the entry of a held path: bit 0 present, bit 1 writable, bit 9 the switch bit, from bit 12 on the host frame
 unfoldable pub entryFor : ℕ → Bool → Bool → ℕ

@@ -5,7 +5,7 @@ ghost use Prim.Native.Nat.{_+_, _-_, _<_, _≤_};
 ghost use Rattle.spec.specs.Entry.{index, indexes};
 ghost use Rattle.host.specs.Walk.{LayoutFits, config};
 ghost use Rattle.shadow.specs.Held.{shadowArea, heldOf, entryFor};
-ghost use Rattle.shadow.specs.Fill.{mappedOf, belowOf, trailOf, insertedOf, fillOf};
+ghost use Rattle.shadow.specs.Fill.{fillOf};
 ghost use Rattle.shadow.specs.Cut.{isLeaf, kindOf, watchesOf, watchedOf, cutOf, lowOf, endOf, touchOf, aboveOf, upFrom};
 ghost use Rattle.shadow.specs.Drop.{goesOf, clearOne, clearFrom, settleOf, sweepOf, visitOf, scanOf, tableNamed, holderFrom, dropPrefixOf};
 use area::Area;
@@ -62,11 +62,11 @@ pub fn shadow_area(l: Layout) -> Area
 }
 
 // What stands at the end of the path of the k low indexes of path.
-pub fn held(mem: &[u64], l: Layout, fresh: u64, path: u64, k: u64) -> HostWalk
+pub fn held(mem: &[u64], l: Layout, top: u64, path: u64, k: u64) -> HostWalk
     requires { ⌜ (LayoutFits l) × (k ≤ l .levels) ⌝ }
-    ensures { λ r. ⌜ r ≡ heldOf (config l) (now (mem .entry)) fresh (indexes k path) ⌝ }
+    ensures { λ r. ⌜ r ≡ heldOf (config l) (now (mem .entry)) top (indexes k path) ⌝ }
 {
-    match area::lookup(l.hosts, l.shadows, area::top(l.hosts, fresh), mem, path, k) {
+    match area::lookup(l.hosts, l.shadows, top, mem, path, k) {
         Look::Seen { entry, reads } => host::leaf(l, entry, reads),
         Look::Broken => HostWalk::Damaged,
     }
@@ -89,59 +89,21 @@ pub fn entry_for(frame: HostPhysical, switch: bool, writable: bool) -> u64
 
 // ---- fill
 
-// The host frame that a guest frame is mapped to, 0 if there is none.
-pub fn mapped(mem: &[u64], l: Layout, g: GuestPhysical) -> u64
-    requires { ⌜ LayoutFits l ⌝ }
-    ensures { λ r. ⌜ r ≡ mappedOf (config l) (now (mem .entry)) (g .0) ⌝ }
-{
-    match host::host_walk(mem, l, g) {
-        HostWalk::Found { page, writable } => page.0,
-        HostWalk::Absent { reads } => 0,
-        HostWalk::Damaged => 0,
-    }
-}
-
-// The host frame of what the entry at index i of the guest table in host frame t names.
-pub fn table_below(mem: &[u64], l: Layout, t: u64, i: u64) -> u64
-    requires { ⌜ (LayoutFits l) × (t < 1099511627776) × (i < 512) ⌝ }
-    ensures { λ r. ⌜ r ≡ belowOf (config l) (now (mem .entry)) t i ⌝ }
-{
-    let e = words::word_in(mem, t, i);
-    mapped(mem, l, GuestPhysical(entry::frame_of(e)))
-}
-
-// The host frames of the guest tables on the way of a path, by depth, the root's first.
-pub fn trail(mem: &[u64], l: Layout, root: GuestPhysical, path: u64, k: u64) -> [u64; 8]
-    requires { ⌜ (LayoutFits l) × (1 ≤ k) × (k ≤ l .levels) ⌝ }
-    ensures { λ r. ⌜ r ≡ trailOf (config l) (now (mem .entry)) (root .0) (indexes k path) ⌝ }
-{
-    let mut tables = [0u64; 8];
-    let mut t = mapped(mem, l, root);
-    tables[0] = t;
-    let mut left = k - 1;
-    let mut depth: usize = 0;
-    while left > 0 {
-        t = table_below(mem, l, t, area::index_at(path, left));
-        depth += 1;
-        tables[depth] = t;
-        left -= 1;
-    }
-    tables
-}
-
-// The entry of a path is set, with the tables that it lacks; where they find no room, everything is dropped first.
-pub fn insert_or_drop(
-    a: Area,
-    guests: &[u64],
-    p: Pool,
+// The path of the k low indexes of path gets its entry, with the tables that it lacks; where they find no room, everything is
+// dropped first. guests: the host frames of the guest tables that its tables stand for, the top one's first.
+pub fn fill(
     mem: &mut [u64],
+    l: Layout,
+    p: Pool,
+    guests: &[u64; 8],
     path: u64,
     k: u64,
     e: u64,
 ) -> Went
-    requires { ⌜ (a .base + a .size < 1099511627776) × (1 ≤ k) × (k ≤ 7) × (k ≤ a .levels) ⌝ }
-    ensures { λ r. ⌜ yields r (now (mem .exit)) ≡ insertedOf a (now (guests .entry)) p (now (mem .entry)) (indexes k path) e ⌝ }
+    requires { ⌜ (LayoutFits l) × (1 ≤ k) × (k ≤ l .levels) ⌝ }
+    ensures { λ r. ⌜ yields r (now (mem .exit)) ≡ fillOf (config l) (now (guests .entry)) p (now (mem .entry)) (indexes k path) e ⌝ }
 {
+    let a = shadow_area(l);
     let went = area::insert(a, guests, p, mem, path, k, e);
     let way = went.way;
     match way {
@@ -149,23 +111,6 @@ pub fn insert_or_drop(
         Way::Not => area::insert(a, guests, area::no_tables(), mem, path, k, e),
         Way::Bad => went,
     }
-}
-
-// The path of the k low indexes of path gets its entry.
-pub fn fill(
-    mem: &mut [u64],
-    l: Layout,
-    p: Pool,
-    root: GuestPhysical,
-    path: u64,
-    k: u64,
-    e: u64,
-) -> Went
-    requires { ⌜ (LayoutFits l) × (1 ≤ k) × (k ≤ l .levels) ⌝ }
-    ensures { λ r. ⌜ yields r (now (mem .exit)) ≡ fillOf (config l) p (now (mem .entry)) (root .0) (indexes k path) e ⌝ }
-{
-    let guests = trail(mem, l, root, path, k);
-    insert_or_drop(shadow_area(l), &guests, p, mem, path, k, e)
 }
 
 // ---- watched frames
@@ -564,7 +509,7 @@ pub fn drop_prefix(mem: &mut [u64], l: Layout, p: Pool, path: u64, k: u64) -> Le
             ok: true,
         };
     }
-    match holder(mem, l, area::top(l.hosts, p.fresh), path, k) {
+    match holder(mem, l, p.top, path, k) {
         Way::To(f) => scan(
             mem,
             l,

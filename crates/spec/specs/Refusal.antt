@@ -9,7 +9,9 @@ use lib.ListN.{length}
 use Rattle.spec.specs.Config.{Config, guestBase, addressBits, frameBits}
 use Rattle.spec.specs.Machine.{Machine, Mapping, with, isMapped, hostTables}
 use Rattle.spec.specs.Book.{Mark, Book, markAt, sameMark, isSet}
-use Rattle.spec.specs.Call.{Call, root, map, unmap, setMark, clearMark, load, store, device, addressIndexes}
+use Rattle.spec.specs.declared.Call.{Call}
+use Rattle.spec.specs.declared.Call.the-variants.{Root as root, Map as map, Unmap as unmap, SetMark as setMark, ClearMark as clearMark, Load as load, Store as store, Device as device}
+use Rattle.spec.specs.Call.{addressIndexes}
 
 abbrev pub firstFailed : List (Bool × ℕ) → Option ℕ
 firstFailed [] = none

@@ -14,7 +14,7 @@ use Rattle.area.specs.declared.Way.the-variants.{To, Not}
 use Rattle.area.specs.declared.Look.the-variants.{Seen, Broken}
 use Rattle.area.specs.Header.{entryIn}
 use Rattle.area.specs.Pool.{hopOf, onWay}
-use Rattle.area.specs.Tree.{topOf, lookOf, roomOf}
+use Rattle.area.specs.Tree.{lookOf, roomOf}
 use Rattle.tree.proofs.Change.{upd, upd-other}
 use Rattle.tree.proofs.Invariant.{slot, hop-zero, Tables, none-below, hop-table}
 use Rattle.tree.proofs.Paths.{onto, Small, Clear}
@@ -102,9 +102,9 @@ module _ {a : Area} {p : Pool} {ts : List ℕ → Option ℕ} {lv guest : List �
 
   -- from the top: never broken
   pub lookup-is : (is : List ℕ) → Clear lv [] is → Small is → ts (onto [] is) ≡ none
-      → lookOf (a .base) (a .size) m (topOf (a .base) (p .fresh)) is 0 ≡ Seen (lv (onto [] is)) (steps ts [] is)
+      → lookOf (a .base) (a .size) m (p .top) is 0 ≡ Seen (lv (onto [] is)) (steps ts [] is)
   lookup-is is c l t =
-      look-is [] is (topOf (a .base) (p .fresh)) 0 (g .top ∙ ap (slot (ts [])) (sym (g .root))) c l t ∙ ap (Seen (lv (onto [] is))) (omega arith)
+      look-is [] is (p .top) 0 (g .top ∙ ap (slot (ts [])) (sym (g .root))) c l t ∙ ap (Seen (lv (onto [] is))) (omega arith)
 
   -- ---- the tables that a path lacks, and room for them exactly if they and those in use are no more than the frames
   missing : (is : List ℕ) → length is - steps ts [] is ≡ lacks ts [] is

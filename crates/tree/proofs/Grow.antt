@@ -10,7 +10,7 @@ use mathlib.Core.List.{List, [], _∷_, head-eq-of-cons-eq, tail-eq-of-cons-eq}
 use mathlib.Core.Option.{Option, none, some, IsSome}
 use lib.Dec.{not-T}
 use lib.ListN.{length}
-use borrow.Author.Tests.{lt-ltb, eq-eqb}
+use borrow.Author.Tests.{lt-ltb}
 use Rattle.spec.specs.Entry.{present}
 use Rattle.spec.specs.Prefix.{same, any}
 use Rattle.words.specs.Words.{at, wordIn, zeroed}
@@ -18,13 +18,13 @@ use Rattle.area.specs.declared.Area.{Area}
 use Rattle.area.specs.declared.Pool.{Pool}
 use Rattle.area.specs.declared.Way.the-variants.{To, Not}
 use Rattle.area.specs.Header.{entryIn, putOf, guestOf, levelOf, parentOf, slotOf, headOf}
-use Rattle.area.specs.Pool.{link, hopOf, end, poolOf, freshOf, freedOf, takeOf}
+use Rattle.area.specs.Pool.{link, hopOf, end, poolOf, withTop, freshOf, freedOf, takeOf}
 use Rattle.area.specs.Tree.{topOf, tableOf, enterOf, hangOf}
 use Rattle.laws.proofs.Lists.{same-is, or-cases, or-right}
 use Rattle.laws.proofs.Distinct.{In, in-head}
 use Rattle.tree.proofs.Change.{eq?, upd, upd-on, upd-at, upd-other, longer, no-empty, some-inj, not-some, is-some}
 use Rattle.tree.proofs.Stores.{SameHead, frame-head, frame-entry, trans-head, at-inj, Beside, beside-one, beside-trans, put-length, put-here, put-other, put-else, put-head, Empty, empty-is}
-use Rattle.tree.proofs.Invariant.{slot, link-small, hop-link, hop-zero, Mem, NoDup, Chain, chain-keep, Tables, top-some, none-below, fresh-none, frame-small, place-fits, place-inj}
+use Rattle.tree.proofs.Invariant.{slot, link-small, hop-link, hop-zero, Mem, NoDup, Chain, chain-keep, Tables, none-below, frame-small, place-fits, place-inj}
 
 -- ---- a frame is taken: what is known of it and of the next pool, over the old memory
 pub record Took (a : Area) (p : Pool) (ts : List ℕ → Option ℕ) (fl : List ℕ) (m : List ℕ) (q : Pool) (kl : List ℕ) (f : ℕ) : Type 0 where
@@ -41,7 +41,7 @@ pub record Took (a : Area) (p : Pool) (ts : List ℕ → Option ℕ) (fl : List 
   pub nodup : NoDup kl
   pub out : Mem f kl → ⊥
   pub chain : Chain m (q .free) kl
-  pub first : p .fresh ≡ 0 → f ≡ a .base
+  pub top : q .top ≡ p .top
 
 pub record Take (a : Area) (p : Pool) (ts : List ℕ → Option ℕ) (fl : List ℕ) (m : List ℕ) : Type 0 where
   pub pool : Pool
@@ -54,7 +54,7 @@ pub take-is : {a : Area} {p : Pool} {ts : List ℕ → Option ℕ} {lv guest : L
     → Tables a p ts lv guest fl ps m → p .used < a .size → Take a p ts fl m
 unfolding takeOf freshOf freedOf
 take-is {a = a} {p = p} {ts = ts} {fl = []} {m = m} g l = record {
-  pool = poolOf (p .fresh + 1) (p .free) (p .used + 1);
+  pool = poolOf (p .fresh + 1) (p .free) (p .used + 1) (p .top);
   list = [];
   frame = a .base + p .fresh;
   took = record {
@@ -75,11 +75,11 @@ take-is {a = a} {p = p} {ts = ts} {fl = []} {m = m} g l = record {
     nodup = tt;
     out = λ h. h;
     chain = g .chain;
-    first = λ e. omega arith;
+    top = refl;
   };
 }
 take-is {a = a} {p = p} {ts = ts} {fl = f ∷ fl} {m = m} g l = record {
-  pool = poolOf (p .fresh) (wordIn m f 0) (p .used + 1);
+  pool = poolOf (p .fresh) (wordIn m f 0) (p .used + 1) (p .top);
   list = fl;
   frame = f;
   took = record {
@@ -100,14 +100,14 @@ take-is {a = a} {p = p} {ts = ts} {fl = f ∷ fl} {m = m} g l = record {
     nodup = g .nodup .1;
     out = g .nodup .0;
     chain = g .chain .1;
-    first = λ e. let n = g .count in absurd (omega arith);
+    top = refl;
   };
 }
 
 module _ {a : Area} {p : Pool} {ts : List ℕ → Option ℕ} {lv guest : List ℕ → ℕ} {fl : List ℕ} {ps : List (List ℕ)} {m : List ℕ}
     (g : Tables a p ts lv guest fl ps m) where
-  -- ---- the frame f, just taken, is the table of the prefix x in the memory n
-  pub record Adopt (q : Pool) (kl : List ℕ) (f : ℕ) (x : List ℕ) (n : List ℕ) : Type 0 where
+  -- ---- the frame f, just taken, is the table of the prefix x in the memory n; t is the top table's entry then
+  pub record Adopt (q : Pool) (t : ℕ) (kl : List ℕ) (f : ℕ) (x : List ℕ) (n : List ℕ) : Type 0 where
     pub took : Took a p ts fl m q kl f
     pub len : length n ≡ length m
     pub bare : ts x ≡ none
@@ -116,13 +116,14 @@ module _ {a : Area} {p : Pool} {ts : List ℕ → Option ℕ} {lv guest : List �
     pub rest : (y : List ℕ) (h j : ℕ) → ts y ≡ some h → j < 512 → entryIn n h j ≡ slot (upd ts x (some f) (j ∷ y)) (lv (j ∷ y))
     pub heads : (h : ℕ) → h ≢ f → SameHead m n h
     pub links : (h : ℕ) → Mem h kl → wordIn n h 0 ≡ wordIn m h 0
-    pub top : topOf (a .base) (q .fresh) ≡ slot (upd ts x (some f) []) 0
+    pub top : t ≡ slot (upd ts x (some f) []) 0
     pub level : (levelOf n f + length x ≡ a .levels) × (length x < a .levels)
     pub link : (i : ℕ) (y : List ℕ) → i ∷ y ≡ x → (ts y ≡ some (parentOf n f)) × (slotOf n f ≡ i)
     pub gives : guestOf n f ≡ guest x
 
-  pub adopt : (q : Pool) (kl : List ℕ) (f : ℕ) (x : List ℕ) (n : List ℕ) → Adopt q kl f x n → Tables a q (upd ts x (some f)) lv guest kl (x ∷ ps) n
-  adopt q kl f x n c = record {
+  pub adopt : (q : Pool) (t : ℕ) (kl : List ℕ) (f : ℕ) (x : List ℕ) (n : List ℕ) → Adopt q t kl f x n → Tables a (withTop q t) (upd ts x (some f)) lv guest kl (x ∷ ps) n
+  unfolding withTop
+  adopt q t kl f x n c = record {
     small = g .small;
     flat = g .flat;
     long = rw (c .len) (g .long);
@@ -243,14 +244,14 @@ module _ {a : Area} {p : Pool} {ts : List ℕ → Option ℕ} {lv guest : List �
 
   pub hang-is : (h i : ℕ) (x : List ℕ) → ts x ≡ some h → i < 512 → ts (i ∷ x) ≡ none → lv (i ∷ x) ≡ 0
       → length (i ∷ x) < a .levels → guest (i ∷ x) < 65536 → p .used < a .size → Hung h i x
-  unfolding hangOf tableOf
+  unfolding hangOf tableOf withTop
   hang-is h i x tx hi bare leaf deep thin l = record {
     pool = t .pool;
     list = t .list;
     frame = f;
     memory = n;
     done = rw (k .taken);
-    tables = adopt (t .pool) (t .list) f (i ∷ x) n (record {
+    tables = adopt (t .pool) (t .pool .top) (t .list) f (i ∷ x) n (record {
       took = k;
       len = put-length z h i (link f) ∙ e .long;
       bare = bare;
@@ -308,60 +309,64 @@ module _ {a : Area} {p : Pool} {ts : List ℕ → Option ℕ} {lv guest : List �
           ∙ frame-entry m z d j (e .else d (λ c. k .new y (ty ∙ ap some c))) hj ∙ g .word y d j ty hj
           ∙ sym (ap (λ o. slot o (lv (j ∷ y))) (upd-other ts (i ∷ x) (some f) (j ∷ y) q))
 
-      top : topOf (a .base) (t .pool .fresh) ≡ slot (upd ts (i ∷ x) (some f) []) 0
-      top =
-          let c = g .inside x h tx in
-          let v = k .more in
-          top-some (a .base) (t .pool .fresh) (omega arith) ∙ sym (top-some (a .base) (p .fresh) (omega arith)) ∙ g .top
-          ∙ sym (ap (λ o. slot o 0) (upd-other ts (i ∷ x) (some f) [] (no-empty i x)))
+      top : t .pool .top ≡ slot (upd ts (i ∷ x) (some f) []) 0
+      top = k .top ∙ g .top ∙ sym (ap (λ o. slot o 0) (upd-other ts (i ∷ x) (some f) [] (no-empty i x)))
 
   -- ---- the top table is handed out
   pub record Entered : Type 0 where
     pub pool : Pool
     pub list : List ℕ
+    pub frame : ℕ
     pub memory : List ℕ
-    pub done : enterOf a p m (guest []) ≡ end pool (To (a .base)) memory
-    pub tables : Tables a pool (upd ts [] (some (a .base))) lv guest list ([] ∷ ps) memory
+    pub done : enterOf a p m (guest []) ≡ end pool (To frame) memory
+    pub tables : Tables a pool (upd ts [] (some frame)) lv guest list ([] ∷ ps) memory
     pub used : pool .used ≡ p .used + 1
     pub beside : Beside a m memory
 
   pub enter-is : ts [] ≡ none → 0 < a .levels → guest [] < 65536 → p .used < a .size → Entered
-  unfolding enterOf tableOf
+  unfolding enterOf topOf tableOf withTop
   enter-is bare deep thin l = record {
-    pool = t .pool;
+    pool = withTop (t .pool) (link f);
     list = t .list;
+    frame = f;
     memory = z;
-    done = rw (eq-eqb _ _ (fresh-none g bare), k .taken);
-    tables = adopt (t .pool) (t .list) (a .base) [] z (record {
+    done = rw (none-there, k .taken);
+    tables = adopt (t .pool) (link f) (t .list) f [] z (record {
       took = k;
       len = e .long;
       bare = bare;
       leaf = g .root;
       zeros = e .zeros;
       rest = λ y d j ty hj. frame-entry m z d j (e .else d (λ c. k .new y (ty ∙ ap some c))) hj ∙ g .word y d j ty hj
-          ∙ sym (ap (λ o. slot o (lv (j ∷ y))) (upd-other ts [] (some (a .base)) (j ∷ y) (λ q. no-empty j y (sym q))));
+          ∙ sym (ap (λ o. slot o (lv (j ∷ y))) (upd-other ts [] (some f) (j ∷ y) (λ q. no-empty j y (sym q))));
       heads = λ d ne. frame-head m z d (e .else d ne);
       links = λ d c. e .else d (λ q. k .out (subst (λ u. Mem u (t .list)) q c)) 0 (omega arith);
-      top = let h = k .high in top-some (a .base) (t .pool .fresh) (omega arith) ∙ sym (ap (λ o. slot o 0) (upd-at ts [] (some (a .base))));
+      top = sym (ap (λ o. slot o 0) (upd-at ts [] (some f)));
       level = (rw (e .level) (omega arith), deep);
       link = λ j y q. absurd (no-empty j y q);
       gives = e .guest;
     });
     used = k .used;
-    beside = beside-one a m z (a .base) (k .low) (omega (arith, k .high, k .room)) (e .long) (e .else);
+    beside = beside-one a m z f (k .low) (omega (arith, k .high, k .room)) (e .long) (e .else);
   }
     where
+      none-there : hopOf (a .base) (a .size) (p .top) ≡ Not
+      none-there = ap (hopOf (a .base) (a .size)) (g .top ∙ ap (λ o. slot o 0) bare) ∙ hop-zero (a .base) (a .size)
+
       t : Take a p ts fl m
       t = take-is g l
 
-      k : Took a p ts fl m (t .pool) (t .list) (a .base)
-      k = subst (Took a p ts fl m (t .pool) (t .list)) (t .took .first (fresh-none g bare)) (t .took)
+      f : ℕ
+      f = t .frame
+
+      k : Took a p ts fl m (t .pool) (t .list) f
+      k = t .took
 
       z : List ℕ
-      z = headOf (zeroed m (a .base * 512) 512) (a .base) (guest []) (a .levels) 0 0
+      z = headOf (zeroed m (f * 512) 512) f (guest []) (a .levels) 0 0
 
-      e : Empty m z (a .base) (guest []) (a .levels) 0 0
-      e = empty-is m (a .base) (guest []) (a .levels) 0 0 (omega (arith, k .high, k .room, g .long)) thin (g .flat) (omega arith) (omega arith)
+      e : Empty m z f (guest []) (a .levels) 0 0
+      e = empty-is m f (guest []) (a .levels) 0 0 (omega (arith, k .high, k .room, g .long)) thin (g .flat) (omega arith) (omega arith)
 
   -- ---- an entry is put where no table hangs
   pub put-leaf : (h i : ℕ) (x : List ℕ) (e : ℕ) → ts x ≡ some h → i < 512 → ts (i ∷ x) ≡ none → e < 4503599627370496 → (e ≢ 0 → present e ≡ true)

@@ -5,9 +5,9 @@ use Prim.Native.Nat.{ℕ, zero, suc, _+_, _*_, _/_, _%_, _^_, _<_, _≤_}
 use native.Mathlib.Omega.{arith}
 use mathlib.Core.Bool.{Bool, true, false, cond}
 use mathlib.Core.List.{List, [], _∷_}
-use mathlib.Core.Option.{Option, none, some, IsSome}
+use mathlib.Core.Option.{Option, none, some}
 use lib.Dec.{eqb}
-use borrow.Author.Tests.{eqb-true, eqb-false, eq-eqb, ne-eqb}
+use borrow.Author.Tests.{eq-eqb}
 use Rattle.spec.specs.Config.{Config}
 use Rattle.spec.specs.Entry.{bitSet, present, writable, frameOf, index, indexes}
 use Rattle.spec.specs.Prefix.{same}
@@ -18,15 +18,15 @@ use Rattle.area.specs.declared.Area.{Area}
 use Rattle.area.specs.declared.Pool.{Pool}
 use Rattle.area.specs.declared.Way.the-variants.{Not}
 use Rattle.area.specs.declared.Look.the-variants.{Seen}
-use Rattle.area.specs.Pool.{link, end}
-use Rattle.area.specs.Tree.{topOf, lookOf, insertOf}
+use Rattle.area.specs.Pool.{end}
+use Rattle.area.specs.Tree.{lookOf, insertOf}
 use Rattle.area.specs.Remove.{removeOf}
 use Rattle.tree.specs.Run.{get, without, paths, wordsRead}
 use Rattle.tree.specs.Host.{hostEntry, entryBy, hostMap}
 use Rattle.laws.proofs.Lists.{All}
 use Rattle.tree.proofs.Change.{differ, upd}
 use Rattle.tree.proofs.Paths.{onto, turn-turn, Small}
-use Rattle.tree.proofs.Invariant.{present-set, top-some, fresh-some}
+use Rattle.tree.proofs.Invariant.{present-set}
 use Rattle.tree.proofs.Find.{steps}
 use Rattle.tree.proofs.Whole.{Holds, Fits, holds-look, Next, next-leaves, holds-remove, holds-absent}
 use Rattle.tree.proofs.Count.{Lists, insert-next, insert-not, reads-leaf, reads-is}
@@ -133,7 +133,7 @@ module _ (c : Config) (g : ℕ) (small : g < 2 ^ (9 * c .levels)) where
     there = ap (get (hostMap c xs)) (turn-turn is) ∙ host-get xs k
 
     -- a host walk finds what the mapping says, and reads as many words
-    pub host-look : lookOf (a .base) (a .size) m (topOf (a .base) (p .fresh)) (indexes (c .levels) g) 0 ≡ Seen (entryBy (lookup g xs)) (hostCost c xs g)
+    pub host-look : lookOf (a .base) (a .size) m (p .top) (indexes (c .levels) g) 0 ≡ Seen (entryBy (lookup g xs)) (hostCost c xs g)
     unfolding is hostCost
     host-look = holds-look h is fits ∙ ap₂ Seen there (cost (lookup g xs) refl)
       where
@@ -142,14 +142,6 @@ module _ (c : Config) (g : ℕ) (small : g < 2 ^ (9 * c .levels)) where
         cost (some r) e =
             reads-leaf h is fits (λ z. present-set (hostEntry (r .0) (r .1)) (entry-present (r .0) (r .1)) (sym (there ∙ ap entryBy e) ∙ z))
             ∙ indexes-length (c .levels) g
-
-    -- the top table stands in the area's first frame
-    pub host-top : topOf (a .base) (p .fresh) ≡ link (a .base)
-    host-top = go (h .tabs []) refl (h .top tt)
-      where
-        go : (o : Option ℕ) → h .tabs [] ≡ o → IsSome o → topOf (a .base) (p .fresh) ≡ link (a .base)
-        go none e t = absurd t
-        go (some f) e t = top-some (a .base) (p .fresh) (fresh-some (h .tables) f e .0)
 
     -- ---- a frame is mapped: "10 exactly if the host tables, counted as different proper prefixes of mapped frames, would exceed H"
     module _ (f : ℕ) (w : Bool) where

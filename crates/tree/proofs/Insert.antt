@@ -8,7 +8,6 @@ use mathlib.Core.Bool.{true}
 use mathlib.Core.List.{List, [], _∷_}
 use mathlib.Core.Option.{Option, none, some, IsSome}
 use lib.ListN.{length, getD}
-use borrow.Author.Tests.{ne-eqb}
 use Rattle.spec.specs.Entry.{present}
 use Rattle.area.specs.declared.Area.{Area}
 use Rattle.area.specs.declared.Pool.{Pool}
@@ -18,7 +17,7 @@ use Rattle.area.specs.Pool.{hopOf, end}
 use Rattle.area.specs.Tree.{roomOf, enterOf, hangOf, descendOf, downOf, placeOf, insertOf}
 use Rattle.tree.proofs.Change.{eq?, upd, upd-on, upd-at, upd-other, not-some, is-some}
 use Rattle.tree.proofs.Stores.{Beside, beside-trans}
-use Rattle.tree.proofs.Invariant.{slot, hop-zero, Tables, hop-table, fresh-some}
+use Rattle.tree.proofs.Invariant.{slot, hop-zero, Tables, hop-table}
 use Rattle.tree.proofs.Grow.{Hung, hang-is, enter-is, set-leaf, put-beside}
 use Rattle.tree.proofs.Paths.{onto, onto-other, Small, Pre, Clear, Guests}
 use Rattle.tree.proofs.Find.{lacks, lacks-upd, lacks-some, lacks-none, lacks-leaf, room-fits, room-full}
@@ -138,9 +137,9 @@ place-on : (a : Area) (gs : List ℕ) (p : Pool) (m : List ℕ) (i : ℕ) (is : 
 unfolding placeOf
 place-on a gs p m i is e q n h c = rw c
 
-enter-old : (a : Area) (p : Pool) (m : List ℕ) (gu : ℕ) → 0 < p .fresh → enterOf a p m gu ≡ end p (To (a .base)) m
+enter-old : (a : Area) (p : Pool) (m : List ℕ) (gu f : ℕ) → hopOf (a .base) (a .size) (p .top) ≡ To f → enterOf a p m gu ≡ end p (To f) m
 unfolding enterOf
-enter-old a p m gu l = let n : p .fresh ≢ 0 = (λ e. omega arith) in rw (ne-eqb _ _ n)
+enter-old a p m gu f e = rw e
 
 -- where there is room an insert is a placing
 pub insert-place : (a : Area) (gs : List ℕ) (p : Pool) (m : List ℕ) (i : ℕ) (is : List ℕ) (e n : ℕ) → roomOf a p m (i ∷ is) ≡ To n → insertOf a gs p m (i ∷ is) e ≡ placeOf a gs p m i is e
@@ -205,16 +204,16 @@ module _ {a : Area} {p : Pool} {ts : List ℕ → Option ℕ} {lv guest : List �
     where
       go : (o : Option ℕ) → ts [] ≡ o → Placed a p m ts lv guest (placeOf a gs p m i is e) [] (i ∷ is) e
       go (some h) c =
-          let k = fresh-some g h c in
-          placed-old [] i is e h c (place-on a gs p m i is e p m (a .base) (enter-old a p m (getD gs 0 0) (k .0)))
-          (down-is g gs [] 0 (a .base) i is e refl (c ∙ ap some (k .1)) (r .small .0) (route-tail [] i is r) thin set
+          let there : hopOf (a .base) (a .size) (p .top) ≡ To h = ap (hopOf (a .base) (a .size)) (g .top ∙ ap (λ o. slot o 0) c) ∙ hop-table g [] h c in
+          placed-old [] i is e h c (place-on a gs p m i is e p m h (enter-old a p m (getD gs 0 0) h there))
+          (down-is g gs [] 0 h i is e refl c (r .small .0) (route-tail [] i is r) thin set
           (subst (λ k. p .used + k ≤ a .size) (lacks-some ts [] i is h c) room))
       go none c =
           let u = enter-is g c (let s = r .short in omega arith) (r .gives .1) (let k = lacks-none ts [] i is c in omega (arith, room)) in
-          placed-new [] i is e (a .base) c (u .used) (u .beside)
-          (place-on a gs p m i is e (u .pool) (u .memory) (a .base) (ap (enterOf a p m) (r .gives .0) ∙ u .done))
-          (down-is (u .tables) gs [] 0 (a .base) i is e refl (upd-at ts [] (some (a .base))) (r .small .0) (route-upd [] i is (some (a .base)) (route-tail [] i is r)) thin set
-          (let k = u .used in let n = lacks-none ts [] i is c in let v = lacks-upd ts [] (some (a .base)) (i ∷ []) is (omega arith) in omega (arith, room)))
+          placed-new [] i is e (u .frame) c (u .used) (u .beside)
+          (place-on a gs p m i is e (u .pool) (u .memory) (u .frame) (ap (enterOf a p m) (r .gives .0) ∙ u .done))
+          (down-is (u .tables) gs [] 0 (u .frame) i is e refl (upd-at ts [] (some (u .frame))) (r .small .0) (route-upd [] i is (some (u .frame)) (route-tail [] i is r)) thin set
+          (let k = u .used in let n = lacks-none ts [] i is c in let v = lacks-upd ts [] (some (u .frame)) (i ∷ []) is (omega arith) in omega (arith, room)))
 
   -- room exactly if the tables in use and the missing ones fit
   pub insert-is : e < 4503599627370496 → present e ≡ true → p .used + lacks ts [] (i ∷ is) ≤ a .size

@@ -8,9 +8,9 @@ use native.Mathlib.Omega.{arith}
 use mathlib.Core.Bool.{Bool, true, false}
 use mathlib.Core.List.{List, [], _∷_}
 use mathlib.Core.Option.{Option, none, some, IsSome}
-use lib.Dec.{T, eqb}
+use lib.Dec.{T}
 use lib.ListN.{length}
-use borrow.Author.Tests.{eqb-true, eqb-false, lt-ltb, le-ltb, eq-eqb, ne-eqb}
+use borrow.Author.Tests.{lt-ltb, le-ltb, eq-eqb}
 use Rattle.spec.specs.Entry.{bitSet, present, switch, frameOf}
 use Rattle.words.specs.Words.{at, wordIn}
 use Rattle.area.specs.declared.Area.{Area}
@@ -18,7 +18,6 @@ use Rattle.area.specs.declared.Pool.{Pool}
 use Rattle.area.specs.declared.Way.the-variants.{To, Not}
 use Rattle.area.specs.Header.{entryIn, guestOf, levelOf, parentOf, slotOf, insideOf}
 use Rattle.area.specs.Pool.{link, hopOf}
-use Rattle.area.specs.Tree.{topOf}
 use Rattle.laws.proofs.Distinct.{In, Once}
 use Rattle.tree.proofs.Change.{not-some, is-some}
 use Rattle.tree.proofs.Paths.{Ext}
@@ -102,8 +101,8 @@ pub record Tables (a : Area) (p : Pool) (ts : List ℕ → Option ℕ) (lv guest
   pub inj : (x y : List ℕ) (f : ℕ) → ts x ≡ some f → ts y ≡ some f → x ≡ y
   -- an entry of a table names the table below, or is the leaf
   pub word : (x : List ℕ) (f i : ℕ) → ts x ≡ some f → i < 512 → entryIn m f i ≡ slot (ts (i ∷ x)) (lv (i ∷ x))
-  -- the top table is in the area's first frame
-  pub top : topOf (a .base) (p .fresh) ≡ slot (ts []) 0
+  -- the pool names the top table
+  pub top : p .top ≡ slot (ts []) 0
   -- a leaf stands in a table, at an index of it, where no table hangs, and its entry is present
   pub root : lv [] ≡ 0
   pub below : (i : ℕ) (x : List ℕ) → ts x ≡ none → lv (i ∷ x) ≡ 0
@@ -143,10 +142,6 @@ slot-small : (m : List ℕ) (f : ℕ) → slotOf m f < 512
 unfolding slotOf
 slot-small m f = omega arith
 
-pub top-some : (b n : ℕ) → 0 < n → topOf b n ≡ link b
-unfolding topOf
-top-some b n l = let k : n ≢ 0 = (λ e. omega arith) in rw (ne-eqb _ _ k)
-
 module _ {a : Area} {p : Pool} {ts : List ℕ → Option ℕ} {lv guest : List ℕ → ℕ} {fl : List ℕ} {ps : List (List ℕ)} {m : List ℕ}
     (g : Tables a p ts lv guest fl ps m) where
   -- the table above one that stands
@@ -184,21 +179,6 @@ module _ {a : Area} {p : Pool} {ts : List ℕ → Option ℕ} {lv guest : List �
   pub rooted : (x : List ℕ) (f : ℕ) → ts x ≡ some f → IsSome (ts [])
   rooted [] f e = is-some e
   rooted (i ∷ x) f e = let k = above i x f e in rooted x (k .frame) (k .stands)
-
-  pub fresh-none : ts [] ≡ none → p .fresh ≡ 0
-  fresh-none e = go (eqb (p .fresh) 0) refl
-    where
-      go : (t : Bool) → eqb (p .fresh) 0 ≡ t → p .fresh ≡ 0
-      go true q = eqb-true _ _ q
-      go false q =
-          let n = eqb-false (p .fresh) 0 q in
-          absurd (link-set (a .base) (sym (top-some (a .base) (p .fresh) (omega (arith, n))) ∙ g .top ∙ ap (λ o. slot o 0) e))
-
-  pub fresh-some : (f : ℕ) → ts [] ≡ some f → (0 < p .fresh) × (f ≡ a .base)
-  fresh-some f e =
-      let k = g .inside [] f e in
-      let l : 0 < p .fresh = omega arith in
-      (l, sym (link-inj (a .base) f (sym (top-some (a .base) (p .fresh) l) ∙ g .top ∙ ap (λ o. slot o 0) e)))
 
   -- a table's frame: in the area, and so a number that an entry and a header hold
   pub frame-small : (x : List ℕ) (f : ℕ) → ts x ≡ some f → (f < a .base + a .size) × (f < 65536)

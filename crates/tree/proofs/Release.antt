@@ -10,16 +10,16 @@ use mathlib.Core.Option.{Option, none, some, IsSome}
 use lib.Dec.{T}
 use lib.ListN.{length}
 use Rattle.spec.specs.Entry.{present}
-use Rattle.words.specs.Words.{setIn}
 use Rattle.area.specs.declared.Area.{Area}
 use Rattle.area.specs.declared.Pool.{Pool}
 use Rattle.area.specs.declared.Way.the-variants.{To, Not}
 use Rattle.area.specs.Header.{levelOf, parentOf, bareOf}
-use Rattle.area.specs.Pool.{end, noneOf, giveOf}
+use Rattle.area.specs.Pool.{end, withTop, giveOf, backOf}
 use Rattle.area.specs.Remove.{unhangOf, shutOf, releaseOf}
+use Rattle.laws.proofs.Distinct.{without}
 use Rattle.tree.proofs.Change.{differ, eq?, upd, upd-on, upd-other, longer, not-some, is-some}
 use Rattle.tree.proofs.Stores.{Beside, beside-refl, beside-trans}
-use Rattle.tree.proofs.Invariant.{slot, present-zero, Tables, Leaf, Exact, rooted, fresh-some}
+use Rattle.tree.proofs.Invariant.{slot, present-zero, Tables, Leaf, Exact, rooted}
 use Rattle.tree.proofs.Shrink.{Busy, bare-false, Unhung, unhung, unhang-is, unhang-not, shut-is, shut-not}
 use Rattle.tree.proofs.Paths.{Ext, ext-empty, ext-trans, ext-long}
 use Rattle.words.specs.After.{After}
@@ -60,8 +60,8 @@ pub record Released (a : Area) (stays : Bool) (p : Pool) (m : List ℕ) (ts : Li
   pub tables : Tables a pool tabs lv guest list pres memory
   pub exact : Exact stays tabs lv
   pub top : T stays → IsSome (tabs [])
-  -- while the top table stands, as many frames were handed out as before
-  pub fresh : IsSome (tabs []) → pool .fresh ≡ p .fresh
+  -- as many frames were handed out as before
+  pub fresh : pool .fresh ≡ p .fresh
   pub less : (y : List ℕ) (f : ℕ) → tabs y ≡ some f → ts y ≡ some f
   -- of the frames handed out before, each is no table or one that is left
   pub each : (f : ℕ) → a .base ≤ f → f < a .base + p .fresh → (levelOf memory f ≡ 0) ⊎ ((y : List ℕ) × (tabs y ≡ some f))
@@ -81,6 +81,10 @@ release-end a stays p m k f q n e = rw e
 fresh-give : (p : Pool) (f : ℕ) → giveOf p f .fresh ≡ p .fresh
 unfolding giveOf
 fresh-give p f = refl
+
+fresh-shut : (p : Pool) (f : ℕ) → giveOf (withTop p 0) f .fresh ≡ p .fresh
+unfolding giveOf withTop
+fresh-shut p f = refl
 
 module _ {a : Area} {p : Pool} {ts : List ℕ → Option ℕ} {lv guest : List ℕ → ℕ} {fl : List ℕ} {ps : List (List ℕ)} {m : List ℕ}
     (g : Tables a p ts lv guest fl ps m) where
@@ -124,44 +128,52 @@ module _ {a : Area} {p : Pool} {ts : List ℕ → Option ℕ} {lv guest : List �
     tables = g;
     exact = ex;
     top = λ k. top;
-    fresh = λ k. refl;
+    fresh = refl;
     less = λ y h e. e;
     each = g .each;
     beside = beside-refl a m;
   }
 
-  -- the top table
-  last : (stays : Bool) (h : ℕ) → ts [] ≡ some h → ButAbove ts lv [] → Released a stays p m ts lv guest (shutOf a stays p m)
+  -- the top table h
+  last : (stays : Bool) (h : ℕ) → ts [] ≡ some h → ButAbove ts lv [] → Released a stays p m ts lv guest (shutOf stays p m h)
   unfolding shutOf
-  last true h e all = stop true (a .base) refl
+  last true h e all = stop true h refl
       (λ y k. elim (all y k) [ inl c ↦ inr (c, tt) | inr c ↦ elim c [ inl r ↦ absurd r | inr r ↦ inl r ] ]) (is-some e)
-  last false h e all = go (bareOf m (a .base) 512) refl
+  last false h e all = go (bareOf m h 512) refl
     where
-      at-base : ts [] ≡ some (a .base)
-      at-base = e ∙ ap some (fresh-some g h e .1)
+      old : (y : List ℕ) (f : ℕ) → upd ts [] none y ≡ some f → Dec ([] ≡ y) → ts y ≡ some f
+      old y f c (yes q) = absurd (not-some (upd-on ts [] none y q) c)
+      old y f c (no q) = sym (upd-other ts [] none y q) ∙ c
 
-      go : (t : Bool) → bareOf m (a .base) 512 ≡ t → Released a false p m ts lv guest (shutOf a false p m)
+      rest : (y : List ℕ) → IsSome (upd ts [] none y) → Dec ([] ≡ y) → Leaf lv y
+      rest y k (yes q) = absurd (subst IsSome (upd-on ts [] none y q) k)
+      rest y k (no q) = elim (all y (subst IsSome (upd-other ts [] none y q) k)) [
+        | inl c ↦ absurd (q (sym c))
+        | inr c ↦ elim c [ inl r ↦ absurd r | inr r ↦ r ]
+      ]
+
+      go : (t : Bool) → bareOf m h 512 ≡ t → Released a false p m ts lv guest (shutOf false p m h)
       go true b =
           let s = shut-is g h e b in
           record {
-            pool = noneOf;
-            tabs = λ y. none;
-            list = [];
-            pres = [];
-            memory = setIn m (a .base) 1 0;
-            frame = a .base;
+            pool = giveOf (withTop p 0) h;
+            tabs = upd ts [] none;
+            list = h ∷ fl;
+            pres = without [] ps;
+            memory = backOf m h (p .free);
+            frame = h;
             done = s .done;
             tables = s .tables;
-            exact = λ y k. absurd k;
+            exact = λ y k. inl (rest y k (eq? [] y));
             top = λ k. absurd k;
-            fresh = λ k. absurd k;
-            less = λ y f c. absurd (not-some refl c);
-            each = λ f lo hi. inl (s .levels f lo hi);
+            fresh = fresh-shut p h;
+            less = λ y f c. old y f c (eq? [] y);
+            each = λ f lo hi. s .tables .each f lo (rw fresh-shut hi);
             beside = s .beside;
           }
-      go false b = stop false (a .base) (shut-not g b)
+      go false b = stop false h (shut-not g h b)
           (λ y k. elim (all y k) [
-            | inl c ↦ inl (subst (Leaf lv) (sym c) (busy [] (a .base) at-base b all))
+            | inl c ↦ inl (subst (Leaf lv) (sym c) (busy [] h e b all))
             | inr c ↦ elim c [ inl r ↦ absurd r | inr r ↦ inl r ]
           ]) (is-some e)
 
@@ -202,7 +214,7 @@ release-is {a = a} {p = p} {ts = ts} {lv = lv} {guest = guest} {m = m} g stays (
           tables = d .tables;
           exact = d .exact;
           top = d .top;
-          fresh = λ k. d .fresh k ∙ fresh-give p f;
+          fresh = d .fresh ∙ fresh-give p f;
           less = λ y h t. fewer y h (d .less y h t) (eq? (i ∷ x) y);
           each = λ h lo hi. d .each h lo (rw fresh-give hi);
           beside = beside-trans (u .beside) (d .beside);

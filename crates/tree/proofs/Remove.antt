@@ -14,7 +14,6 @@ use Rattle.area.specs.declared.Way.{Way}
 use Rattle.area.specs.declared.Way.the-variants.{To, Not, Bad}
 use Rattle.area.specs.Header.{entryIn, putOf}
 use Rattle.area.specs.Pool.{hopOf, onWay, end}
-use Rattle.area.specs.Tree.{topOf}
 use Rattle.area.specs.Remove.{releaseOf, lastOf, lastIndex, clearOf, removeOf}
 use Rattle.tree.proofs.Change.{upd}
 use Rattle.tree.proofs.Stores.{beside-trans}
@@ -89,9 +88,9 @@ module _ {a : Area} {p : Pool} {ts : List ℕ → Option ℕ} {lv guest : List �
     tail-bare : ts (i ∷ x) ≡ none
     tail-bare = ap ts (sym path) ∙ bare
 
-    last-top : lastOf (a .base) (a .size) m (topOf (a .base) (p .fresh)) j js ≡ way (ts x)
+    last-top : lastOf (a .base) (a .size) m (p .top) j js ≡ way (ts x)
     unfolding x
-    last-top = last-is [] j js (topOf (a .base) (p .fresh)) (g .top ∙ ap (slot (ts [])) (sym (g .root))) c l
+    last-top = last-is [] j js (p .top) (g .top ∙ ap (slot (ts [])) (sym (g .root))) c l
 
     index : i < 512
     unfolding i

@@ -9,23 +9,22 @@ use mathlib.Core.Bool.{Bool, true, false, cond}
 use mathlib.Core.List.{List, [], _∷_, head-eq-of-cons-eq, tail-eq-of-cons-eq}
 use mathlib.Core.Option.{Option, none, some, IsSome}
 use lib.Dec.{T, ltb}
-use lib.ListN.{length, length-set}
+use lib.ListN.{length}
 use borrow.Author.Tests.{ltb-true, ltb-false}
 use Rattle.spec.specs.Entry.{present}
 use Rattle.spec.specs.Prefix.{same}
-use Rattle.words.specs.Words.{at, wordIn, setIn}
+use Rattle.words.specs.Words.{at, wordIn}
 use Rattle.area.specs.declared.Area.{Area}
 use Rattle.area.specs.declared.Pool.{Pool}
 use Rattle.area.specs.declared.Way.the-variants.{To, Not}
 use Rattle.area.specs.Header.{entryIn, putOf, levelOf, parentOf, slotOf, bareOf}
-use Rattle.area.specs.Pool.{link, end, noneOf, giveOf, backOf}
-use Rattle.area.specs.Tree.{topOf}
+use Rattle.area.specs.Pool.{end, noneOf, withTop, giveOf, backOf}
 use Rattle.area.specs.Remove.{unhangOf, shutOf}
 use Rattle.laws.proofs.Lists.{same-is, same-refl}
 use Rattle.laws.proofs.Distinct.{In, without, without-in, without-out, without-once, without-one}
 use Rattle.tree.proofs.Change.{differ, eq?, upd, upd-on, upd-other, no-empty, some-inj, not-some, is-some}
-use Rattle.tree.proofs.Stores.{SameHead, trans-head, frame-head, frame-entry, Beside, beside-one, beside-trans, put-length, put-here, put-other, put-else, put-head, back-length, back-else, back-link, back-level, shut-level, shut-else}
-use Rattle.tree.proofs.Invariant.{slot, inside-is, present-link, Mem, Chain, chain-keep, Tables, above, none-below, none-past, fresh-some, frame-small, place-fits, place-inj}
+use Rattle.tree.proofs.Stores.{SameHead, trans-head, frame-head, frame-entry, Beside, beside-one, beside-trans, put-length, put-here, put-other, put-else, put-head, back-length, back-else, back-link, back-level}
+use Rattle.tree.proofs.Invariant.{slot, inside-is, present-link, Mem, Chain, chain-keep, Tables, above, none-past, frame-small, place-fits, place-inj}
 
 -- ---- whether a table is empty
 pub bare-true : (m : List ℕ) (f n : ℕ) → bareOf m f n ≡ true → (j : ℕ) → j < n → present (entryIn m f j) ≡ false
@@ -59,7 +58,7 @@ bare-false m f (suc n) e = go (present (entryIn m f n)) refl e (bare-false m f n
 -- ---- nothing is in use, whatever the words are: "all held paths are dropped"
 pub dropped : (a : Area) (guest : List ℕ → ℕ) (m : List ℕ) → a .base + a .size ≤ 65536 → a .levels < 8 → (a .base + a .size) * 512 ≤ length m
     → Tables a noneOf (λ x. none) (λ x. 0) guest [] [] m
-unfolding topOf noneOf
+unfolding noneOf
 dropped a guest m sm fl lo = record {
   small = sm;
   flat = fl;
@@ -87,10 +86,6 @@ dropped a guest m sm fl lo = record {
   guests = λ y f ty. absurd (not-some refl ty);
 }
 
-top-give : (b : ℕ) (p : Pool) (f : ℕ) → topOf b (giveOf p f .fresh) ≡ topOf b (p .fresh)
-unfolding giveOf
-top-give b p f = refl
-
 module _ {a : Area} {p : Pool} {ts : List ℕ → Option ℕ} {lv guest : List ℕ → ℕ} {fl : List ℕ} {ps : List (List ℕ)} {m : List ℕ}
     (g : Tables a p ts lv guest fl ps m) where
   -- in an empty table hangs no table and stands no leaf
@@ -109,54 +104,130 @@ module _ {a : Area} {p : Pool} {ts : List ℕ → Option ℕ} {lv guest : List �
       go true q = let l = ltb-true j 512 q in slots (ts (j ∷ y)) (lv (j ∷ y)) refl (ap present (sym (g .word y h j ty l)) ∙ bare-true m h 512 b j l)
       go false q = let l = ltb-false j 512 q in (none-past g j y l, g .narrow j y l)
 
-  -- ---- the empty table f of the prefix i ∷ x is taken off and given back
+  -- ---- the empty table f of the prefix x is given back. k is the memory in which no entry names it any more, t the top table's
+  -- entry then
+  pub record Loose (x : List ℕ) (f t : ℕ) (k : List ℕ) : Type 0 where
+    pub long : length k ≡ length m
+    pub heads : (d : ℕ) → SameHead m k d
+    pub words : (y : List ℕ) (d j : ℕ) → upd ts x none y ≡ some d → j < 512 → entryIn k d j ≡ slot (upd ts x none (j ∷ y)) (lv (j ∷ y))
+    pub links : (d : ℕ) → Mem d fl → wordIn k d 0 ≡ wordIn m d 0
+    pub top : t ≡ slot (upd ts x none []) 0
+
+  pub give : (x : List ℕ) (f t : ℕ) (k : List ℕ) → ts x ≡ some f → bareOf m f 512 ≡ true → Loose x f t k
+      → Tables a (giveOf (withTop p t) f) (upd ts x none) lv guest (f ∷ fl) (without x ps) (backOf k f (p .free))
+  unfolding giveOf withTop
+  give x f t k tf b c = record {
+    small = g .small;
+    flat = g .flat;
+    long = rw (back-length, c .long) (g .long);
+    inj = λ y z d ty tz. g .inj y z d (old y d ty) (old z d tz);
+    word = λ y d j ty hj. frame-entry k n d j (back-else k f (p .free) d (apart y d ty)) hj ∙ c .words y d j ty hj;
+    top = c .top;
+    root = g .root;
+    below = λ j y ty. unders j y ty (eq? x y);
+    narrow = g .narrow;
+    plain = λ y d ty. g .plain y d (old y d ty);
+    solid = g .solid;
+    inside = λ y d ty. g .inside y d (old y d ty);
+    chain = (refl, subst (λ e. Chain n e fl) (sym (back-link k f (p .free) (room 0 (omega arith)))) (chain-keep m n fl (p .free) linked (g .chain)));
+    nodup = ((λ e. g .off f e .2 x tf), g .nodup);
+    off = λ d e. offs d e;
+    count = let v = g .count in let u = g .used in let w = one in omega arith;
+    room = g .room;
+    used = let u = g .used in let w = one in omega arith;
+    once = without-once x ps (g .once);
+    stand = λ y. stands y (eq? x y);
+    level = λ y d ty. rw (heads y d ty .level) (g .level y d (old y d ty));
+    link = λ j y d ty. rw (heads (j ∷ y) d ty .parent, heads (j ∷ y) d ty .slot) (above-stays j y d (old (j ∷ y) d ty));
+    each = λ d lo hi. eachs d lo hi (ℕ-discrete d f);
+    guests = λ y d ty. heads y d ty .guest ∙ g .guests y d (old y d ty);
+  }
+    where
+      tu : List ℕ → Option ℕ
+      tu = upd ts x none
+
+      n : List ℕ
+      n = backOf k f (p .free)
+
+      one : suc (length (without x ps)) ≡ length ps
+      one = without-one x ps (g .once) (g .stand x .1 (is-some tf))
+
+      room : (j : ℕ) → j < 512 → at f j < length k
+      room j l = rw (c .long) (place-fits g x f j tf l)
+
+      other : (y : List ℕ) (d : ℕ) → tu y ≡ some d → x ≢ y
+      other y d ty e = not-some (upd-on ts x none y e) ty
+
+      old : (y : List ℕ) (d : ℕ) → tu y ≡ some d → ts y ≡ some d
+      old y d ty = sym (upd-other ts x none y (other y d ty)) ∙ ty
+
+      apart : (y : List ℕ) (d : ℕ) → tu y ≡ some d → d ≢ f
+      apart y d ty q = other y d ty (g .inj x y f tf (old y d ty ∙ ap some q))
+
+      keep : (y : List ℕ) (d : ℕ) → ts y ≡ some d → d ≢ f → tu y ≡ some d
+      keep y d ty ne = upd-other ts x none y (λ e. ne (some-inj (sym ty ∙ ap ts (sym e) ∙ tf))) ∙ ty
+
+      head : (d : ℕ) → d ≢ f → SameHead m n d
+      head d ne = trans-head (c .heads d) (frame-head k n d (back-else k f (p .free) d ne))
+
+      heads : (y : List ℕ) (d : ℕ) → tu y ≡ some d → SameHead m n d
+      heads y d ty = head d (apart y d ty)
+
+      unders : (j : ℕ) (y : List ℕ) → tu y ≡ none → Dec (x ≡ y) → lv (j ∷ y) ≡ 0
+      unders j y ty (yes e) = subst (λ u. lv (j ∷ u) ≡ 0) e (bare-is x f tf b j .1)
+      unders j y ty (no e) = g .below j y (sym (upd-other ts x none y e) ∙ ty)
+
+      linked : (d : ℕ) → Mem d fl → wordIn n d 0 ≡ wordIn m d 0
+      linked d e = back-else k f (p .free) d (λ q. g .off d e .2 x (tf ∙ ap some (sym q))) 0 (omega arith) ∙ c .links d e
+
+      offs : (d : ℕ) → (d ≡ f) ⊎ Mem d fl → (a .base ≤ d) × (d < a .base + p .fresh) × ((y : List ℕ) → tu y ≢ some d)
+      offs d (inl e) = let v = g .inside x f tf in (omega arith, omega arith, λ y ty. apart y d ty e)
+      offs d (inr e) = let o = g .off d e in (o .0, o .1, λ y ty. o .2 y (old y d ty))
+
+      stands : (y : List ℕ) → Dec (x ≡ y) → (In y (without x ps) → IsSome (tu y)) × (IsSome (tu y) → In y (without x ps))
+      stands y (yes e) = (
+        (λ q. absurd (without-out x y ps q .1 (subst (λ u. T (same x u)) e (same-refl x)))),
+        (λ q. absurd (subst IsSome (upd-on ts x none y e) q)),
+      )
+      stands y (no e) = (
+        (λ q. subst IsSome (sym (upd-other ts x none y e)) (g .stand y .0 (without-out x y ps q .0))),
+        (λ q. without-in x y ps (g .stand y .1 (subst IsSome (upd-other ts x none y e) q)) (λ v. e (same-is x y v))),
+      )
+
+      -- the table above one that is left stands still, since no table hangs in the one given back
+      above-stays : (j : ℕ) (y : List ℕ) (d : ℕ) → ts (j ∷ y) ≡ some d → (tu y ≡ some (parentOf m d)) × (slotOf m d ≡ j)
+      above-stays j y d ty =
+          let v = g .link j y d ty in
+          (upd-other ts x none y (λ e. not-some (ap (λ z. ts (j ∷ z)) (sym e) ∙ bare-is x f tf b j .0) ty) ∙ v .0, v .1)
+
+      eachs : (d : ℕ) → a .base ≤ d → d < a .base + p .fresh → Dec (d ≡ f) → (levelOf n d ≡ 0) ⊎ ((y : List ℕ) × (tu y ≡ some d))
+      eachs d lo hi (yes e) = inl (ap (levelOf n) e ∙ back-level k f (p .free) (room 1 (omega arith)))
+      eachs d lo hi (no e) = elim (g .each d lo hi) [ inl z ↦ inl (head d e .level ∙ z) | inr z ↦ inr (z .0, keep (z .0) d (z .1) e) ]
+
+  -- ---- the empty table f of the prefix i ∷ x is taken off the table above
   abbrev pub unhung : ℕ → List ℕ
   unhung f = backOf (putOf m (parentOf m f) (slotOf m f) 0) f (p .free)
 
   pub record Unhung (i : ℕ) (x : List ℕ) (f : ℕ) : Type 0 where
     pub done : unhangOf a p m f ≡ end (giveOf p f) (To (parentOf m f)) (unhung f)
     pub tables : Tables a (giveOf p f) (upd ts (i ∷ x) none) lv guest (f ∷ fl) (without (i ∷ x) ps) (unhung f)
-    pub used : giveOf p f .used + 1 ≡ p .used
     pub beside : Beside a m (unhung f)
 
   pub unhang-is : (i : ℕ) (x : List ℕ) (f : ℕ) → ts (i ∷ x) ≡ some f → bareOf m f 512 ≡ true → Unhung i x f
-  unfolding unhangOf giveOf
+  unfolding unhangOf withTop
   unhang-is i x f tf b = record {
     done = rw (b, inside-is (a .base) (a .size) h (g .inside x h tx .0) (frame-small g x h tx .0));
-    tables = record {
-      small = g .small;
-      flat = g .flat;
-      long = rw (back-length, put-length) (g .long);
-      inj = λ y z d ty tz. g .inj y z d (old y d ty) (old z d tz);
-      word = λ y d j ty hj. words y d j ty hj (eq? (i ∷ x) (j ∷ y));
-      top = top-give (a .base) p f ∙ g .top ∙ sym (ap (λ o. slot o 0) (upd-other ts (i ∷ x) none [] (no-empty i x)));
-      root = g .root;
-      below = λ j y ty. unders j y ty (eq? (i ∷ x) y);
-      narrow = g .narrow;
-      plain = λ y d ty. g .plain y d (old y d ty);
-      solid = g .solid;
-      inside = λ y d ty. g .inside y d (old y d ty);
-      chain = (refl, subst (λ e. Chain n e fl) (sym (back-link k f (p .free) (room 0 (omega arith)))) (chain-keep m n fl (p .free) linked (g .chain)));
-      nodup = ((λ e. g .off f e .2 (i ∷ x) tf), g .nodup);
-      off = λ d e. offs d e;
-      count = let c = g .count in let u = g .used in let w = one in omega arith;
-      room = g .room;
-      used = let u = g .used in let w = one in omega arith;
-      once = without-once (i ∷ x) ps (g .once);
-      stand = λ y. stands y (eq? (i ∷ x) y);
-      level = λ y d ty. rw (heads y d ty .level) (g .level y d (old y d ty));
-      link = λ j y d ty. rw (heads (j ∷ y) d ty .parent, heads (j ∷ y) d ty .slot) (links j y d (old (j ∷ y) d ty));
-      each = λ d lo hi. eachs d lo hi (ℕ-discrete d f);
-      guests = λ y d ty. heads y d ty .guest ∙ g .guests y d (old y d ty);
-    };
-    used = let u = g .used in let w = one in omega arith;
+    tables = give (i ∷ x) f (p .top) k tf b (record {
+      long = put-length m h s 0;
+      heads = λ d. put-head m h s 0 d here;
+      words = λ y d j ty hj. words y d j (old y d ty) hj (eq? (i ∷ x) (j ∷ y));
+      links = λ d e. put-else m h s 0 d hs (λ q. g .off d e .2 x (tx ∙ ap some (sym q))) 0 (omega arith);
+      top = g .top ∙ sym (ap (λ o. slot o 0) (upd-other ts (i ∷ x) none [] (no-empty i x)));
+    });
     beside = beside-trans (beside-one a m k h (g .inside x h tx .0) (frame-small g x h tx .0) (put-length m h s 0) (λ d ne. put-else m h s 0 d hs ne))
-        (beside-one a k n f (g .inside (i ∷ x) f tf .0) (frame-small g (i ∷ x) f tf .0) (back-length k f (p .free)) (λ d ne. back-else k f (p .free) d ne));
+        (beside-one a k (unhung f) f (g .inside (i ∷ x) f tf .0) (frame-small g (i ∷ x) f tf .0) (back-length k f (p .free)) (λ d ne. back-else k f (p .free) d ne));
   }
     where
-      tu : List ℕ → Option ℕ
-      tu = upd ts (i ∷ x) none
-
       h : ℕ
       h = parentOf m f
 
@@ -175,133 +246,51 @@ module _ {a : Area} {p : Pool} {ts : List ℕ → Option ℕ} {lv guest : List �
       k : List ℕ
       k = putOf m h s 0
 
-      n : List ℕ
-      n = backOf k f (p .free)
-
-      one : suc (length (without (i ∷ x) ps)) ≡ length ps
-      one = without-one (i ∷ x) ps (g .once) (g .stand (i ∷ x) .1 (is-some tf))
-
       here : at h s < length m
       here = place-fits g x h s tx hs
 
-      room : (j : ℕ) → j < 512 → at f j < length k
-      room j l = rw put-length (place-fits g (i ∷ x) f j tf l)
+      old : (y : List ℕ) (d : ℕ) → upd ts (i ∷ x) none y ≡ some d → ts y ≡ some d
+      old y d ty = sym (upd-other ts (i ∷ x) none y (λ e. not-some (upd-on ts (i ∷ x) none y e) ty)) ∙ ty
 
-      other : (y : List ℕ) (d : ℕ) → tu y ≡ some d → i ∷ x ≢ y
-      other y d ty e = not-some (upd-on ts (i ∷ x) none y e) ty
-
-      old : (y : List ℕ) (d : ℕ) → tu y ≡ some d → ts y ≡ some d
-      old y d ty = sym (upd-other ts (i ∷ x) none y (other y d ty)) ∙ ty
-
-      apart : (y : List ℕ) (d : ℕ) → tu y ≡ some d → d ≢ f
-      apart y d ty q = other y d ty (g .inj (i ∷ x) y f tf (old y d ty ∙ ap some q))
-
-      keep : (y : List ℕ) (d : ℕ) → ts y ≡ some d → d ≢ f → tu y ≡ some d
-      keep y d ty ne = upd-other ts (i ∷ x) none y (λ e. ne (some-inj (sym ty ∙ ap ts (sym e) ∙ tf))) ∙ ty
-
-      head : (d : ℕ) → d ≢ f → SameHead m n d
-      head d ne = trans-head (put-head m h s 0 d here) (frame-head k n d (back-else k f (p .free) d ne))
-
-      heads : (y : List ℕ) (d : ℕ) → tu y ≡ some d → SameHead m n d
-      heads y d ty = head d (apart y d ty)
-
-      words : (y : List ℕ) (d j : ℕ) → tu y ≡ some d → j < 512 → Dec (i ∷ x ≡ j ∷ y) → entryIn n d j ≡ slot (tu (j ∷ y)) (lv (j ∷ y))
+      words : (y : List ℕ) (d j : ℕ) → ts y ≡ some d → j < 512 → Dec (i ∷ x ≡ j ∷ y) → entryIn k d j ≡ slot (upd ts (i ∷ x) none (j ∷ y)) (lv (j ∷ y))
       words y d j ty hj (yes e) =
           let u : s ≡ j = si ∙ head-eq-of-cons-eq e in
-          let c : h ≡ d = some-inj (sym tx ∙ ap ts (tail-eq-of-cons-eq e) ∙ old y d ty) in
-          frame-entry k n d j (back-else k f (p .free) d (apart y d ty)) hj
-          ∙ ap₂ (entryIn k) (sym c) (sym u) ∙ put-here m h s 0 here (omega arith)
+          let c : h ≡ d = some-inj (sym tx ∙ ap ts (tail-eq-of-cons-eq e) ∙ ty) in
+          ap₂ (entryIn k) (sym c) (sym u) ∙ put-here m h s 0 here (omega arith)
           ∙ sym (ap₂ slot (upd-on ts (i ∷ x) none (j ∷ y) e) (ap lv (sym e) ∙ g .plain (i ∷ x) f tf))
       words y d j ty hj (no e) =
-          frame-entry k n d j (back-else k f (p .free) d (apart y d ty)) hj
-          ∙ put-other m h s 0 d j (λ c. e (ap (λ z. z ∷ x) (sym si) ∙ place-inj g x y h d s j tx (old y d ty) hs hj c))
-          ∙ g .word y d j (old y d ty) hj ∙ sym (ap (λ o. slot o (lv (j ∷ y))) (upd-other ts (i ∷ x) none (j ∷ y) e))
-
-      unders : (j : ℕ) (y : List ℕ) → tu y ≡ none → Dec (i ∷ x ≡ y) → lv (j ∷ y) ≡ 0
-      unders j y ty (yes e) = subst (λ u. lv (j ∷ u) ≡ 0) e (bare-is (i ∷ x) f tf b j .1)
-      unders j y ty (no e) = g .below j y (sym (upd-other ts (i ∷ x) none y e) ∙ ty)
-
-      linked : (d : ℕ) → Mem d fl → wordIn n d 0 ≡ wordIn m d 0
-      linked d e =
-          back-else k f (p .free) d (λ q. g .off d e .2 (i ∷ x) (tf ∙ ap some (sym q))) 0 (omega arith)
-          ∙ put-else m h s 0 d hs (λ q. g .off d e .2 x (tx ∙ ap some (sym q))) 0 (omega arith)
-
-      offs : (d : ℕ) → (d ≡ f) ⊎ Mem d fl → (a .base ≤ d) × (d < a .base + p .fresh) × ((y : List ℕ) → tu y ≢ some d)
-      offs d (inl e) = let c = g .inside (i ∷ x) f tf in (omega arith, omega arith, λ y ty. apart y d ty e)
-      offs d (inr e) = let o = g .off d e in (o .0, o .1, λ y ty. o .2 y (old y d ty))
-
-      stands : (y : List ℕ) → Dec (i ∷ x ≡ y) → (In y (without (i ∷ x) ps) → IsSome (tu y)) × (IsSome (tu y) → In y (without (i ∷ x) ps))
-      stands y (yes e) = (
-        (λ q. absurd (without-out (i ∷ x) y ps q .1 (subst (λ u. T (same (i ∷ x) u)) e (same-refl (i ∷ x))))),
-        (λ q. absurd (subst IsSome (upd-on ts (i ∷ x) none y e) q)),
-      )
-      stands y (no e) = (
-        (λ q. subst IsSome (sym (upd-other ts (i ∷ x) none y e)) (g .stand y .0 (without-out (i ∷ x) y ps q .0))),
-        (λ q. without-in (i ∷ x) y ps (g .stand y .1 (subst IsSome (upd-other ts (i ∷ x) none y e) q)) (λ c. e (same-is (i ∷ x) y c))),
-      )
-
-      -- the table above stands still, since no table hangs in the one taken off
-      links : (j : ℕ) (y : List ℕ) (d : ℕ) → ts (j ∷ y) ≡ some d → (tu y ≡ some (parentOf m d)) × (slotOf m d ≡ j)
-      links j y d ty =
-          let c = g .link j y d ty in
-          (upd-other ts (i ∷ x) none y (λ e. not-some (ap (λ z. ts (j ∷ z)) (sym e) ∙ bare-is (i ∷ x) f tf b j .0) ty) ∙ c .0, c .1)
-
-      eachs : (d : ℕ) → a .base ≤ d → d < a .base + p .fresh → Dec (d ≡ f) → (levelOf n d ≡ 0) ⊎ ((y : List ℕ) × (tu y ≡ some d))
-      eachs d lo hi (yes e) = inl (ap (levelOf n) e ∙ back-level k f (p .free) (room 1 (omega arith)))
-      eachs d lo hi (no e) = elim (g .each d lo hi) [ inl z ↦ inl (head d e .level ∙ z) | inr z ↦ inr (z .0, keep (z .0) d (z .1) e) ]
+          put-other m h s 0 d j (λ c. e (ap (λ z. z ∷ x) (sym si) ∙ place-inj g x y h d s j tx ty hs hj c))
+          ∙ g .word y d j ty hj ∙ sym (ap (λ o. slot o (lv (j ∷ y))) (upd-other ts (i ∷ x) none (j ∷ y) e))
 
   -- a table that is not empty stays
   pub unhang-not : (f : ℕ) → bareOf m f 512 ≡ false → unhangOf a p m f ≡ end p Not m
   unfolding unhangOf
   unhang-not f b = rw b
 
-  -- ---- the empty top table is shut
-  -- no table and no leaf stands below it
-  pub desert : (h : ℕ) → ts [] ≡ some h → bareOf m h 512 ≡ true → (k : ℕ) (y : List ℕ) → (ts (k ∷ y) ≡ none) × (lv (k ∷ y) ≡ 0)
-  desert h e b k [] = bare-is [] h e b k
-  desert h e b k (j ∷ y) = let n = desert h e b j y .0 in (none-below g k (j ∷ y) n, g .below k (j ∷ y) n)
+  -- ---- the empty top table
+  pub record Shut (f : ℕ) : Type 0 where
+    pub done : shutOf false p m f ≡ end (giveOf (withTop p 0) f) (To f) (backOf m f (p .free))
+    pub tables : Tables a (giveOf (withTop p 0) f) (upd ts [] none) lv guest (f ∷ fl) (without [] ps) (backOf m f (p .free))
+    pub beside : Beside a m (backOf m f (p .free))
 
-  pub record Shut : Type 0 where
-    pub done : shutOf a false p m ≡ end noneOf (To (a .base)) (setIn m (a .base) 1 0)
-    pub tables : Tables a noneOf (λ x. none) lv guest [] [] (setIn m (a .base) 1 0)
-    pub leaves : (x : List ℕ) → lv x ≡ 0
-    -- no frame is a table any more, also to a scan of the frames that were handed out before
-    pub levels : (f : ℕ) → a .base ≤ f → f < a .base + p .fresh → levelOf (setIn m (a .base) 1 0) f ≡ 0
-    pub beside : Beside a m (setIn m (a .base) 1 0)
-
-  pub shut-is : (h : ℕ) → ts [] ≡ some h → bareOf m (a .base) 512 ≡ true → Shut
+  pub shut-is : (f : ℕ) → ts [] ≡ some f → bareOf m f 512 ≡ true → Shut f
   unfolding shutOf
-  shut-is h th b = record {
+  shut-is f tf b = record {
     done = rw b;
-    tables = subst (λ l. Tables a noneOf (λ x. none) l guest [] [] n) (λ i y. sym (zeros y) i) (dropped a guest n (g .small) (g .flat) (rw length-set (g .long)));
-    leaves = zeros;
-    levels = λ f lo hi. level f (g .each f lo hi) (ℕ-discrete f (a .base));
-    beside = beside-one a m n (a .base) (omega arith) (subst (λ z. z < a .base + a .size) at-base (frame-small g [] h th .0)) (length-set m (at (a .base) 1) 0)
-        (λ d ne. shut-else m (a .base) d ne);
+    tables = give [] f 0 m tf b (record {
+      long = refl;
+      heads = λ d. record { level = refl; parent = refl; slot = refl; guest = refl };
+      words = λ y d j ty hj. g .word y d j (old y d ty) hj ∙ sym (ap (λ o. slot o (lv (j ∷ y))) (upd-other ts [] none (j ∷ y) (λ e. no-empty j y (sym e))));
+      links = λ d e. refl;
+      top = sym (ap (λ o. slot o 0) (upd-on ts [] none [] refl));
+    });
+    beside = beside-one a m (backOf m f (p .free)) f (g .inside [] f tf .0) (frame-small g [] f tf .0) (back-length m f (p .free)) (λ d ne. back-else m f (p .free) d ne);
   }
     where
-      n : List ℕ
-      n = setIn m (a .base) 1 0
+      old : (y : List ℕ) (d : ℕ) → upd ts [] none y ≡ some d → ts y ≡ some d
+      old y d ty = sym (upd-other ts [] none y (λ e. not-some (upd-on ts [] none y e) ty)) ∙ ty
 
-      at-base : h ≡ a .base
-      at-base = fresh-some g h th .1
-
-      tb : ts [] ≡ some (a .base)
-      tb = th ∙ ap some at-base
-
-      zeros : (y : List ℕ) → lv y ≡ 0
-      zeros [] = g .root
-      zeros (k ∷ y) = desert (a .base) tb b k y .1
-
-      level : (f : ℕ) → (levelOf m f ≡ 0) ⊎ ((x : List ℕ) × (ts x ≡ some f)) → Dec (f ≡ a .base) → levelOf n f ≡ 0
-      level f e (yes q) = ap (levelOf n) q ∙ shut-level m (a .base) (place-fits g [] (a .base) 1 tb (omega arith))
-      level f e (no q) = frame-head m n f (shut-else m (a .base) f q) .level ∙ elim e [ inl z ↦ z | inr z ↦ absurd (only (z .0) (z .1)) ]
-        where
-          only : (x : List ℕ) → ts x ≡ some f → ⊥
-          only [] t = q (some-inj (sym t ∙ tb))
-          only (j ∷ x) t = not-some (desert (a .base) tb b j x .0) t
-
-  -- it stays where it is not empty, or where it always stays
-  pub shut-not : bareOf m (a .base) 512 ≡ false → shutOf a false p m ≡ end p (To (a .base)) m
+  -- it stays where it is not empty
+  pub shut-not : (f : ℕ) → bareOf m f 512 ≡ false → shutOf false p m f ≡ end p (To f) m
   unfolding shutOf
-  shut-not b = rw b
+  shut-not f b = rw b

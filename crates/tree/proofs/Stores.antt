@@ -233,13 +233,10 @@ unfolding backOf
 back-link m f l h = getD-set-other (setIn m f 0 l) (at f 1) (at f 0) 0 0 (λ q. omega arith) ∙ getD-set-same m (at f 0) l 0 h
 
 -- word 1 cleared: it is no table any more
-pub shut-level : (m : List ℕ) (f : ℕ) → at f 1 < length m → levelOf (setIn m f 1 0) f ≡ 0
+level-cleared : (m : List ℕ) (f : ℕ) → at f 1 < length m → levelOf (setIn m f 1 0) f ≡ 0
 unfolding levelOf highOf
-shut-level m f h = ap (λ w. w / 4503599627370496 / 16 % 8) (getD-set-same m (at f 1) 0 0 h)
+level-cleared m f h = ap (λ w. w / 4503599627370496 / 16 % 8) (getD-set-same m (at f 1) 0 0 h)
 
 pub back-level : (m : List ℕ) (f l : ℕ) → at f 1 < length m → levelOf (backOf m f l) f ≡ 0
 unfolding backOf
-back-level m f l h = shut-level (setIn m f 0 l) f (rw length-set h)
-
-pub shut-else : (m : List ℕ) (f g : ℕ) → g ≢ f → SameFrame m (setIn m f 1 0) g
-shut-else m f g ne = set-else m f 1 0 g (omega arith) ne
+back-level m f l h = level-cleared (setIn m f 0 l) f (rw length-set h)

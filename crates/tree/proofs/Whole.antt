@@ -17,7 +17,7 @@ use Rattle.area.specs.declared.Pool.{Pool}
 use Rattle.area.specs.declared.Way.the-variants.{To, Not}
 use Rattle.area.specs.declared.Look.the-variants.{Seen}
 use Rattle.area.specs.Pool.{end, noneOf}
-use Rattle.area.specs.Tree.{topOf, lookOf, roomOf, enterOf, placeOf, insertOf}
+use Rattle.area.specs.Tree.{lookOf, roomOf, enterOf, placeOf, insertOf}
 use Rattle.area.specs.Remove.{removeOf}
 use Rattle.tree.proofs.Change.{eq?, upd, upd-at, upd-other, is-some}
 use Rattle.tree.proofs.Stores.{SameFrame, frame-head, frame-entry, Beside, set-else}
@@ -63,8 +63,9 @@ holds-none a guest m sm fl lo = record {
 -- with a top table that stays
 pub record Opened (a : Area) (m : List ℕ) (guest : List ℕ → ℕ) : Type 0 where
   pub pool : Pool
+  pub frame : ℕ
   pub memory : List ℕ
-  pub done : enterOf a noneOf m (guest []) ≡ end pool (To (a .base)) memory
+  pub done : enterOf a noneOf m (guest []) ≡ end pool (To frame) memory
   pub holds : Holds a true pool memory (λ x. 0) guest
   pub beside : Beside a m memory
 
@@ -75,22 +76,23 @@ holds-top a guest m sm fl lo deep room thin =
     let e = enter-is (dropped a guest m sm fl lo) refl deep thin room in
     record {
       pool = e .pool;
+      frame = e .frame;
       memory = e .memory;
       done = e .done;
       holds = record {
-        tabs = upd (λ x. none) [] (some (a .base));
+        tabs = upd (λ x. none) [] (some (e .frame));
         list = e .list;
         pres = [] ∷ [];
         tables = e .tables;
-        exact = λ y k. only y k (eq? [] y);
-        top = λ k. is-some (upd-at (λ x. none) [] (some (a .base)));
+        exact = λ y k. only (e .frame) y k (eq? [] y);
+        top = λ k. is-some (upd-at (λ x. none) [] (some (e .frame)));
       };
       beside = e .beside;
     }
   where
-    only : (y : List ℕ) → IsSome (upd (λ x. none) [] (some (a .base)) y) → Dec ([] ≡ y) → Leaf (λ x. 0) y ⊎ ((y ≡ []) × T true)
-    only y k (yes q) = inr (sym q, tt)
-    only y k (no q) = absurd (subst IsSome (upd-other (λ x. none) [] (some (a .base)) y q) k)
+    only : (f : ℕ) (y : List ℕ) → IsSome (upd (λ x. none) [] (some f) y) → Dec ([] ≡ y) → Leaf (λ x. 0) y ⊎ ((y ≡ []) × T true)
+    only f y k (yes q) = inr (sym q, tt)
+    only f y k (no q) = absurd (subst IsSome (upd-other (λ x. none) [] (some f) y q) k)
 
 -- ---- what it depends on
 -- words outside the area may change at will
@@ -192,7 +194,7 @@ module _ {a : Area} {stays : Bool} {p : Pool} {m : List ℕ} {lv guest : List �
         ])
 
     -- ---- lookup
-    pub holds-look : lookOf (a .base) (a .size) m (topOf (a .base) (p .fresh)) is 0 ≡ Seen (lv (onto [] is)) (steps (h .tabs) [] is)
+    pub holds-look : lookOf (a .base) (a .size) m (p .top) is 0 ≡ Seen (lv (onto [] is)) (steps (h .tabs) [] is)
     holds-look = lookup-is (h .tables) is on-way (f .small) at-end
 
 -- after a release

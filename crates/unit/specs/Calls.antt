@@ -1,41 +1,83 @@
 -- The calls of the unit, as total definitions over any record, any memory and any numbers.
 -- Assumes nothing.
-use Prim.Native.Nat.{ℕ, _+_, _-_, _*_, _/_, _^_, _≤_}
+use Prim.Native.Nat.{ℕ, _-_, _*_, _/_, _^_, _≤_}
 use mathlib.Core.Bool.{Bool, true, false, _&&_, cond}
 use mathlib.Core.List.{List}
 use lib.Dec.{eqb, ltb}
 use lib.ListN.{length}
 use Rattle.spec.specs.declared.Answer.{Answer}
 use Rattle.spec.specs.declared.Answer.the-variants as answer
-use Rattle.spec.specs.Entry.{pageOf, wordOf, indexes}
-use Rattle.spec.specs.Plain.{next}
+use Rattle.spec.specs.declared.Call.{Call}
+use Rattle.spec.specs.declared.Call.the-variants.{Root as root, Map as map, Unmap as unmap, SetMark as setMark, ClearMark as clearMark, Load as load, Store as store, Device as device}
+use Rattle.spec.specs.Entry.{pageOf, indexes}
 use Rattle.spec.specs.Refusal.{addressFits, deviceFits, wordAligned, frameFits}
-use Rattle.words.specs.Words.{wordIn}
+use Rattle.words.specs.After.{After, yields}
+use Rattle.entry.specs.declared.HostPhysical.{HostPhysical}
 use Rattle.area.specs.declared.Pool.{Pool}
 use Rattle.area.specs.Pool.{noneOf}
+use Rattle.host.specs.declared.Change.{Change}
 use Rattle.host.specs.declared.HostWalk.{HostWalk}
 use Rattle.host.specs.declared.HostWalk.the-variants as host
-use Rattle.host.specs.Walk.{LayoutFits, hostWalkOf}
+use Rattle.host.specs.declared.Space.{Space}
+use Rattle.host.specs.Walk.{LayoutFits, hostWalkOf, page}
 use Rattle.host.specs.Map.{mapOf, unmapOf}
-use Rattle.walk.specs.declared.Walked.{Walked}
-use Rattle.walk.specs.declared.Walked.the-variants as walked
-use Rattle.walk.specs.Memory.{walkedOf}
 use Rattle.marks.specs.declared.Marks.{Marks}
 use Rattle.marks.specs.Key.{keyOf, depthOf}
 use Rattle.marks.specs.Table.{keys, withKey, withoutKey, setRefusal, clearRefusal, number}
 use Rattle.shadow.specs.declared.Cut.the-variants.{Names}
-use Rattle.shadow.specs.Drop.{scanOf, dropPrefixOf}
-use Rattle.record.specs.declared.Record.{Record}
-use Rattle.record.specs.Record.{levels, layoutOf, configOf, fitsOf, withRoot, withMarks}
-use Rattle.record.specs.Open.{openOf}
-use Rattle.request.specs.Translate.{translateOf, exitBy}
-use Rattle.request.specs.Store.{storeOf}
-use Rattle.unit.specs.declared.Reply.{Reply}
-use Rattle.words.specs.After.{After, yields}
-use Rattle.request.specs.declared.Put.{Put}
 use Rattle.shadow.specs.declared.Left.{Left}
+use Rattle.shadow.specs.Drop.{scanOf, dropPrefixOf}
+use Rattle.record.specs.declared.Head.{Head}
+use Rattle.record.specs.declared.Record.{Record}
+use Rattle.record.specs.Record.{configOf, guestFrame, headOf, headRoot, headTables, withHead, withMarks, fitsOf}
+use Rattle.record.specs.Open.{openOf}
+use Rattle.request.specs.declared.Held.{Held}
+use Rattle.request.specs.declared.Served.{Served}
 use Rattle.request.specs.declared.Translated.{Translated}
-use Rattle.host.specs.declared.Change.{Change}
+use Rattle.request.specs.Translate.{holding, translateOf}
+use Rattle.request.specs.Access.{loadOf, storeOf, deviceOf}
+use Rattle.unit.specs.declared.Reply.{Reply}
+use Rattle.unit.specs.declared.Turn.{Turn}
+
+-- ---- parts of a record
+
+-- what is held: the shadow tables, and the frame in the record
+abbrev pub heldIn : Head → Held
+heldIn h = record { pool = h .pools .shadow; frame = h .held }
+
+abbrev pub heldOf : Record → Held
+heldOf r = heldIn (headOf r)
+
+-- nothing is held
+abbrev pub nothing : Held
+nothing = holding noneOf 0
+
+-- where the guest's frames are
+abbrev pub spaceIn : Head → Space
+spaceIn h = record { layout = h .layout; top = h .pools .host .top }
+
+-- the entry of its top host table
+abbrev pub hostTop : Record → ℕ
+hostTop r = r .pools .host .top
+
+abbrev pub rootOf : Record → ℕ
+rootOf r = r .guest .root .0
+
+-- with other paths held
+unfoldable pub headHeld : Head → Held → Head
+headHeld h x = headTables h (record { host = h .pools .host; shadow = x .pool }) (x .frame)
+
+abbrev pub withHeld : Record → Held → Record
+withHeld r x = withHead r (headHeld (headOf r) x)
+
+-- with another pool of the host tables
+unfoldable pub headHost : Head → Pool → Head
+headHost h p = headTables h (record { host = p; shadow = h .pools .shadow }) (h .held)
+
+abbrev pub withHost : Record → Pool → Record
+withHost r p = withHead r (headHost (headOf r) p)
+
+-- ---- replies
 
 -- what a call leaves
 abbrev pub ended : Record → Answer → List ℕ → After Reply
@@ -45,35 +87,19 @@ ended r x m = yields (record { unit = r; answer = x }) m
 abbrev pub refused : Record → ℕ → List ℕ → After Reply
 refused r n m = ended r (answer.Refused n) m
 
--- the record with another pool of the shadow tables and another frame held at depth N
-unfoldable pub withHeld : Record → Pool → ℕ → Record
-withHeld r p top = record {
-  words = r .words;
-  hosts = r .hosts;
-  shadows = r .shadows;
-  root = r .root;
-  top = top;
-  host = r .host;
-  shadow = p;
-  marks = r .marks;
-}
+abbrev pub servedReply : Record → Served → Reply
+servedReply r s = record { unit = withHeld r (s .held); answer = s .answer }
 
--- with another pool of the host tables
-unfoldable pub withHost : Record → Pool → Record
-withHost r p = record {
-  words = r .words;
-  hosts = r .hosts;
-  shadows = r .shadows;
-  root = r .root;
-  top = r .top;
-  host = p;
-  shadow = r .shadow;
-  marks = r .marks;
-}
+abbrev pub turnReply : Record → Turn → Reply
+turnReply r t = record { unit = withHead r (t .head); answer = t .answer }
+
+-- a request that was served
+abbrev pub servedBy : Record → After Served → After Reply
+servedBy r s = yields (servedReply r (s .result)) (s .memory)
 
 -- the ranges that a record which breaks no rule has, as the functions below the calls ask for them
 abbrev pub Sound : Record → Type 0
-Sound r = LayoutFits (layoutOf (r .words) (r .hosts) (r .shadows)) × (r .shadow .fresh ≤ r .shadows)
+Sound r = LayoutFits (r .layout) × (r .pools .shadow .fresh ≤ r .layout .shadows)
 
 -- "3 first, if the memory's length is another or the record breaks a rule"
 abbrev pub judged : Record → List ℕ → After Reply → After Reply
@@ -94,76 +120,51 @@ openCall m h s = let t = openOf m h s in openedBy (t .result .unit) (t .result .
 -- ---- load, store, device store
 
 abbrev pub depthAt : Record → ℕ → ℕ
-depthAt r a = depthOf (pageOf a) (keys (r .marks .place) (r .marks .set))
+depthAt r a = depthOf (pageOf a) (keys (r .guest .marks .place) (r .guest .marks .set))
 
+-- the translation of an address
 unfoldable pub translatedOf : Record → List ℕ → Bool → ℕ → After Translated
-translatedOf r m st a = translateOf (configOf r) m (r .shadow) (r .top) (r .root) st a (depthAt r a)
+translatedOf r m st a = translateOf (configOf r) (hostTop r) m (heldOf r) (rootOf r) st a (depthAt r a)
 
 abbrev pub addressOk : Record → ℕ → Bool
 addressOk r a = addressFits (configOf r) a && wordAligned a
 
--- the record after a translation
-abbrev pub heldAfter : Record → After Translated → Record
-heldAfter r o = withHeld r (o .result .pool) (o .result .top)
-
-abbrev pub loadBy : Record → ℕ → After Translated → Walked → After Reply
-loadBy r a o (walked.Arrived t w n) = ended (heldAfter r o) (answer.Value (wordIn (o .memory) (t .0) (wordOf a)) n (o .result .exits)) (o .memory)
-loadBy r a o (walked.Faulted x n) = ended (heldAfter r o) (answer.Faulted x n (o .result .exits)) (o .memory)
-loadBy r a o walked.Damaged = refused r 11 (o .memory)
-
-unfoldable pub loadOf : Record → List ℕ → ℕ → After Reply
-loadOf r m a =
-    let o = translatedOf r m false a in
-    judged r m (cond (addressOk r a) (loadBy r a o (o .result .walked)) (refused r 4 m))
-
--- a store that came to its word: n references, e exits so far
-abbrev pub writtenBy : Record → ℕ → ℕ → ℕ → After Put → After Reply
-writtenBy r top n e s = cond (s .result .ok) (ended (withHeld r (s .result .pool) top) (answer.Done n (e + s .result .exits)) (s .memory)) (refused r 11 (s .memory))
-
-abbrev pub storeBy : Record → ℕ → ℕ → After Translated → Walked → After Reply
-storeBy r a v o (walked.Arrived t w n) =
-    writtenBy r (o .result .top) n (o .result .exits) (storeOf (configOf r) (o .memory) (o .result .pool) (t .0) (wordOf a) v)
-storeBy r a v o (walked.Faulted x n) = ended (heldAfter r o) (answer.Faulted x n (o .result .exits)) (o .memory)
-storeBy r a v o walked.Damaged = refused r 11 (o .memory)
+unfoldable pub loadCall : Record → List ℕ → ℕ → After Reply
+loadCall r m a =
+    judged r m (cond (addressOk r a) (servedBy r (loadOf (configOf r) (hostTop r) m (heldOf r) (rootOf r) a (depthAt r a))) (refused r 4 m))
 
 unfoldable pub storeCall : Record → List ℕ → ℕ → ℕ → After Reply
 storeCall r m a v =
-    let o = translatedOf r m true a in
-    judged r m (cond (addressOk r a) (storeBy r a v o (o .result .walked)) (refused r 4 m))
+    judged r m (cond (addressOk r a) (servedBy r (storeOf (configOf r) (hostTop r) m (heldOf r) (rootOf r) a (depthAt r a) v)) (refused r 4 m))
 
 abbrev pub deviceOk : Record → ℕ → Bool
 deviceOk r a = deviceFits (configOf r) a && wordAligned a
 
--- "For a device store: the host walk's words, 1 exit for H or W, 1, if granted, for a watched frame"
-abbrev pub deviceBy : Record → List ℕ → ℕ → ℕ → Walked → After Reply
-deviceBy r m a v (walked.Arrived t w n) = writtenBy r (r .top) n 0 (storeOf (configOf r) m (r .shadow) (t .0) (wordOf a) v)
-deviceBy r m a v (walked.Faulted x n) = ended r (answer.Faulted x n (exitBy (walked.Faulted x n))) m
-deviceBy r m a v walked.Damaged = refused r 11 m
-
 unfoldable pub deviceCall : Record → List ℕ → ℕ → ℕ → After Reply
-deviceCall r m a v =
-    judged r m (cond (deviceOk r a) (deviceBy r m a v (walkedOf (configOf r) m 0 (next true true (pageOf a) true))) (refused r 4 m))
+deviceCall r m a v = judged r m (cond (deviceOk r a) (servedBy r (deviceOf (configOf r) (hostTop r) m (heldOf r) a v)) (refused r 4 m))
 
 -- ---- root, map, unmap
 
 -- "A root load drops all"
 unfoldable pub rootCall : Record → List ℕ → ℕ → After Reply
-rootCall r m g = judged r m (cond (frameFits (configOf r) g) (ended (withRoot (withHeld r noneOf 0) g) answer.Ok m) (refused r 8 m))
+rootCall r m g = judged r m (cond (frameFits (configOf r) g) (ended (withHead r (headRoot (headHeld (headOf r) nothing) g)) answer.Ok m) (refused r 8 m))
 
--- what a drop left; r is the record given, next the one after the drop
-abbrev pub droppedBy : Record → Record → ℕ → After Left → After Reply
-droppedBy r next top o = cond (o .result .ok) (ended (withHeld next (o .result .pool) top) answer.Ok (o .memory)) (refused r 11 (o .memory))
+-- what a drop left; r is the record given, next the one after the drop, with the frame f held in it
+abbrev pub droppedBy : Record → Record → HostPhysical → After Left → After Reply
+droppedBy r next f o =
+    cond (o .result .ok) (ended (withHeld next (record { pool = o .result .pool; frame = f })) answer.Ok (o .memory)) (refused r 11 (o .memory))
 
--- "drops every held path whose shadow part used its mapping": every one if the frame is the root's
-unfoldable pub unmappedOf : Record → Record → List ℕ → ℕ → After Reply
-unmappedOf r next m g =
-    cond (eqb g (r .root)) (ended (withHeld next noneOf 0) answer.Ok m)
-    (droppedBy r next (r .top) (scanOf (configOf r) (Names (record { 0 = g })) (r .shadow) m))
+-- the mapping of g changed, and the host tables have the pool p: "drops every held path whose shadow part used its mapping",
+-- which is every one if the frame is the root's
+unfoldable pub unmappedOf : Record → Pool → List ℕ → ℕ → After Reply
+unmappedOf r p m g =
+    cond (eqb g (rootOf r)) (ended (withHeld (withHost r p) nothing) answer.Ok m)
+    (droppedBy r (withHost r p) (r .guest .held) (scanOf (configOf r) (Names (guestFrame g)) (r .pools .shadow) m))
 
--- the mapping of g changed; was: what its host walk came to before. A frame that was not mapped has no path to drop; an entry
--- that named a frame outside the guest area is 11
+-- was: what its host walk came to before. A frame that was not mapped has no path to drop; an entry that named a frame outside
+-- the guest area is 11
 abbrev pub mappedBy : Record → Pool → List ℕ → ℕ → HostWalk → After Reply
-mappedBy r p m g (host.Found f w) = unmappedOf r (withHost r p) m g
+mappedBy r p m g (host.Found f w) = unmappedOf r p m g
 mappedBy r p m g (host.Absent n) = ended (withHost r p) answer.Ok m
 mappedBy r p m g host.Damaged = refused r 11 m
 
@@ -171,31 +172,51 @@ abbrev pub changedBy : Record → ℕ → HostWalk → After Change → After Re
 changedBy r g was t = cond (eqb (t .result .refusal) 0) (mappedBy r (t .result .pool) (t .memory) g was) (refused r (t .result .refusal) (t .memory))
 
 unfoldable pub mapCall : Record → List ℕ → ℕ → ℕ → Bool → After Reply
-mapCall r m g f w = judged r m (changedBy r g (hostWalkOf (configOf r) m g) (mapOf (configOf r) (r .host) m g f w))
+mapCall r m g f w = judged r m (changedBy r g (hostWalkOf (configOf r) (hostTop r) m g) (mapOf (configOf r) (r .pools .host) m g f w))
 
 unfoldable pub unmapCall : Record → List ℕ → ℕ → After Reply
-unmapCall r m g = judged r m (changedBy r g (hostWalkOf (configOf r) m g) (unmapOf (configOf r) (r .host) m g))
+unmapCall r m g = judged r m (changedBy r g (hostWalkOf (configOf r) (hostTop r) m g) (unmapOf (configOf r) (r .pools .host) m g))
 
 -- ---- marks
 
--- the frame held at depth N after a mark of level n: it goes too where the mark keeps no index
-abbrev pub topAfter : ℕ → ℕ → ℕ
-topAfter n top = cond (ltb n levels) top 0
+-- the frame held in the record after a mark of level n, of N levels: it goes too where the mark keeps no index
+abbrev pub heldAfter : ℕ → ℕ → HostPhysical → HostPhysical
+heldAfter levels n f = cond (ltb n levels) f (page 0)
 
 -- "A mark set or cleared drops the paths that begin with its prefix"
 unfoldable pub markedOf : Record → List ℕ → ℕ → ℕ → Marks → After Reply
 markedOf r m a n t =
-    droppedBy r (withMarks r t) (topAfter n (r .top)) (dropPrefixOf (configOf r) (r .shadow) m (indexes (levels - n) (pageOf a / 2 ^ (9 * n))))
+    droppedBy r (withMarks r t) (heldAfter (r .layout .levels) n (r .guest .held))
+    (dropPrefixOf (configOf r) (r .pools .shadow) m (indexes (r .layout .levels - n) (pageOf a / 2 ^ (9 * n))))
 
 abbrev pub keysOf : Record → List ℕ
-keysOf r = keys (r .marks .place) (r .marks .set)
+keysOf r = keys (r .guest .marks .place) (r .guest .marks .set)
+
+-- a mark is set (b), or one that is set is cleared: why it is refused, and the marks after it
+abbrev pub markRefusal : Bool → Record → ℕ → ℕ → ℕ
+markRefusal b r a n = number (cond b (setRefusal (r .layout .levels) (keysOf r) a n) (clearRefusal (r .layout .levels) (keysOf r) a n))
+
+abbrev pub marksAfter : Bool → Marks → ℕ → Marks
+marksAfter b t k = cond b (withKey t k) (withoutKey t k)
+
+abbrev pub markCall : Bool → Record → List ℕ → ℕ → ℕ → After Reply
+markCall b r m a n =
+    judged r m (cond (eqb (markRefusal b r a n) 0) (markedOf r m a n (marksAfter b (r .guest .marks) (keyOf n (pageOf a)))) (refused r (markRefusal b r a n) m))
 
 unfoldable pub setMarkCall : Record → List ℕ → ℕ → ℕ → After Reply
-setMarkCall r m a n =
-    let x = number (setRefusal levels (keysOf r) a n) in
-    judged r m (cond (eqb x 0) (markedOf r m a n (withKey (r .marks) (keyOf n (pageOf a)))) (refused r x m))
+setMarkCall r m a n = markCall true r m a n
 
 unfoldable pub clearMarkCall : Record → List ℕ → ℕ → ℕ → After Reply
-clearMarkCall r m a n =
-    let x = number (clearRefusal levels (keysOf r) a n) in
-    judged r m (cond (eqb x 0) (markedOf r m a n (withoutKey (r .marks) (keyOf n (pageOf a)))) (refused r x m))
+clearMarkCall r m a n = markCall false r m a n
+
+-- ---- any call
+
+unfoldable pub callOf : Call → Record → List ℕ → After Reply
+callOf (root g) r m = rootCall r m g
+callOf (map g f w) r m = mapCall r m g f w
+callOf (unmap g) r m = unmapCall r m g
+callOf (setMark a n) r m = setMarkCall r m a n
+callOf (clearMark a n) r m = clearMarkCall r m a n
+callOf (load a) r m = loadCall r m a
+callOf (store a v) r m = storeCall r m a v
+callOf (device a v) r m = deviceCall r m a v

@@ -1,18 +1,17 @@
 -- What a walk over memory comes to, step by step: the laws that the code is proved by.
 -- Assumes nothing.
 use mathlib.Core.Path.{_≡_, refl, sym, ap, _∙_}
-use Prim.Native.Nat.{ℕ, zero, suc, pred, _+_, _-_, _≤_, _<_}
+use Prim.Native.Nat.{ℕ, pred, _+_, _-_, _<_}
 use native.Mathlib.Nat.{add-assoc}
 use native.Mathlib.Omega.{arith}
 use mathlib.Core.Bool.{Bool, true, false, not, _&&_, _||_, cond}
 use mathlib.Core.List.{List, [], _∷_}
-use mathlib.Core.Option.{Option, none, some}
 use lib.Dec.{eqb}
 use Rattle.spec.specs.declared.Fault.{Fault}
 use Rattle.spec.specs.declared.Fault.the-variants.{Absent, Malformed, Protected, HostAbsent, HostReadOnly}
 use Rattle.spec.specs.Config.{Config}
 use Rattle.spec.specs.Entry.{present, writable, frameOf, malformed, index, indexes}
-use Rattle.spec.specs.Walk.{Walk, done, fail, host, word, _>>=_, _>>_, World, Trace, Result, granted, failed, trace}
+use Rattle.spec.specs.Walk.{Walk, done, host, _>>=_, _>>_, World, Trace, Result, granted, failed, trace}
 use Rattle.spec.specs.Plain.{Place, must, mapped, hosted, entry, next, levels, walk}
 use Rattle.laws.proofs.Indexes.{indexes-step}
 use Rattle.laws.proofs.Bind.{onto, trace-bind, bind-assoc}
@@ -33,41 +32,41 @@ thenWalked (walked.Arrived p w n) f = f (p .0) w n
 thenWalked (walked.Faulted x n) f = walked.Faulted x n
 thenWalked walked.Damaged f = walked.Damaged
 
-fault-then : (c : Config) (m : List ℕ) (x : Fault) (n : ℕ) (f : ℕ → Bool → ℕ → Walked) → walkedBy c m (failed x) n ≡ thenWalked (walkedBy c m (failed x) n) f
-fault-then c m (Absent l) n f = refl
-fault-then c m (Malformed l) n f = refl
-fault-then c m (Protected l) n f = refl
-fault-then c m (HostAbsent g) n f = go (hostWalkOf c m g)
+fault-then : (c : Config) (ht : ℕ) (m : List ℕ) (x : Fault) (n : ℕ) (f : ℕ → Bool → ℕ → Walked) → walkedBy c ht m (failed x) n ≡ thenWalked (walkedBy c ht m (failed x) n) f
+fault-then c ht m (Absent l) n f = refl
+fault-then c ht m (Malformed l) n f = refl
+fault-then c ht m (Protected l) n f = refl
+fault-then c ht m (HostAbsent g) n f = go (hostWalkOf c ht m g)
   where
     go : (h : HostWalk) → absentBy h (walked.Faulted (HostAbsent g) n) ≡ thenWalked (absentBy h (walked.Faulted (HostAbsent g) n)) f
     go (host.Found p w) = refl
     go (host.Absent k) = refl
     go host.Damaged = refl
-fault-then c m (HostReadOnly g) n f = refl
+fault-then c ht m (HostReadOnly g) n f = refl
 
-pub walked-then : (c : Config) (m : List ℕ) (n : ℕ) (p : Walk Fault Place) (f : Place → Walk Fault Place)
-    → walkedOf c m n (p >>= f) ≡ thenWalked (walkedOf c m n p) (λ t w k. walkedOf c m k (f (t, w)))
+pub walked-then : (c : Config) (ht : ℕ) (m : List ℕ) (n : ℕ) (p : Walk Fault Place) (f : Place → Walk Fault Place)
+    → walkedOf c ht m n (p >>= f) ≡ thenWalked (walkedOf c ht m n p) (λ t w k. walkedOf c ht m k (f (t, w)))
 unfolding walkedOf
-walked-then c m n p f =
-    ap (λ (t : Trace Fault Place). walkedBy c m (t .result) (n + t .count)) (trace-bind w p f) ∙ go (r .result)
+walked-then c ht m n p f =
+    ap (λ (t : Trace Fault Place). walkedBy c ht m (t .result) (n + t .count)) (trace-bind w p f) ∙ go (r .result)
   where
     w : World
-    w = memoryWorld c m
+    w = memoryWorld c ht m
 
     r : Trace Fault Place
     r = trace w p
 
     go : (x : Result Fault Place)
-        → walkedBy c m ((onto x (r .count) (r .reads) (r .uses) (λ a. trace w (f a))) .result) (n + (onto x (r .count) (r .reads) (r .uses) (λ a. trace w (f a))) .count)
-        ≡ thenWalked (walkedBy c m x (n + r .count)) (λ t v k. walkedBy c m ((trace w (f (t, v))) .result) (k + (trace w (f (t, v))) .count))
-    go (granted a) = ap (walkedBy c m ((trace w (f a)) .result)) (sym (add-assoc n (r .count) ((trace w (f a)) .count)))
-    go (failed x) = fault-then c m x (n + r .count) _
+        → walkedBy c ht m ((onto x (r .count) (r .reads) (r .uses) (λ a. trace w (f a))) .result) (n + (onto x (r .count) (r .reads) (r .uses) (λ a. trace w (f a))) .count)
+        ≡ thenWalked (walkedBy c ht m x (n + r .count)) (λ t v k. walkedBy c ht m ((trace w (f (t, v))) .result) (k + (trace w (f (t, v))) .count))
+    go (granted a) = ap (walkedBy c ht m ((trace w (f a)) .result)) (sym (add-assoc n (r .count) ((trace w (f a)) .count)))
+    go (failed x) = fault-then c ht m x (n + r .count) _
 
 -- ---- the steps
 
-pub walked-done : (c : Config) (m : List ℕ) (n t : ℕ) (w : Bool) → walkedOf c m n (done (t, w)) ≡ walked.Arrived (page t) w n
+pub walked-done : (c : Config) (ht : ℕ) (m : List ℕ) (n t : ℕ) (w : Bool) → walkedOf c ht m n (done (t, w)) ≡ walked.Arrived (page t) w n
 unfolding walkedOf trace
-walked-done c m n t w = let z : n + 0 ≡ n = omega arith in rw z
+walked-done c ht m n t w = let z : n + 0 ≡ n = omega arith in rw z
 
 -- on from the host walk h of guest frame g, of levels k: to a table
 abbrev pub tableBy : ℕ → ℕ → Bool → ℕ → HostWalk → Walked
@@ -80,29 +79,29 @@ pageBy k st g right n (host.Found p w) = foundOf st g p w right (n + k)
 pageBy k st g right n (host.Absent r) = walked.Faulted (HostAbsent g) (n + r)
 pageBy k st g right n host.Damaged = walked.Damaged
 
-pub table-step : (c : Config) (m : List ℕ) (n : ℕ) (st : Bool) (g : ℕ) (right : Bool)
-    → walkedOf c m n (next st false g right) ≡ tableBy (c .levels) g right n (hostWalkOf c m g)
+pub table-step : (c : Config) (ht : ℕ) (m : List ℕ) (n : ℕ) (st : Bool) (g : ℕ) (right : Bool)
+    → walkedOf c ht m n (next st false g right) ≡ tableBy (c .levels) g right n (hostWalkOf c ht m g)
 unfolding walkedOf next hosted trace memoryWorld
-table-step c m n st g right = go (hostWalkOf c m g) refl
+table-step c ht m n st g right = go (hostWalkOf c ht m g) refl
   where
     w : World
-    w = memoryWorld c m
+    w = memoryWorld c ht m
 
     on : HostWalk → Trace Fault Place
     on h = trace w (mapped g (placeOf h) >>= λ r. done (r .0, right))
 
-    go : (h : HostWalk) → hostWalkOf c m g ≡ h → walkedBy c m ((on h) .result) (n + (readsOf c h + (on h) .count)) ≡ tableBy (c .levels) g right n h
+    go : (h : HostWalk) → hostWalkOf c ht m g ≡ h → walkedBy c ht m ((on h) .result) (n + (readsOf c h + (on h) .count)) ≡ tableBy (c .levels) g right n h
     go (host.Found p v) e = let z : n + (c .levels + 0) ≡ n + c .levels = omega arith in ap (walked.Arrived p right) z
     go (host.Absent k) e = let z : n + (k + 0) ≡ n + k = omega arith in rw (e, z)
     go host.Damaged e = rw e
 
-pub page-step : (c : Config) (m : List ℕ) (n : ℕ) (st : Bool) (g : ℕ) (right : Bool)
-    → walkedOf c m n (next st true g right) ≡ cond (not st || right) (pageBy (c .levels) st g right n (hostWalkOf c m g)) (walked.Faulted (Protected 1) n)
+pub page-step : (c : Config) (ht : ℕ) (m : List ℕ) (n : ℕ) (st : Bool) (g : ℕ) (right : Bool)
+    → walkedOf c ht m n (next st true g right) ≡ cond (not st || right) (pageBy (c .levels) st g right n (hostWalkOf c ht m g)) (walked.Faulted (Protected 1) n)
 unfolding walkedOf next hosted trace memoryWorld foundOf
-page-step c m n st g right = first (not st || right)
+page-step c ht m n st g right = first (not st || right)
   where
     w : World
-    w = memoryWorld c m
+    w = memoryWorld c ht m
 
     last : Place → Walk Fault Place
     last r = must (not st || r .1) (HostReadOnly g) >> done (r .0, (right && r .1))
@@ -114,12 +113,12 @@ page-step c m n st g right = first (not st || right)
     at p v = done (p .0, (right && v))
 
     found : (b : Bool) (p : HostPhysical) (v : Bool) (k : ℕ)
-        → walkedBy c m ((trace w (must b (HostReadOnly g) >> at p v)) .result) (n + (k + (trace w (must b (HostReadOnly g) >> at p v)) .count))
+        → walkedBy c ht m ((trace w (must b (HostReadOnly g) >> at p v)) .result) (n + (k + (trace w (must b (HostReadOnly g) >> at p v)) .count))
         ≡ cond b (walked.Arrived p (right && v) (n + k)) (walked.Faulted (HostReadOnly g) (n + k))
     found true p v k = let z : n + (k + 0) ≡ n + k = omega arith in ap (walked.Arrived p (right && v)) z
     found false p v k = let z : n + (k + 0) ≡ n + k = omega arith in ap (walked.Faulted (HostReadOnly g)) z
 
-    go : (h : HostWalk) → hostWalkOf c m g ≡ h → walkedBy c m ((on h) .result) (n + (readsOf c h + (on h) .count)) ≡ pageBy (c .levels) st g right n h
+    go : (h : HostWalk) → hostWalkOf c ht m g ≡ h → walkedBy c ht m ((on h) .result) (n + (readsOf c h + (on h) .count)) ≡ pageBy (c .levels) st g right n h
     go (host.Found p v) e = found (not st || v) p v (c .levels)
     go (host.Absent k) e = let z : n + (k + 0) ≡ n + k = omega arith in rw (e, z)
     go host.Damaged e = rw e
@@ -128,25 +127,25 @@ page-step c m n st g right = first (not st || right)
     whole = hosted g >>= last
 
     first : (b : Bool)
-        → walkedBy c m ((trace w (must b (Protected 1) >> whole)) .result) (n + (trace w (must b (Protected 1) >> whole)) .count)
-        ≡ cond b (pageBy (c .levels) st g right n (hostWalkOf c m g)) (walked.Faulted (Protected 1) n)
-    first true = go (hostWalkOf c m g) refl
+        → walkedBy c ht m ((trace w (must b (Protected 1) >> whole)) .result) (n + (trace w (must b (Protected 1) >> whole)) .count)
+        ≡ cond b (pageBy (c .levels) st g right n (hostWalkOf c ht m g)) (walked.Faulted (Protected 1) n)
+    first true = go (hostWalkOf c ht m g) refl
     first false = let z : n + 0 ≡ n = omega arith in ap (walked.Faulted (Protected 1)) z
 
 -- one level, by the entry e that it reads
-abbrev pub turnBy : Config → List ℕ → ℕ → Bool → ℕ → Bool → ℕ → Walked
-turnBy c m n st level right e =
+abbrev pub turnBy : Config → ℕ → List ℕ → ℕ → Bool → ℕ → Bool → ℕ → Walked
+turnBy c ht m n st level right e =
     cond (present e)
-    (cond (malformed c level e) (walked.Faulted (Malformed level) (n + 1)) (walkedOf c m (n + 1) (next st (eqb level 1) (frameOf e) (right && writable e))))
+    (cond (malformed c level e) (walked.Faulted (Malformed level) (n + 1)) (walkedOf c ht m (n + 1) (next st (eqb level 1) (frameOf e) (right && writable e))))
     (walked.Faulted (Absent level) (n + 1))
 
-pub turn-step : (c : Config) (m : List ℕ) (n : ℕ) (st : Bool) (level t i : ℕ) (right : Bool)
-    → walkedOf c m n (turn c st level t i right) ≡ turnBy c m n st level right (wordIn m t i)
+pub turn-step : (c : Config) (ht : ℕ) (m : List ℕ) (n : ℕ) (st : Bool) (level t i : ℕ) (right : Bool)
+    → walkedOf c ht m n (turn c st level t i right) ≡ turnBy c ht m n st level right (wordIn m t i)
 unfolding walkedOf turn entry trace memoryWorld
-turn-step c m n st level t i right = go (present e) (malformed c level e)
+turn-step c ht m n st level t i right = go (present e) (malformed c level e)
   where
     w : World
-    w = memoryWorld c m
+    w = memoryWorld c ht m
 
     e : ℕ
     e = wordIn m t i
@@ -161,33 +160,33 @@ turn-step c m n st level t i right = go (present e) (malformed c level e)
     rest p b = trace w (must p (Absent level) >> (must (not b) (Malformed level) >> named) >>= λ x. next st (eqb level 1) (x .0) (right && x .1))
 
     go : (p b : Bool)
-        → walkedBy c m ((rest p b) .result) (n + (1 + (rest p b) .count))
-        ≡ cond p (cond b (walked.Faulted (Malformed level) (n + 1)) (walkedBy c m ((trace w on) .result) (n + 1 + (trace w on) .count))) (walked.Faulted (Absent level) (n + 1))
-    go true false = let z : n + (1 + (trace w on) .count) ≡ n + 1 + (trace w on) .count = omega arith in ap (walkedBy c m ((trace w on) .result)) z
+        → walkedBy c ht m ((rest p b) .result) (n + (1 + (rest p b) .count))
+        ≡ cond p (cond b (walked.Faulted (Malformed level) (n + 1)) (walkedBy c ht m ((trace w on) .result) (n + 1 + (trace w on) .count))) (walked.Faulted (Absent level) (n + 1))
+    go true false = let z : n + (1 + (trace w on) .count) ≡ n + 1 + (trace w on) .count = omega arith in ap (walkedBy c ht m ((trace w on) .result)) z
     go true true = let z : n + (1 + 0) ≡ n + 1 = omega arith in ap (walked.Faulted (Malformed level)) z
     go false b = let z : n + (1 + 0) ≡ n + 1 = omega arith in ap (walked.Faulted (Absent level)) z
 
 -- ---- the loop: one turn, and the indexes that are left
 
-pub levels-step : (c : Config) (m : List ℕ) (n : ℕ) (st : Bool) (level t i : ℕ) (is : List ℕ) (right : Bool)
-    → walkedOf c m n (levels c st level t right (i ∷ is))
-    ≡ thenWalked (walkedOf c m n (turn c st level t i right)) (λ u v k. walkedOf c m k (levels c st (pred level) u v is))
+pub levels-step : (c : Config) (ht : ℕ) (m : List ℕ) (n : ℕ) (st : Bool) (level t i : ℕ) (is : List ℕ) (right : Bool)
+    → walkedOf c ht m n (levels c st level t right (i ∷ is))
+    ≡ thenWalked (walkedOf c ht m n (turn c st level t i right)) (λ u v k. walkedOf c ht m k (levels c st (pred level) u v is))
 unfolding levels turn
-levels-step c m n st level t i is right =
-    ap (walkedOf c m n) (sym (bind-assoc (entry c level t i) (λ e. next st (eqb level 1) (e .0) (right && e .1)) (λ r. levels c st (pred level) (r .0) (r .1) is)))
-    ∙ walked-then c m n (entry c level t i >>= λ e. next st (eqb level 1) (e .0) (right && e .1)) (λ r. levels c st (pred level) (r .0) (r .1) is)
+levels-step c ht m n st level t i is right =
+    ap (walkedOf c ht m n) (sym (bind-assoc (entry c level t i) (λ e. next st (eqb level 1) (e .0) (right && e .1)) (λ r. levels c st (pred level) (r .0) (r .1) is)))
+    ∙ walked-then c ht m n (entry c level t i >>= λ e. next st (eqb level 1) (e .0) (right && e .1)) (λ r. levels c st (pred level) (r .0) (r .1) is)
 
-pub levels-end : (c : Config) (m : List ℕ) (n : ℕ) (st : Bool) (level t : ℕ) (right : Bool)
-    → walkedOf c m n (levels c st level t right []) ≡ walked.Arrived (page t) right n
+pub levels-end : (c : Config) (ht : ℕ) (m : List ℕ) (n : ℕ) (st : Bool) (level t : ℕ) (right : Bool)
+    → walkedOf c ht m n (levels c st level t right []) ≡ walked.Arrived (page t) right n
 unfolding levels
-levels-end c m n st level t right = walked-done c m n t right
+levels-end c ht m n st level t right = walked-done c ht m n t right
 
-pub walk-step : (c : Config) (m : List ℕ) (n : ℕ) (st : Bool) (root : ℕ) (is : List ℕ)
-    → walkedOf c m n (walk c st root is) ≡ thenWalked (walkedOf c m n (next false false root true)) (λ u v k. walkedOf c m k (levels c st (c .levels) u true is))
+pub walk-step : (c : Config) (ht : ℕ) (m : List ℕ) (n : ℕ) (st : Bool) (root : ℕ) (is : List ℕ)
+    → walkedOf c ht m n (walk c st root is) ≡ thenWalked (walkedOf c ht m n (next false false root true)) (λ u v k. walkedOf c ht m k (levels c st (c .levels) u true is))
 unfolding walk next
-walk-step c m n st root is =
-    ap (walkedOf c m n) (sym (bind-assoc (hosted root) (λ r. done (r .0, true)) (λ r. levels c st (c .levels) (r .0) true is)))
-    ∙ walked-then c m n (hosted root >>= λ r. done (r .0, true)) (λ r. levels c st (c .levels) (r .0) true is)
+walk-step c ht m n st root is =
+    ap (walkedOf c ht m n) (sym (bind-assoc (hosted root) (λ r. done (r .0, true)) (λ r. levels c st (c .levels) (r .0) true is)))
+    ∙ walked-then c ht m n (hosted root >>= λ r. done (r .0, true)) (λ r. levels c st (c .levels) (r .0) true is)
 
 -- ---- where a turn arrives: a frame of the guest area, after one guest word and a host walk
 
@@ -196,17 +195,17 @@ TurnFits c n (walked.Arrived p w k) = InGuestArea c (p .0) × (k ≡ n + c .leve
 TurnFits c n (walked.Faulted x k) = Unit {0}
 TurnFits c n walked.Damaged = Unit {0}
 
-pub table-fits : (c : Config) (m : List ℕ) (n : ℕ) (st : Bool) (g : ℕ) (right : Bool) → TurnFits c n (walkedOf c m n (next st false g right))
-table-fits c m n st g right = rw (table-step c m n st g right) (go (hostWalkOf c m g) (host-fits c m g))
+pub table-fits : (c : Config) (ht : ℕ) (m : List ℕ) (n : ℕ) (st : Bool) (g : ℕ) (right : Bool) → TurnFits c n (walkedOf c ht m n (next st false g right))
+table-fits c ht m n st g right = rw (table-step c ht m n st g right) (go (hostWalkOf c ht m g) (host-fits c ht m g))
   where
     go : (h : HostWalk) → HostFits c h → TurnFits c n (tableBy (c .levels) g right n h)
     go (host.Found p w) f = (f, refl)
     go (host.Absent k) f = tt
     go host.Damaged f = tt
 
-pub page-fits : (c : Config) (m : List ℕ) (n : ℕ) (st : Bool) (g : ℕ) (right : Bool) → TurnFits c n (walkedOf c m n (next st true g right))
+pub page-fits : (c : Config) (ht : ℕ) (m : List ℕ) (n : ℕ) (st : Bool) (g : ℕ) (right : Bool) → TurnFits c n (walkedOf c ht m n (next st true g right))
 unfolding foundOf
-page-fits c m n st g right = rw (page-step c m n st g right) (first (not st || right))
+page-fits c ht m n st g right = rw (page-step c ht m n st g right) (first (not st || right))
   where
     found : (b : Bool) (p : HostPhysical) (w : Bool) → InGuestArea c (p .0)
         → TurnFits c n (cond b (walked.Arrived p (right && w) (n + c .levels)) (walked.Faulted (HostReadOnly g) (n + c .levels)))
@@ -218,41 +217,41 @@ page-fits c m n st g right = rw (page-step c m n st g right) (first (not st || r
     go (host.Absent k) f = tt
     go host.Damaged f = tt
 
-    first : (b : Bool) → TurnFits c n (cond b (pageBy (c .levels) st g right n (hostWalkOf c m g)) (walked.Faulted (Protected 1) n))
-    first true = go (hostWalkOf c m g) (host-fits c m g)
+    first : (b : Bool) → TurnFits c n (cond b (pageBy (c .levels) st g right n (hostWalkOf c ht m g)) (walked.Faulted (Protected 1) n))
+    first true = go (hostWalkOf c ht m g) (host-fits c ht m g)
     first false = tt
 
-pub turn-fits : (c : Config) (m : List ℕ) (n : ℕ) (st : Bool) (level t i : ℕ) (right : Bool) → TurnFits c (n + 1) (walkedOf c m n (turn c st level t i right))
-turn-fits c m n st level t i right = rw (turn-step c m n st level t i right) (go (present e) (malformed c level e))
+pub turn-fits : (c : Config) (ht : ℕ) (m : List ℕ) (n : ℕ) (st : Bool) (level t i : ℕ) (right : Bool) → TurnFits c (n + 1) (walkedOf c ht m n (turn c st level t i right))
+turn-fits c ht m n st level t i right = rw (turn-step c ht m n st level t i right) (go (present e) (malformed c level e))
   where
     e : ℕ
     e = wordIn m t i
 
-    on : (last : Bool) → TurnFits c (n + 1) (walkedOf c m (n + 1) (next st last (frameOf e) (right && writable e)))
-    on true = page-fits c m (n + 1) st (frameOf e) (right && writable e)
-    on false = table-fits c m (n + 1) st (frameOf e) (right && writable e)
+    on : (last : Bool) → TurnFits c (n + 1) (walkedOf c ht m (n + 1) (next st last (frameOf e) (right && writable e)))
+    on true = page-fits c ht m (n + 1) st (frameOf e) (right && writable e)
+    on false = table-fits c ht m (n + 1) st (frameOf e) (right && writable e)
 
     go : (p b : Bool)
-        → TurnFits c (n + 1) (cond p (cond b (walked.Faulted (Malformed level) (n + 1)) (walkedOf c m (n + 1) (next st (eqb level 1) (frameOf e) (right && writable e)))) (walked.Faulted (Absent level) (n + 1)))
+        → TurnFits c (n + 1) (cond p (cond b (walked.Faulted (Malformed level) (n + 1)) (walkedOf c ht m (n + 1) (next st (eqb level 1) (frameOf e) (right && writable e)))) (walked.Faulted (Absent level) (n + 1)))
     go true true = tt
     go true false = on (eqb level 1)
     go false b = tt
 
 -- the loop's turn, with k indexes left and the levels below them
-pub loop-step : (c : Config) (m : List ℕ) (n : ℕ) (st : Bool) (below k t path : ℕ) (right : Bool) → 0 < k
-    → walkedOf c m n (levels c st (below + k) t right (indexes k path))
-    ≡ thenWalked (walkedOf c m n (turn c st (below + (k - 1) + 1) t (index (k - 1) path) right))
-    (λ u v j. walkedOf c m j (levels c st (below + (k - 1)) u v (indexes (k - 1) path)))
-loop-step c m n st below k t path right h =
+pub loop-step : (c : Config) (ht : ℕ) (m : List ℕ) (n : ℕ) (st : Bool) (below k t path : ℕ) (right : Bool) → 0 < k
+    → walkedOf c ht m n (levels c st (below + k) t right (indexes k path))
+    ≡ thenWalked (walkedOf c ht m n (turn c st (below + (k - 1) + 1) t (index (k - 1) path) right))
+    (λ u v j. walkedOf c ht m j (levels c st (below + (k - 1)) u v (indexes (k - 1) path)))
+loop-step c ht m n st below k t path right h =
     let up : below + k ≡ below + (k - 1) + 1 = omega arith in
     let down : pred (below + (k - 1) + 1) ≡ below + (k - 1) = omega arith in
-    ap (λ is. walkedOf c m n (levels c st (below + k) t right is)) (indexes-step k path h)
-    ∙ ap (λ l. walkedOf c m n (levels c st l t right (index (k - 1) path ∷ indexes (k - 1) path))) up
-    ∙ levels-step c m n st (below + (k - 1) + 1) t (index (k - 1) path) (indexes (k - 1) path) right
-    ∙ ap (λ l. thenWalked (walkedOf c m n (turn c st (below + (k - 1) + 1) t (index (k - 1) path) right)) (λ u v j. walkedOf c m j (levels c st l u v (indexes (k - 1) path)))) down
+    ap (λ is. walkedOf c ht m n (levels c st (below + k) t right is)) (indexes-step k path h)
+    ∙ ap (λ l. walkedOf c ht m n (levels c st l t right (index (k - 1) path ∷ indexes (k - 1) path))) up
+    ∙ levels-step c ht m n st (below + (k - 1) + 1) t (index (k - 1) path) (indexes (k - 1) path) right
+    ∙ ap (λ l. thenWalked (walkedOf c ht m n (turn c st (below + (k - 1) + 1) t (index (k - 1) path) right)) (λ u v j. walkedOf c ht m j (levels c st l u v (indexes (k - 1) path)))) down
 
-pub loop-end : (c : Config) (m : List ℕ) (n : ℕ) (st : Bool) (below k t path : ℕ) (right : Bool) → k ≡ 0
-    → walkedOf c m n (levels c st (below + k) t right (indexes k path)) ≡ walked.Arrived (page t) right n
+pub loop-end : (c : Config) (ht : ℕ) (m : List ℕ) (n : ℕ) (st : Bool) (below k t path : ℕ) (right : Bool) → k ≡ 0
+    → walkedOf c ht m n (levels c st (below + k) t right (indexes k path)) ≡ walked.Arrived (page t) right n
 unfolding indexes
-loop-end c m n st below k t path right z =
-    ap (λ j. walkedOf c m n (levels c st (below + j) t right (indexes j path))) z ∙ levels-end c m n st (below + 0) t right
+loop-end c ht m n st below k t path right z =
+    ap (λ j. walkedOf c ht m n (levels c st (below + j) t right (indexes j path))) z ∙ levels-end c ht m n st (below + 0) t right

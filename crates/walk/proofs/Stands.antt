@@ -1,26 +1,25 @@
 -- Where the host tables stand for the machine's mapping, a walk over memory is the machine's walk: result, fault, count, words
 -- read, mappings used.
 -- Assumes nothing.
-use mathlib.Core.Path.{_≡_, refl, sym, ap, ap₂, _∙_, subst}
-use Prim.Native.Nat.{ℕ, zero, suc, _+_, _-_, _*_, _^_, _<_, _≤_}
+use mathlib.Core.Path.{_≡_, refl, sym, ap, _∙_}
+use Prim.Native.Nat.{ℕ, _+_, _-_, _*_, _^_, _<_}
 use native.Mathlib.Nat.{zero-add}
 use native.Mathlib.Omega.{arith}
-use mathlib.Core.Bool.{Bool, true, false}
-use mathlib.Core.List.{List, [], _∷_}
+use mathlib.Core.Bool.{Bool}
+use mathlib.Core.List.{List}
 use mathlib.Core.Option.{Option, none, some}
 use lib.ListN.{getD, drop}
 use lib.Seq.{getD-drop}
 use Rattle.spec.specs.declared.Fault.{Fault}
 use Rattle.spec.specs.declared.Fault.the-variants.{Absent, Malformed, Protected, HostAbsent, HostReadOnly}
 use Rattle.spec.specs.Config.{Config, guestBase, frameBits}
-use Rattle.spec.specs.Walk.{Walk, World, Trace, Result, granted, failed, trace}
+use Rattle.spec.specs.Walk.{Walk, Trace, Result, granted, failed, trace}
 use Rattle.spec.specs.Plain.{Place, levels, walk}
 use Rattle.spec.specs.Machine.{Machine, lookup, hostCost, costOf, place, wordIn, world}
 use Rattle.laws.proofs.Lists.{All, all-map}
 use Rattle.laws.proofs.Local.{SameHost, SameWord, local}
-use Rattle.laws.proofs.Asks.{Asks, Asked, asks-trace, AnswerIn, FaultFits, Guest, levels-asks, walk-asks}
+use Rattle.laws.proofs.Asks.{Asked, asks-trace, AnswerIn, FaultFits, Guest, levels-asks, walk-asks}
 use Rattle.words.specs.Words as words
-use Rattle.host.specs.declared.HostWalk.{HostWalk}
 use Rattle.host.specs.declared.HostWalk.the-variants as host
 use Rattle.host.specs.Walk.{hostWalkOf, page}
 use Rattle.host.proofs.Laws.{InGuestArea}
@@ -35,14 +34,14 @@ plainWalked (granted r) n = walked.Arrived (page (r .0)) (r .1) n
 plainWalked (failed x) n = walked.Faulted x n
 
 -- the lent memory stands for the machine: its host tables for the mapping, its guest area for the guest area
-pub record Stands (c : Config) (s : Machine) (m : List ℕ) : Type 0 where
-  pub tables : (g : ℕ) → g < 2 ^ frameBits c → hostWalkOf c m g ≡ answerOf c (s .mappings) g
+pub record Stands (c : Config) (s : Machine) (ht : ℕ) (m : List ℕ) : Type 0 where
+  pub tables : (g : ℕ) → g < 2 ^ frameBits c → hostWalkOf c ht m g ≡ answerOf c (s .mappings) g
   pub inside : (g : ℕ) → AnswerIn (InGuestArea c) (lookup g (s .mappings))
   pub area : drop (512 * guestBase c) m ≡ s .area
 
-module _ (c : Config) (s : Machine) (m : List ℕ) (st : Stands c s m) where
+module _ (c : Config) (s : Machine) (ht : ℕ) (m : List ℕ) (st : Stands c s ht m) where
   -- what memory answers of a guest frame
-  same-host : (g : ℕ) → g < 2 ^ frameBits c → SameHost (world c s) (memoryWorld c m) g
+  same-host : (g : ℕ) → g < 2 ^ frameBits c → SameHost (world c s) (memoryWorld c ht m) g
   unfolding world memoryWorld hostCost
   same-host g b = rw (st .tables g b) (go (lookup g (s .mappings)))
     where
@@ -64,29 +63,29 @@ module _ (c : Config) (s : Machine) (m : List ℕ) (st : Stands c s m) where
       asks-trace (AnswerIn (InGuestArea c)) (λ g. g < 2 ^ frameBits c) (λ t i. InGuestArea c t × (i < 512)) (FaultFits c) (world c s) p R (st .inside) a
 
   -- a walk that asks for guest frame numbers and for words of the guest area has one trace
-  pub stands-trace : {A : Type 0} (p : Walk Fault A) (R : A → Type 0) → Guest c (InGuestArea c) p R → trace (memoryWorld c m) p ≡ trace (world c s) p
+  pub stands-trace : {A : Type 0} (p : Walk Fault A) (R : A → Type 0) → Guest c (InGuestArea c) p R → trace (memoryWorld c ht m) p ≡ trace (world c s) p
   unfolding world memoryWorld
   stands-trace p R a =
       let q = asked p R a in
-      local (world c s) (memoryWorld c m) p (record {
-        hosts = all-map (λ g. g < 2 ^ frameBits c) (SameHost (world c s) (memoryWorld c m)) ((trace (world c s) p) .uses) same-host (q .uses);
-        words = all-map (λ x. InGuestArea c (x .0) × (x .1 < 512)) (SameWord (world c s) (memoryWorld c m)) ((trace (world c s) p) .reads)
+      local (world c s) (memoryWorld c ht m) p (record {
+        hosts = all-map (λ g. g < 2 ^ frameBits c) (SameHost (world c s) (memoryWorld c ht m)) ((trace (world c s) p) .uses) same-host (q .uses);
+        words = all-map (λ x. InGuestArea c (x .0) × (x .1 < 512)) (SameWord (world c s) (memoryWorld c ht m)) ((trace (world c s) p) .reads)
             (λ x b. same-word (x .0) (x .1) (b .0)) (q .reads);
       })
 
   -- what the code answers: the machine's result with the words read, and never damage
   pub stands-walked : (n : ℕ) (p : Walk Fault Place) (R : Place → Type 0) → Guest c (InGuestArea c) p R
-      → walkedOf c m n p ≡ plainWalked ((trace (world c s) p) .result) (n + (trace (world c s) p) .count)
+      → walkedOf c ht m n p ≡ plainWalked ((trace (world c s) p) .result) (n + (trace (world c s) p) .count)
   unfolding walkedOf
   stands-walked n p R a =
-      ap (λ (t : Trace Fault Place). walkedBy c m (t .result) (n + t .count)) (stands-trace p R a)
+      ap (λ (t : Trace Fault Place). walkedBy c ht m (t .result) (n + t .count)) (stands-trace p R a)
       ∙ go ((trace (world c s) p) .result) (n + (trace (world c s) p) .count) ((asked p R a) .fails)
     where
       at : (g k n : ℕ) (r : Option Place) → absentBy (answerBy k r) (walked.Faulted (HostAbsent g) n) ≡ walked.Faulted (HostAbsent g) n
       at g k n none = refl
       at g k n (some r) = refl
 
-      go : (x : Result Fault Place) (k : ℕ) → ((y : Fault) → x ≡ failed y → FaultFits c y) → walkedBy c m x k ≡ plainWalked x k
+      go : (x : Result Fault Place) (k : ℕ) → ((y : Fault) → x ≡ failed y → FaultFits c y) → walkedBy c ht m x k ≡ plainWalked x k
       go (granted r) k f = refl
       go (failed (Absent l)) k f = refl
       go (failed (Malformed l)) k f = refl
@@ -98,14 +97,14 @@ module _ (c : Config) (s : Machine) (m : List ℕ) (st : Stands c s m) where
 
   -- the plain walk and its upper part, from the root
   pub root-walked : (store : Bool) (root : ℕ) (is : List ℕ) → root < 2 ^ frameBits c → All (λ i. i < 512) is
-      → walkedOf c m 0 (walk c store root is) ≡ plainWalked ((trace (world c s) (walk c store root is)) .result) ((trace (world c s) (walk c store root is)) .count)
+      → walkedOf c ht m 0 (walk c store root is) ≡ plainWalked ((trace (world c s) (walk c store root is)) .result) ((trace (world c s) (walk c store root is)) .count)
   root-walked store root is b small =
       stands-walked 0 (walk c store root is) _ (walk-asks c (InGuestArea c) store root is b small)
       ∙ ap (plainWalked ((trace (world c s) (walk c store root is)) .result)) (zero-add ((trace (world c s) (walk c store root is)) .count))
 
   -- its lower part, from a guest table in the guest area, after n words
   pub table-walked : (n : ℕ) (store : Bool) (level t : ℕ) (right : Bool) (is : List ℕ) → InGuestArea c t → All (λ i. i < 512) is
-      → walkedOf c m n (levels c store level t right is)
+      → walkedOf c ht m n (levels c store level t right is)
       ≡ plainWalked ((trace (world c s) (levels c store level t right is)) .result) (n + (trace (world c s) (levels c store level t right is)) .count)
   table-walked n store level t right is b small =
       stands-walked n (levels c store level t right is) _ (levels-asks c (InGuestArea c) store level t right is b small)

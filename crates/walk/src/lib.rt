@@ -4,14 +4,14 @@ ghost use mathlib.Core.Path.{_≡_};
 ghost use mathlib.Core.Bool.{true, false, _&&_, _||_, not};
 ghost use Prim.Native.Nat.{_+_, _<_, _≤_};
 ghost use lib.Dec.{eqb};
-ghost use Rattle.spec.specs.Entry.{indexes, pageOf};
+ghost use Rattle.spec.specs.Entry.{indexes};
 ghost use Rattle.spec.specs.Plain.{next, levels, walk};
 ghost use Rattle.host.specs.Walk.{LayoutFits, config};
-ghost use Rattle.walk.specs.Memory.{foundOf, walkedOf, turn};
+ghost use Rattle.walk.specs.Memory.{foundOf, walkedOf, trailOf, turn};
 use entry::GuestPhysical;
 use entry::HostPhysical;
 use host::HostWalk;
-use host::Layout;
+use host::Space;
 use spec::Fault;
 
 // What a walk comes to, with the words read: where it arrived and whether stores pass, why it stopped, or damaged tables.
@@ -42,15 +42,15 @@ pub fn both(a: bool, b: bool) -> bool
 }
 
 // On to the guest table in frame g. Reading a table needs no write right.
-pub fn to_table(mem: &[u64], l: Layout, g: GuestPhysical, right: bool, read: u64) -> Walked
-    requires { ⌜ (LayoutFits l) × (read ≤ 65536) ⌝ }
-    ensures { λ r. ⌜ r ≡ walkedOf (config l) (now (mem .entry)) read (next false false (g .0) right) ⌝ }
+pub fn to_table(mem: &[u64], s: Space, g: GuestPhysical, right: bool, read: u64) -> Walked
+    requires { ⌜ (LayoutFits (s .layout)) × (read ≤ 65536) ⌝ }
+    ensures { λ r. ⌜ r ≡ walkedOf (config (s .layout)) (s .top) (now (mem .entry)) read (next false false (g .0) right) ⌝ }
 {
-    match host::host_walk(mem, l, g) {
+    match host::host_walk(mem, s, g) {
         HostWalk::Found { page, writable } => Walked::Arrived {
             page: page,
             writable: right,
-            reads: read + l.levels,
+            reads: read + s.layout.levels,
         },
         HostWalk::Absent { reads } => Walked::Faulted {
             fault: Fault::HostAbsent(g.0),
@@ -88,24 +88,24 @@ pub fn to_found(
 // On to the page in frame g.
 pub fn to_page(
     mem: &[u64],
-    l: Layout,
+    s: Space,
     store: bool,
     g: GuestPhysical,
     right: bool,
     read: u64,
 ) -> Walked
-    requires { ⌜ (LayoutFits l) × (read ≤ 65536) ⌝ }
-    ensures { λ r. ⌜ r ≡ walkedOf (config l) (now (mem .entry)) read (next store true (g .0) right) ⌝ }
+    requires { ⌜ (LayoutFits (s .layout)) × (read ≤ 65536) ⌝ }
+    ensures { λ r. ⌜ r ≡ walkedOf (config (s .layout)) (s .top) (now (mem .entry)) read (next store true (g .0) right) ⌝ }
 {
     if granted(store, right) {
-        match host::host_walk(mem, l, g) {
+        match host::host_walk(mem, s, g) {
             HostWalk::Found { page, writable } => to_found(
                 store,
                 g,
                 page,
                 writable,
                 right,
-                read + l.levels,
+                read + s.layout.levels,
             ),
             HostWalk::Absent { reads } => Walked::Faulted {
                 fault: Fault::HostAbsent(g.0),
@@ -124,27 +124,27 @@ pub fn to_page(
 // On to the frame g that an entry of a level names.
 pub fn to_frame(
     mem: &[u64],
-    l: Layout,
+    s: Space,
     store: bool,
     level: u64,
     g: GuestPhysical,
     right: bool,
     read: u64,
 ) -> Walked
-    requires { ⌜ (LayoutFits l) × (read ≤ 65536) ⌝ }
-    ensures { λ r. ⌜ r ≡ walkedOf (config l) (now (mem .entry)) read (next store (eqb level 1) (g .0) right) ⌝ }
+    requires { ⌜ (LayoutFits (s .layout)) × (read ≤ 65536) ⌝ }
+    ensures { λ r. ⌜ r ≡ walkedOf (config (s .layout)) (s .top) (now (mem .entry)) read (next store (eqb level 1) (g .0) right) ⌝ }
 {
     if level == 1 {
-        to_page(mem, l, store, g, right, read)
+        to_page(mem, s, store, g, right, read)
     } else {
-        to_table(mem, l, g, right, read)
+        to_table(mem, s, g, right, read)
     }
 }
 
 // One level: the entry at index i of a table, and on to the frame that it names.
 pub fn descend(
     mem: &[u64],
-    l: Layout,
+    s: Space,
     store: bool,
     level: u64,
     table: HostPhysical,
@@ -152,12 +152,12 @@ pub fn descend(
     right: bool,
     read: u64,
 ) -> Walked
-    requires { ⌜ (LayoutFits l) × (read ≤ 65535) × (table .0 < 1099511627776) × (i < 512) ⌝ }
-    ensures { λ r. ⌜ r ≡ walkedOf (config l) (now (mem .entry)) read (turn (config l) store level (table .0) i right) ⌝ }
+    requires { ⌜ (LayoutFits (s .layout)) × (read ≤ 65535) × (table .0 < 1099511627776) × (i < 512) ⌝ }
+    ensures { λ r. ⌜ r ≡ walkedOf (config (s .layout)) (s .top) (now (mem .entry)) read (turn (config (s .layout)) store level (table .0) i right) ⌝ }
 {
     let e = words::word_in(mem, table.0, i);
     if entry::present(e) {
-        if entry::malformed(l.levels, level, e) {
+        if entry::malformed(s.layout.levels, level, e) {
             Walked::Faulted {
                 fault: Fault::Malformed(level),
                 reads: read + 1,
@@ -166,7 +166,7 @@ pub fn descend(
             let g = GuestPhysical(entry::frame_of(e));
             to_frame(
                 mem,
-                l,
+                s,
                 store,
                 level,
                 g,
@@ -182,10 +182,16 @@ pub fn descend(
     }
 }
 
+// A walk's end, and the host frames of the guest tables that it read, the first one first; 0 beyond.
+pub struct Trail {
+    pub walked: Walked,
+    pub tables: [u64; 8],
+}
+
 // By the k lowest indexes of a page number, from a table down to the table of level `below`, or to the page where it is 0.
 pub fn walk_tables(
     mem: &[u64],
-    l: Layout,
+    s: Space,
     store: bool,
     path: u64,
     k: u64,
@@ -193,18 +199,22 @@ pub fn walk_tables(
     table: HostPhysical,
     right: bool,
     read: u64,
-) -> Walked
-    requires { ⌜ (LayoutFits l) × (k + below ≤ l .levels) × (read ≤ 1024) × (table .0 < 1099511627776) ⌝ }
-    ensures { λ r. ⌜ r ≡ walkedOf (config l) (now (mem .entry)) read (levels (config l) store (below + k) (table .0) right (indexes k path)) ⌝ }
+) -> Trail
+    requires { ⌜ (LayoutFits (s .layout)) × (k + below ≤ s .layout .levels) × (read ≤ 1024) × (table .0 < 1099511627776) ⌝ }
+    ensures { λ r. ⌜ r ≡ trailOf (config (s .layout)) (s .top) (now (mem .entry)) read (levels (config (s .layout)) store (below + k) (table .0) right (indexes k path)) ⌝ }
 {
     let mut left = k;
     let mut at = table.0;
     let mut w = right;
     let mut n = read;
+    let mut tables = [0u64; 8];
+    let mut depth: usize = 0;
     while left > 0 {
         left -= 1;
+        tables[depth] = at;
+        depth += 1;
         let i = entry::index_of(path, left) as u64;
-        match descend(mem, l, store, below + left + 1, HostPhysical(at), i, w, n) {
+        match descend(mem, s, store, below + left + 1, HostPhysical(at), i, w, n) {
             Walked::Arrived {
                 page,
                 writable,
@@ -215,20 +225,29 @@ pub fn walk_tables(
                 n = reads;
             }
             Walked::Faulted { fault, reads } => {
-                return Walked::Faulted {
-                    fault: fault,
-                    reads: reads,
+                return Trail {
+                    walked: Walked::Faulted {
+                        fault: fault,
+                        reads: reads,
+                    },
+                    tables: tables,
                 };
             }
             Walked::Damaged => {
-                return Walked::Damaged;
+                return Trail {
+                    walked: Walked::Damaged,
+                    tables: tables,
+                };
             }
         }
     }
-    Walked::Arrived {
-        page: HostPhysical(at),
-        writable: w,
-        reads: n,
+    Trail {
+        walked: Walked::Arrived {
+            page: HostPhysical(at),
+            writable: w,
+            reads: n,
+        },
+        tables: tables,
     }
 }
 
@@ -236,26 +255,32 @@ pub fn walk_tables(
 // without the indexes below.
 pub fn walk_root(
     mem: &[u64],
-    l: Layout,
+    s: Space,
     store: bool,
     root: GuestPhysical,
     path: u64,
     k: u64,
     below: u64,
-) -> Walked
-    requires { ⌜ (LayoutFits l) × (below + k ≡ l .levels) ⌝ }
-    ensures { λ r. ⌜ r ≡ walkedOf (config l) (now (mem .entry)) 0 (walk (config l) store (root .0) (indexes k path)) ⌝ }
+) -> Trail
+    requires { ⌜ (LayoutFits (s .layout)) × (below + k ≡ s .layout .levels) ⌝ }
+    ensures { λ r. ⌜ r ≡ trailOf (config (s .layout)) (s .top) (now (mem .entry)) 0 (walk (config (s .layout)) store (root .0) (indexes k path)) ⌝ }
 {
-    match to_table(mem, l, root, true, 0) {
+    match to_table(mem, s, root, true, 0) {
         Walked::Arrived {
             page,
             writable,
             reads,
-        } => walk_tables(mem, l, store, path, k, below, page, true, reads),
-        Walked::Faulted { fault, reads } => Walked::Faulted {
-            fault: fault,
-            reads: reads,
+        } => walk_tables(mem, s, store, path, k, below, page, true, reads),
+        Walked::Faulted { fault, reads } => Trail {
+            walked: Walked::Faulted {
+                fault: fault,
+                reads: reads,
+            },
+            tables: [0u64; 8],
         },
-        Walked::Damaged => Walked::Damaged,
+        Walked::Damaged => Trail {
+            walked: Walked::Damaged,
+            tables: [0u64; 8],
+        },
     }
 }

@@ -6,9 +6,8 @@
 static uint64_t memory[16 * 512];
 static const size_t words = sizeof memory / sizeof *memory;
 
-static struct cangrieb_record said(int line, struct cangrieb_reply reply)
+static void say(int line, struct cangrieb_answer a)
 {
-    struct cangrieb_answer a = reply.answer;
     printf("%d ", line);
     if (a.kind == CANGRIEB_VALUE)
         printf("value %016" PRIX64 " ", a.number);
@@ -22,19 +21,21 @@ static struct cangrieb_record said(int line, struct cangrieb_reply reply)
         printf("no %" PRIu64 "\n", a.number);
     else
         printf("%" PRIu64 " %" PRIu64 "\n", a.references, a.exits);
-    return reply.record;
 }
 
 int main(void)
 {
-    struct cangrieb_record unit = said(1, cangrieb_open(memory, words, 4, 4));
-    unit = said(2, cangrieb_map(unit, memory, words, 0, 8, true));
-    unit = said(3, cangrieb_root(unit, memory, words, 0));
-    unit = said(4, cangrieb_device_store(unit, memory, words, 0, 0x1003));
-    unit = said(5, cangrieb_load(unit, memory, words, 0));
-    unit = said(6, cangrieb_load(unit, memory, words, 4));
+    struct cangrieb_record unit;
+    struct cangrieb_head *head = &unit.head;
+    uint64_t *place = unit.place;
+    say(1, cangrieb_open(head, place, memory, words, 4, 4));
+    say(2, cangrieb_map(head, place, memory, words, 0, 8, true));
+    say(3, cangrieb_root(head, place, memory, words, 0));
+    say(4, cangrieb_device_store(head, place, memory, words, 0, 0x1003));
+    say(5, cangrieb_load(head, place, memory, words, 0));
+    say(6, cangrieb_load(head, place, memory, words, 4));
     /* No memory at all is refused too. */
-    said(7, cangrieb_load(unit, NULL, 0, 0));
-    said(8, cangrieb_open(NULL, 0, 4, 4));
+    say(7, cangrieb_load(head, place, NULL, 0, 0));
+    say(8, cangrieb_open(head, place, NULL, 0, 4, 4));
     return 0;
 }

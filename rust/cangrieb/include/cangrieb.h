@@ -1,11 +1,13 @@
 /* The proved memory unit, for a monitor to link: libexport.a, as `rt staticlib export` writes it (x86-64).
 
    The monitor owns a memory of 64-bit words in frames of 512: first the host frames, then the shadow frames, then the
-   guest area. cangrieb_open lays it out; each later call takes the record of the call before and the same memory.
+   guest area. It also keeps the unit's record, a head and the places of the marks, and lends all three to each call.
+   cangrieb_open lays the memory out and writes the record; each later call takes that record and the same memory.
 
-   The pointer must be to that many words, which nothing else uses during the call, or the number of words 0 (the pointer
-   may then be null). Nothing else is asked: a memory of another length or a record that breaks a rule is refused with 3,
-   a damaged table with 11, and no call reads or writes a word outside the memory. */
+   The pointers must be to a head, to 64 places and to that many words of memory, which do not overlap and which nothing
+   else uses during the call. The number of words may be 0, and the memory's pointer then null. Nothing else is asked: a
+   memory of another length or a record that breaks a rule is refused with 3, a damaged table with 11, and no call reads
+   or writes a word outside the three. */
 #ifndef CANGRIEB_H
 #define CANGRIEB_H
 
@@ -16,15 +18,22 @@
 /* What the unit keeps of an area of tables. */
 struct cangrieb_pool {
     uint64_t fresh, free, used;
+    uint64_t top; /* the entry of the area's top table, or 0 */
 };
 
-/* The unit's record: plain data, which may be copied and kept. */
-struct cangrieb_record {
-    uint64_t words, hosts, shadows; /* as opened */
-    uint64_t root;                  /* the guest frame of the guest's top table */
-    uint64_t top;                   /* the host frame of the path held at depth 4, or 0 */
+struct cangrieb_head {
+    uint64_t levels;         /* levels of tables, 4 as opened */
+    uint64_t hosts, shadows; /* frames of host tables and of shadow tables, as opened */
+    uint64_t frames;         /* frames of the memory */
     struct cangrieb_pool host, shadow;
-    uint64_t set;                   /* the places of marks that are set, one bit each */
+    uint64_t root;           /* the guest frame of the guest's top table */
+    uint64_t held;           /* the host frame of the path held at the depth of all levels, or 0 */
+    uint64_t set;            /* the places of marks that are set, one bit each */
+};
+
+/* The unit's record: plain data, which may be copied and kept. The two parts may also be kept apart. */
+struct cangrieb_record {
+    struct cangrieb_head head;
     uint64_t place[64];
 };
 
@@ -47,46 +56,45 @@ struct cangrieb_answer {
     uint64_t exits;      /* calls of the guest's processor to the monitor */
 };
 
-/* A refusal hands back the record given. */
-struct cangrieb_reply {
-    struct cangrieb_record record;
-    struct cangrieb_answer answer;
-};
-
 /* Refusals of each call in parentheses; of several that apply, the first named.
    1 the words are no multiple of 512, or the frames are 0 or more than 65,536; 2 fewer than 4 host or shadow frames, or no
    guest frame; 3 the memory's length or the record; 4 the address; 5 the mark's level; 6 the mark is set already, or is not
    set; 7 64 marks are set; 8 the guest frame; 9 the host frame; 10 no host table is free; 12 not mapped; 11 a damaged
-   host or shadow table. */
+   host or shadow table.
+   A refusal leaves the head and the places as given; that of an opening sets them to 0. */
 
-/* (1, 2) Clears the host and shadow frames, keeps the guest words. */
-struct cangrieb_reply cangrieb_open(uint64_t *memory, size_t words, uint64_t hosts, uint64_t shadows);
+/* (1, 2) Clears the host and shadow frames, keeps the guest words. Head and places may hold anything before. */
+struct cangrieb_answer cangrieb_open(struct cangrieb_head *head, uint64_t place[64], uint64_t *memory, size_t words,
+                                     uint64_t hosts, uint64_t shadows);
 
 /* (3, 4, 11) Guest-virtual addresses. */
-struct cangrieb_reply cangrieb_load(struct cangrieb_record record, uint64_t *memory, size_t words, uint64_t address);
-struct cangrieb_reply cangrieb_store(struct cangrieb_record record, uint64_t *memory, size_t words, uint64_t address,
-                                     uint64_t value);
+struct cangrieb_answer cangrieb_load(struct cangrieb_head *head, const uint64_t place[64], uint64_t *memory,
+                                     size_t words, uint64_t address);
+struct cangrieb_answer cangrieb_store(struct cangrieb_head *head, const uint64_t place[64], uint64_t *memory,
+                                      size_t words, uint64_t address, uint64_t value);
 
 /* (3, 4, 11) A guest-physical address. */
-struct cangrieb_reply cangrieb_device_store(struct cangrieb_record record, uint64_t *memory, size_t words,
-                                            uint64_t address, uint64_t value);
+struct cangrieb_answer cangrieb_device_store(struct cangrieb_head *head, const uint64_t place[64], uint64_t *memory,
+                                             size_t words, uint64_t address, uint64_t value);
 
 /* (3, 8) */
-struct cangrieb_reply cangrieb_root(struct cangrieb_record record, uint64_t *memory, size_t words, uint64_t guest);
+struct cangrieb_answer cangrieb_root(struct cangrieb_head *head, const uint64_t place[64], const uint64_t *memory,
+                                     size_t words, uint64_t guest);
 
 /* (3, 8, 9, 10, 11) */
-struct cangrieb_reply cangrieb_map(struct cangrieb_record record, uint64_t *memory, size_t words, uint64_t guest,
-                                   uint64_t frame, bool writable);
+struct cangrieb_answer cangrieb_map(struct cangrieb_head *head, const uint64_t place[64], uint64_t *memory,
+                                    size_t words, uint64_t guest, uint64_t frame, bool writable);
 
 /* (3, 8, 12, 11) */
-struct cangrieb_reply cangrieb_unmap(struct cangrieb_record record, uint64_t *memory, size_t words, uint64_t guest);
+struct cangrieb_answer cangrieb_unmap(struct cangrieb_head *head, const uint64_t place[64], uint64_t *memory,
+                                      size_t words, uint64_t guest);
 
 /* (3, 4, 5, 6, 7, 11) Levels 1 to 5. */
-struct cangrieb_reply cangrieb_set_mark(struct cangrieb_record record, uint64_t *memory, size_t words, uint64_t address,
-                                        uint64_t level);
+struct cangrieb_answer cangrieb_set_mark(struct cangrieb_head *head, uint64_t place[64], uint64_t *memory,
+                                         size_t words, uint64_t address, uint64_t level);
 
 /* (3, 4, 5, 6, 11) */
-struct cangrieb_reply cangrieb_clear_mark(struct cangrieb_record record, uint64_t *memory, size_t words,
-                                          uint64_t address, uint64_t level);
+struct cangrieb_answer cangrieb_clear_mark(struct cangrieb_head *head, uint64_t place[64], uint64_t *memory,
+                                           size_t words, uint64_t address, uint64_t level);
 
 #endif

@@ -29,24 +29,38 @@ pub struct Pool {
     pub fresh: u64,
     pub free: u64,
     pub used: u64,
+    /// The entry of the area's top table, or 0.
+    pub top: u64,
 }
 
-/// The unit's record. It is plain data: it may be copied, kept and compared. Each call replaces it; a refusal leaves it.
+/// The record without the places of its marks.
+#[repr(C)]
+#[derive(Clone, Copy, Debug, Default, PartialEq, Eq)]
+pub struct Head {
+    /// Levels of tables, 4 as opened.
+    pub levels: u64,
+    /// The opening's host frames and shadow frames.
+    pub hosts: u64,
+    pub shadows: u64,
+    /// Frames of the memory.
+    pub frames: u64,
+    pub host: Pool,
+    pub shadow: Pool,
+    /// The guest frame of the guest's top table.
+    pub root: u64,
+    /// The host frame of the path held at the depth of all levels, or 0.
+    pub held: u64,
+    /// The places of marks that are set, one bit each.
+    pub set: u64,
+}
+
+/// The unit's record. It is plain data: it may be copied, kept and compared. A call changes it where it stands; a refusal
+/// leaves it.
 #[repr(C)]
 #[derive(Clone, Copy, Debug, PartialEq, Eq)]
 pub struct Record {
-    /// The opening's words, host frames and shadow frames.
-    pub words: u64,
-    pub hosts: u64,
-    pub shadows: u64,
-    /// The guest frame of the guest's top table.
-    pub root: u64,
-    /// The host frame of the path held at depth 4, or 0.
-    pub top: u64,
-    pub host: Pool,
-    pub shadow: Pool,
-    /// The places of marks that are set, one bit each, and what stands at each.
-    pub set: u64,
+    pub head: Head,
+    /// What stands at each place of a mark.
     pub place: [u64; 64],
 }
 
@@ -101,13 +115,13 @@ impl Fault {
     }
 }
 
-/// Calls an exported function with the record and the memory, and takes its record over.
+/// Calls an exported function with the two parts of the record, the memory and the numbers.
 macro_rules! call {
-    ($record:expr, $memory:expr, $function:ident $(, $argument:expr)*) => {{
-        // The pointer and the length are those of one slice, lent mutably for the call; the function asks for nothing else.
-        let reply = unsafe { raw::$function(*$record, $memory.as_mut_ptr(), $memory.len() $(, $argument)*) };
-        *$record = reply.record;
-        Answer::from_raw(reply.answer)
+    ($function:ident($head:expr, $place:expr, $memory:expr $(, $number:expr)*)) => {{
+        // The pointer and the length are those of one slice, lent mutably for the call, as head and places are lent by
+        // reference: none overlaps another. The function asks for nothing else.
+        let answer = unsafe { raw::$function($head, $place, $memory.as_mut_ptr(), $memory.len() $(, $number)*) };
+        Answer::from_raw(answer)
     }};
 }
 
@@ -116,74 +130,63 @@ impl Record {
     /// 1 if the words are no multiple of 512 or the frames are 0 or more than 65,536; with 2 if either number is below 4
     /// or no guest frame is left.
     pub fn open(memory: &mut [u64], hosts: u64, shadows: u64) -> Result<Record, u64> {
-        let reply = unsafe { raw::cangrieb_open(memory.as_mut_ptr(), memory.len(), hosts, shadows) };
-        match Answer::from_raw(reply.answer) {
+        let mut record = Record::zeros();
+        match call!(cangrieb_open(&mut record.head, &mut record.place, memory, hosts, shadows)) {
             Answer::Refused(number) => Err(number),
-            _ => Ok(reply.record),
+            _ => Ok(record),
         }
     }
 
     /// The record that nothing has opened: every call refuses it with 3.
     pub fn zeros() -> Record {
-        let none = Pool::default();
-        Record {
-            words: 0,
-            hosts: 0,
-            shadows: 0,
-            root: 0,
-            top: 0,
-            host: none,
-            shadow: none,
-            set: 0,
-            place: [0; 64],
-        }
+        Record { head: Head::default(), place: [0; 64] }
     }
 
     /// Loads the word at a guest-virtual address: 3, 4, 11.
     #[inline]
     pub fn load(&mut self, memory: &mut [u64], address: u64) -> Answer {
-        call!(self, memory, cangrieb_load, address)
+        call!(cangrieb_load(&mut self.head, &self.place, memory, address))
     }
 
     /// Stores a word at a guest-virtual address: 3, 4, 11.
     #[inline]
     pub fn store(&mut self, memory: &mut [u64], address: u64, value: u64) -> Answer {
-        call!(self, memory, cangrieb_store, address, value)
+        call!(cangrieb_store(&mut self.head, &self.place, memory, address, value))
     }
 
     /// A device stores a word at a guest-physical address: 3, 4, 11.
     #[inline]
     pub fn device_store(&mut self, memory: &mut [u64], address: u64, value: u64) -> Answer {
-        call!(self, memory, cangrieb_device_store, address, value)
+        call!(cangrieb_device_store(&mut self.head, &self.place, memory, address, value))
     }
 
     /// Loads the root, the guest frame of the guest's top table: 3, 8.
     #[inline]
     pub fn root(&mut self, memory: &mut [u64], guest: u64) -> Answer {
-        call!(self, memory, cangrieb_root, guest)
+        call!(cangrieb_root(&mut self.head, &self.place, memory, guest))
     }
 
     /// Maps a guest frame to a host frame of the guest area, or maps it anew: 3, 8, 9, 10, 11.
     #[inline]
     pub fn map(&mut self, memory: &mut [u64], guest: u64, frame: u64, writable: bool) -> Answer {
-        call!(self, memory, cangrieb_map, guest, frame, writable)
+        call!(cangrieb_map(&mut self.head, &self.place, memory, guest, frame, writable))
     }
 
     /// Unmaps a guest frame: 3, 8, 12, 11.
     #[inline]
     pub fn unmap(&mut self, memory: &mut [u64], guest: u64) -> Answer {
-        call!(self, memory, cangrieb_unmap, guest)
+        call!(cangrieb_unmap(&mut self.head, &self.place, memory, guest))
     }
 
     /// Sets a mark of level 1 to 5 at an address: 3, 4, 5, 6, 7, 11.
     #[inline]
     pub fn set_mark(&mut self, memory: &mut [u64], address: u64, level: u64) -> Answer {
-        call!(self, memory, cangrieb_set_mark, address, level)
+        call!(cangrieb_set_mark(&mut self.head, &mut self.place, memory, address, level))
     }
 
     /// Clears a mark: 3, 4, 5, 6, 11.
     #[inline]
     pub fn clear_mark(&mut self, memory: &mut [u64], address: u64, level: u64) -> Answer {
-        call!(self, memory, cangrieb_clear_mark, address, level)
+        call!(cangrieb_clear_mark(&mut self.head, &mut self.place, memory, address, level))
     }
 }

@@ -1,7 +1,8 @@
-//! The exported functions as the archive has them. A lent memory is a pointer and a number of words; the record goes in
-//! and comes back by value.
+//! The exported functions as the archive has them. The head of the record, the places of its marks and the memory are
+//! lent. The memory is a pointer and a number of words; if there are none, the pointer may be null. The answer comes
+//! back by value.
 
-use crate::Record;
+use crate::Head;
 
 #[repr(C)]
 #[derive(Clone, Copy, Debug, PartialEq, Eq)]
@@ -18,46 +19,75 @@ pub struct Answer {
     pub exits: u64,
 }
 
-#[repr(C)]
-#[derive(Clone, Copy, Debug, PartialEq, Eq)]
-pub struct Reply {
-    pub record: Record,
-    pub answer: Answer,
-}
-
 extern "C" {
-    pub fn cangrieb_open(memory: *mut u64, words: usize, hosts: u64, shadows: u64) -> Reply;
-    pub fn cangrieb_load(record: Record, memory: *mut u64, words: usize, address: u64) -> Reply;
-    pub fn cangrieb_store(record: Record, memory: *mut u64, words: usize, address: u64, value: u64) -> Reply;
-    pub fn cangrieb_device_store(
-        record: Record,
+    pub fn cangrieb_open(
+        head: &mut Head,
+        place: &mut [u64; 64],
+        memory: *mut u64,
+        words: usize,
+        hosts: u64,
+        shadows: u64,
+    ) -> Answer;
+    pub fn cangrieb_load(
+        head: &mut Head,
+        place: &[u64; 64],
+        memory: *mut u64,
+        words: usize,
+        address: u64,
+    ) -> Answer;
+    pub fn cangrieb_store(
+        head: &mut Head,
+        place: &[u64; 64],
         memory: *mut u64,
         words: usize,
         address: u64,
         value: u64,
-    ) -> Reply;
-    pub fn cangrieb_root(record: Record, memory: *mut u64, words: usize, guest: u64) -> Reply;
+    ) -> Answer;
+    pub fn cangrieb_device_store(
+        head: &mut Head,
+        place: &[u64; 64],
+        memory: *mut u64,
+        words: usize,
+        address: u64,
+        value: u64,
+    ) -> Answer;
+    pub fn cangrieb_root(
+        head: &mut Head,
+        place: &[u64; 64],
+        memory: *const u64,
+        words: usize,
+        guest: u64,
+    ) -> Answer;
     pub fn cangrieb_map(
-        record: Record,
+        head: &mut Head,
+        place: &[u64; 64],
         memory: *mut u64,
         words: usize,
         guest: u64,
         frame: u64,
         writable: bool,
-    ) -> Reply;
-    pub fn cangrieb_unmap(record: Record, memory: *mut u64, words: usize, guest: u64) -> Reply;
+    ) -> Answer;
+    pub fn cangrieb_unmap(
+        head: &mut Head,
+        place: &[u64; 64],
+        memory: *mut u64,
+        words: usize,
+        guest: u64,
+    ) -> Answer;
     pub fn cangrieb_set_mark(
-        record: Record,
+        head: &mut Head,
+        place: &mut [u64; 64],
         memory: *mut u64,
         words: usize,
         address: u64,
         level: u64,
-    ) -> Reply;
+    ) -> Answer;
     pub fn cangrieb_clear_mark(
-        record: Record,
+        head: &mut Head,
+        place: &mut [u64; 64],
         memory: *mut u64,
         words: usize,
         address: u64,
         level: u64,
-    ) -> Reply;
+    ) -> Answer;
 }

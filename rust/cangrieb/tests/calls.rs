@@ -1,6 +1,6 @@
 //! Document 01's sixteen-frame guest through the archive, and the edges of the interface.
 
-use cangrieb::{raw, Answer, Fault, Record};
+use cangrieb::{raw, Answer, Fault, Head, Record};
 
 /// "H = S = 4; guest frames 0 to 7 at 8 to 15, writable; root 0" and the guest's words.
 fn guest() -> (Record, Vec<u64>) {
@@ -78,6 +78,35 @@ fn mappings() {
     assert_eq!(unit.map(&mut memory, 4, 7, true), Answer::Refused(9));
 }
 
+/// Every call but the opening through the archive's own functions, each on a copy of the record, with an address and a
+/// guest frame. The record after each, and the kind and number of its answer.
+///
+/// # Safety
+/// The pointer is to so many words, or there are none.
+unsafe fn every_call(
+    record: &Record,
+    memory: *mut u64,
+    words: usize,
+    address: u64,
+    guest: u64,
+) -> [(Record, (u64, u64)); 8] {
+    let on_a_copy = |call: &dyn Fn(&mut Head, &mut [u64; 64]) -> raw::Answer| {
+        let mut after = *record;
+        let said = call(&mut after.head, &mut after.place);
+        (after, (said.kind, said.number))
+    };
+    [
+        on_a_copy(&|head, place| raw::cangrieb_load(head, place, memory, words, address)),
+        on_a_copy(&|head, place| raw::cangrieb_store(head, place, memory, words, address, 1)),
+        on_a_copy(&|head, place| raw::cangrieb_device_store(head, place, memory, words, address, 1)),
+        on_a_copy(&|head, place| raw::cangrieb_root(head, place, memory, words, guest)),
+        on_a_copy(&|head, place| raw::cangrieb_map(head, place, memory, words, guest, 8, true)),
+        on_a_copy(&|head, place| raw::cangrieb_unmap(head, place, memory, words, guest)),
+        on_a_copy(&|head, place| raw::cangrieb_set_mark(head, place, memory, words, address, 1)),
+        on_a_copy(&|head, place| raw::cangrieb_clear_mark(head, place, memory, words, address, 1)),
+    ]
+}
+
 /// A lent memory of no words is refused: with 1 by an opening, with 3 by every other call. The pointer may be null.
 #[test]
 fn no_memory() {
@@ -85,26 +114,41 @@ fn no_memory() {
     let null = std::ptr::null_mut();
     for record in [unit, Record::zeros()] {
         // No word is lent, so that no pointer is followed.
-        let replies = unsafe {
-            [
-                raw::cangrieb_load(record, null, 0, 0),
-                raw::cangrieb_store(record, null, 0, 0, 1),
-                raw::cangrieb_device_store(record, null, 0, 0, 1),
-                raw::cangrieb_root(record, null, 0, 0),
-                raw::cangrieb_map(record, null, 0, 0, 8, true),
-                raw::cangrieb_unmap(record, null, 0, 0),
-                raw::cangrieb_set_mark(record, null, 0, 0, 1),
-                raw::cangrieb_clear_mark(record, null, 0, 0, 1),
-            ]
-        };
-        for reply in replies {
-            assert_eq!((reply.answer.kind, reply.answer.number), (4, 3));
-            assert_eq!(reply.record, record);
+        for (after, said) in unsafe { every_call(&record, null, 0, 0, 0) } {
+            assert_eq!(said, (4, 3));
+            assert_eq!(after, record);
         }
     }
-    let opened = unsafe { raw::cangrieb_open(null, 0, 4, 4) };
-    assert_eq!((opened.answer.kind, opened.answer.number), (4, 1));
-    assert_eq!(opened.record, Record::zeros());
+}
+
+/// A refused opening sets the head and the places to 0.
+#[test]
+fn no_memory_to_open() {
+    let (unit, _) = guest();
+    let mut after = Record { place: [7; 64], ..unit };
+    let opened =
+        unsafe { raw::cangrieb_open(&mut after.head, &mut after.place, std::ptr::null_mut(), 0, 4, 4) };
+    assert_eq!((opened.kind, opened.number), (4, 1));
+    assert_eq!(after, Record::zeros());
+}
+
+/// Any other refusal leaves the head, the places and the memory.
+#[test]
+fn refused_calls() {
+    let (mut unit, mut memory) = guest();
+    assert_eq!(unit.set_mark(&mut memory, 0x20_0000, 1), Answer::Ok);
+    assert_eq!(unit.load(&mut memory, 0), value(0, 4, 1));
+    let before = memory.clone();
+    // Neither the address nor the guest frame is one.
+    let calls = unsafe { every_call(&unit, memory.as_mut_ptr(), memory.len(), 1 << 48, 1 << 36) };
+    assert_eq!(calls.map(|(_, said)| said), [4, 4, 4, 8, 8, 8, 4, 4].map(|number| (4, number)));
+    assert!(calls.iter().all(|(after, _)| *after == unit));
+    let mut after = unit;
+    assert_eq!(after.set_mark(&mut memory, 0, 6), Answer::Refused(5));
+    assert_eq!(after.set_mark(&mut memory, 0x20_0000, 1), Answer::Refused(6));
+    assert_eq!(after.clear_mark(&mut memory, 0, 1), Answer::Refused(6));
+    assert_eq!(after, unit);
+    assert_eq!(memory, before);
 }
 
 #[test]
@@ -118,20 +162,29 @@ fn refused_openings() {
     assert!(Record::open(&mut vec![0; 65_536 * 512], 4, 4).is_ok());
 }
 
-/// A record that nothing opened, another length, a mark out of order, a held frame that is none.
+/// A record that nothing opened, a mark out of order, a held frame that is none, other sizes, no top host table, a top
+/// shadow table before and after its area. Another length of memory.
 #[test]
 fn broken_records() {
     let (unit, mut memory) = guest();
-    let mut broken = [unit; 4];
+    let mut broken = [unit; 8];
     broken[0] = Record::zeros();
-    broken[1].set = 3;
-    broken[2].top = 3;
-    broken[3].words += 512;
+    broken[1].head.set = 3;
+    broken[2].head.held = 3;
+    broken[3].head.frames += 1;
+    broken[4].head.levels = 5;
+    broken[5].head.host.top = 0;
+    broken[6].head.shadow.top = 3 << 12 | 1;
+    broken[7].head.shadow.top = 8 << 12 | 1;
+    let before = memory.clone();
     for record in broken {
-        let mut after = record;
-        assert_eq!(after.load(&mut memory, 0), Answer::Refused(3));
-        assert_eq!(after, record);
+        for (after, said) in unsafe { every_call(&record, memory.as_mut_ptr(), memory.len(), 0, 0) } {
+            assert_eq!(said, (4, 3), "{record:?}");
+            assert_eq!(after, record);
+        }
     }
+    assert_eq!(memory, before);
     let mut after = unit;
     assert_eq!(after.load(&mut memory[512..], 0), Answer::Refused(3));
+    assert_eq!(after, unit);
 }

@@ -1,7 +1,7 @@
 //! Damage to a record and its memory, and what must hold of a call on them all the same.
 
 use crate::answer;
-use cangrieb::Record;
+use cangrieb::{Head, Record};
 use std::collections::BTreeMap;
 use walker::random::Random;
 use walker::{Answer, Call};
@@ -47,7 +47,7 @@ pub type Counts = BTreeMap<String, u64>;
 
 impl State {
     /// A call, and what must hold after it whatever the record and the memory were:
-    /// no word outside the memory changes; a refusal returns the record given, and
+    /// no word outside the memory changes; a refusal leaves the record, and
     /// but for 11 leaves every word; a store changes one guest word at most, to its
     /// value and at its place in a frame, and any other call none; a load yields a word that stands
     /// in the guest area, at its place in a frame.
@@ -65,7 +65,7 @@ impl State {
             return;
         }
         // The record broke no rule, so its sizes are those of the memory.
-        let first = (before.record.hosts + before.record.shadows) as usize * FRAME;
+        let first = (before.record.head.hosts + before.record.head.shadows) as usize * FRAME;
         let guest = &self.lent.memory()[first..];
         let guest_before = &before.lent.memory()[first..];
         match (*call, said) {
@@ -133,62 +133,70 @@ fn flip(word: &mut u64, random: &mut Random) {
 
 /// One bit of the record.
 fn damage_record(record: &mut Record, random: &mut Random) {
-    let at = random.below(12 + 64);
-    match field(record, at) {
+    let at = random.below(15 + 64);
+    match field(&mut record.head, at) {
         Some(word) => flip(word, random),
-        None => flip(&mut record.place[(at - 12) as usize], random),
+        None => flip(&mut record.place[(at - 15) as usize], random),
     }
 }
 
 /// A field of the record set to a number near a limit, or to any number.
 fn damage_fields(record: &mut Record, random: &mut Random) {
-    let limits = [0, 1, 4, record.hosts, record.shadows, record.words / 512, record.words, 1 << 36, u64::MAX];
+    let head = &mut record.head;
+    let words = head.frames.wrapping_mul(512);
+    let limits = [0, 1, 4, head.hosts, head.shadows, head.frames, words, 1 << 36, u64::MAX];
     let number = if random.one_in(4) {
         random.word()
     } else {
         random.pick(&limits).wrapping_add(random.below(3)).wrapping_sub(1)
     };
-    let at = random.below(12);
-    if let Some(word) = field(record, at) {
+    let at = random.below(15);
+    if let Some(word) = field(head, at) {
         *word = number;
     }
 }
 
 /// Fields that may keep their ranges and still say what is not so.
 fn damage_pools(record: &mut Record, random: &mut Random) {
+    let head = &mut record.head;
     // An earlier damage may have set these to any number.
-    let frames = (record.words / 512).clamp(1, 65_536);
-    let (hosts, shadows) = (record.hosts.min(frames), record.shadows.min(frames));
-    match random.below(6) {
-        0 => record.top = hosts + shadows + random.below(frames),
-        1 => record.root = random.below(frames),
-        2 => record.host.free = (random.below(frames + 2) << 12) | random.below(4),
-        3 => record.shadow.free = (random.below(frames + 2) << 12) | random.below(4),
+    let frames = head.frames.clamp(1, 65_536);
+    let (hosts, shadows) = (head.hosts.min(frames), head.shadows.min(frames));
+    match random.below(8) {
+        0 => head.held = hosts + shadows + random.below(frames),
+        1 => head.root = random.below(frames),
+        2 => head.host.free = (random.below(frames + 2) << 12) | random.below(4),
+        3 => head.shadow.free = (random.below(frames + 2) << 12) | random.below(4),
         4 => {
-            record.shadow.fresh = random.below(shadows + 1);
-            record.shadow.used = random.below(record.shadow.fresh + 1);
+            head.shadow.fresh = random.below(shadows + 1);
+            head.shadow.used = random.below(head.shadow.fresh + 1);
         }
-        _ => {
-            record.host.fresh = random.below(hosts + 1);
-            record.host.used = random.below(record.host.fresh + 1);
+        5 => {
+            head.host.fresh = random.below(hosts + 1);
+            head.host.used = random.below(head.host.fresh + 1);
         }
+        6 => head.host.top = (random.below(hosts + 1) << 12) | 1,
+        _ => head.shadow.top = ((hosts + random.below(shadows + 1)) << 12) | random.below(2),
     }
 }
 
-fn field(record: &mut Record, at: u64) -> Option<&mut u64> {
+fn field(head: &mut Head, at: u64) -> Option<&mut u64> {
     Some(match at {
-        0 => &mut record.words,
-        1 => &mut record.hosts,
-        2 => &mut record.shadows,
-        3 => &mut record.root,
-        4 => &mut record.top,
-        5 => &mut record.host.fresh,
-        6 => &mut record.host.free,
-        7 => &mut record.host.used,
-        8 => &mut record.shadow.fresh,
-        9 => &mut record.shadow.free,
-        10 => &mut record.shadow.used,
-        11 => &mut record.set,
+        0 => &mut head.levels,
+        1 => &mut head.hosts,
+        2 => &mut head.shadows,
+        3 => &mut head.frames,
+        4 => &mut head.host.fresh,
+        5 => &mut head.host.free,
+        6 => &mut head.host.used,
+        7 => &mut head.host.top,
+        8 => &mut head.shadow.fresh,
+        9 => &mut head.shadow.free,
+        10 => &mut head.shadow.used,
+        11 => &mut head.shadow.top,
+        12 => &mut head.root,
+        13 => &mut head.held,
+        14 => &mut head.set,
         _ => return None,
     })
 }
@@ -200,8 +208,8 @@ fn some_frame(record: &Record, memory: &[u64], random: &mut Random) -> usize {
     let frames = (memory.len() / FRAME) as u64;
     let frame = match random.below(5) {
         0 => random.below(frames),
-        1 | 2 => random.below(record.host.fresh.clamp(1, frames)),
-        _ => record.hosts.min(frames) + random.below(record.shadow.fresh.clamp(1, frames)),
+        1 | 2 => random.below(record.head.host.fresh.clamp(1, frames)),
+        _ => record.head.hosts.min(frames) + random.below(record.head.shadow.fresh.clamp(1, frames)),
     };
     frame.min(frames - 1) as usize
 }

@@ -26,8 +26,8 @@ fn same(seed: u64, run: &Run) -> Events {
             let place =
                 format!("seed {seed}, {:?}, words or tables after call {number}: {call:?}", run.sizes);
             assert!(memory[first..] == *walker.guest_words(), "{place}");
-            assert_eq!(record.shadow.used, shadow_tables(&walker), "{place}");
-            assert_eq!(record.host.used, host_tables(&walker), "{place}");
+            assert_eq!(record.head.shadow.used, shadow_tables(&walker), "{place}");
+            assert_eq!(record.head.host.used, host_tables(&walker), "{place}");
         }
     }
     walker.events().clone()

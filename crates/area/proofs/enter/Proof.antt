@@ -1,22 +1,58 @@
-use borrow.Author.Tests.{eq-eqb, ne-eqb}
 use Rattle.area.specs.Tree.{enterOf}
 use borrow.Author.Needs.{needs}
 use Rattle.area.proofs.enter.Statement.{statement}
 use Rattle.area.proofs.enter.Tie as tie
 
-new-table-requires : tie.Need-new-table-requires
-new-table-requires c κs = search needs
+hop-requires : tie.Need-hop-requires
+hop-requires c κs = search needs
+
+enum-known-f : tie.Need-enum-known-f
+enum-known-f c = search needs
+
+enum-told : tie.Need-enum-told
+enum-told c = search needs
+
+new-top-requires : tie.Need-new-top-requires
+new-top-requires c κs = search needs
+
+enum-told-2 : tie.Need-enum-told-2
+enum-told-2 c = search needs
+
+returns : tie.Need-returns
+unfolding enterOf
+returns c =
+    let hop = c .before .before .before .hop in
+    let f = c .before .f in
+    rw (← hop .ensures, f .given .1)
 
 same-length : tie.Need-same-length
 same-length c = search needs
 
-returns : tie.Need-returns
-unfolding enterOf
-returns c = rw (eq-eqb _ _ (c .before .before .before .before .if1 .taken)) (c .before .before .new-table .ensures)
-
 returns-2 : tie.Need-returns-2
 unfolding enterOf
-returns-2 c = rw (ne-eqb _ _ (c .if1 .left))
+returns-2 c =
+    let hop = c .before .before .before .before .before .before .hop in
+    let enum-told = c .before .before .before .before .enum-told in
+    let new-top = c .before .before .new-top in
+    rw (← hop .ensures, enum-told .given .1) (new-top .ensures)
+
+returns-3 : tie.Need-returns-3
+unfolding enterOf
+returns-3 c =
+    let hop = c .before .before .hop in
+    let enum-told2 = c .enum-told2 in
+    rw (← hop .ensures, enum-told2 .given .1)
 
 pub enter-spec : {M : Type 1} → statement M
-enter-spec = tie.close (tie.spec new-table-requires same-length returns returns-2)
+enter-spec =
+    tie.close
+    (tie.spec
+    hop-requires
+    enum-known-f
+    enum-told
+    new-top-requires
+    enum-told-2
+    returns
+    same-length
+    returns-2
+    returns-3)

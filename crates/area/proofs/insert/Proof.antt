@@ -38,9 +38,10 @@ returns : tie.Need-returns
 unfolding insertOf
 returns c =
     let args = c .before .before .before .before .before .before .before .before .before .before .before .args in
+    let pre = c .before .before .before .before .before .before .before .before .before .before .before .pre in
     let n = c .before .before .before .before .before .n in
     let place = c .before .before .place in
-    rw (indexes-step (args .k) (args .g) (omega arith), ← seen (c .before .before .before .before .before .before .before), n .given .1) (place .ensures)
+    rw (indexes-step (args .k) (args .g) (omega (arith, pre .1)), ← seen (c .before .before .before .before .before .before .before), n .given .1) (place .ensures)
 
 same-length-2 : tie.Need-same-length-2
 same-length-2 c = search needs

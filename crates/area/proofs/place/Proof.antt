@@ -1,6 +1,6 @@
 use native.Mathlib.Omega.{arith}
 use Rattle.area.specs.Tree.{placeOf}
-use Rattle.area.proofs.Laws.{enter-fits}
+use Rattle.area.proofs.Laws.{enter-good}
 use borrow.Author.Needs.{needs}
 use Rattle.area.proofs.place.Statement.{statement}
 use Rattle.area.proofs.place.Tie as tie
@@ -20,7 +20,7 @@ down-requires c κs =
     let word-at = c .before .before .before .before .before .before .before .before .before .word-at in
     let enter = c .before .before .before .before .before .before .before .enter in
     let way = c .before .before .way in
-    let good = rw (way .given .1) at (rw (← enter .ensures) at (enter-fits (args .a) (args .p) (args .mem .now) (word-at .result))) in
+    let good = rw (way .given .1) at (rw (← enter .ensures) at (enter-good (args .a) (args .p) (args .mem .now) (word-at .result))) in
     (omega arith, omega arith, omega arith, omega arith, omega arith)
 
 enum-told : tie.Need-enum-told

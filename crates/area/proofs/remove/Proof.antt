@@ -9,9 +9,6 @@ use borrow.Author.Needs.{needs}
 use Rattle.area.proofs.remove.Statement.{statement}
 use Rattle.area.proofs.remove.Tie as tie
 
-top-requires : tie.Need-top-requires
-top-requires c κs = search needs
-
 last-table-requires : tie.Need-last-table-requires
 last-table-requires c κs = search needs
 
@@ -26,12 +23,11 @@ index-at-requires c κs = search needs
 
 clear-requires : tie.Need-clear-requires
 clear-requires c κs =
-    let args = c .before .before .before .before .before .before .before .before .before .args in
-    let top = c .before .before .before .before .before .before .before .top in
+    let args = c .before .before .before .before .before .before .before .before .args in
     let last-table = c .before .before .before .before .before .last-table in
     let f = c .before .before .before .f in
     let index-at = c .index-at in
-    let good = rw (← last-table .ensures, f .given .1) at (last-small (args .a .base) (args .a .size) (args .mem .now) (top .result) (index (args .k - 1) (args .g)) (indexes (args .k - 1) (args .g))) in
+    let good = rw (← last-table .ensures, f .given .1) at (last-small (args .a .base) (args .a .size) (args .mem .now) (args .p .top) (index (args .k - 1) (args .g)) (indexes (args .k - 1) (args .g))) in
     let i = rw (← index-at .ensures) at (index-fits 0 (args .g)) in
     (good, omega arith, i)
 
@@ -47,14 +43,13 @@ same-length c = search needs
 returns : tie.Need-returns
 unfolding removeOf
 returns c =
-    let args = c .before .before .before .before .before .before .before .before .before .before .before .before .args in
-    let pre = c .before .before .before .before .before .before .before .before .before .before .before .before .pre in
-    let top = c .before .before .before .before .before .before .before .before .before .before .top in
+    let args = c .before .before .before .before .before .before .before .before .before .before .before .args in
+    let pre = c .before .before .before .before .before .before .before .before .before .before .before .pre in
     let last-table = c .before .before .before .before .before .before .before .before .last-table in
     let f = c .before .before .before .before .before .before .f in
     let index-at = c .before .before .before .index-at in
     let clear = c .before .before .clear in
-    rw (indexes-step (args .k) (args .g) (omega (arith, pre .1)), ← top .ensures, ← last-table .ensures, f .given .1, indexes-length, indexes-last, ← index-at .ensures) (clear .ensures)
+    rw (indexes-step (args .k) (args .g) (omega (arith, pre .1)), ← last-table .ensures, f .given .1, indexes-length, indexes-last, ← index-at .ensures) (clear .ensures)
 
 same-length-2 : tie.Need-same-length-2
 same-length-2 c = search needs
@@ -62,11 +57,10 @@ same-length-2 c = search needs
 returns-2 : tie.Need-returns-2
 unfolding removeOf
 returns-2 c =
-    let args = c .before .before .before .before .before .before .args in
-    let top = c .before .before .before .before .top in
+    let args = c .before .before .before .before .before .args in
     let last-table = c .before .before .last-table in
     let enum-told = c .enum-told in
-    rw (indexes-step (args .k) (args .g) (omega arith), ← top .ensures, ← last-table .ensures, enum-told .given .1)
+    rw (indexes-step (args .k) (args .g) (omega arith), ← last-table .ensures, enum-told .given .1)
 
 same-length-3 : tie.Need-same-length-3
 same-length-3 c = search needs
@@ -74,17 +68,15 @@ same-length-3 c = search needs
 returns-3 : tie.Need-returns-3
 unfolding removeOf
 returns-3 c =
-    let args = c .before .before .before .before .before .before .args in
-    let top = c .before .before .before .before .top in
+    let args = c .before .before .before .before .before .args in
     let last-table = c .before .before .last-table in
     let enum-told2 = c .enum-told2 in
-    rw (indexes-step (args .k) (args .g) (omega arith), ← top .ensures, ← last-table .ensures, enum-told2 .given .1)
+    rw (indexes-step (args .k) (args .g) (omega arith), ← last-table .ensures, enum-told2 .given .1)
 
 pub remove-spec : {M : Type 1} → statement M
 remove-spec =
     tie.close
     (tie.spec
-    top-requires
     last-table-requires
     enum-known-f
     sub-clear

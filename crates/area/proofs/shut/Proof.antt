@@ -10,11 +10,14 @@ returns c = rw (c .if1 .taken)
 bare-requires : tie.Need-bare-requires
 bare-requires c κs = search needs
 
-set-in-requires : tie.Need-set-in-requires
-set-in-requires c κs = search needs
+back-requires : tie.Need-back-requires
+back-requires c κs = search needs
 
-no-tables-requires : tie.Need-no-tables-requires
-no-tables-requires c κs = search needs
+with-top-requires : tie.Need-with-top-requires
+with-top-requires c κs = search needs
+
+given-requires : tie.Need-given-requires
+given-requires c κs = search needs
 
 same-length : tie.Need-same-length
 same-length c = search needs
@@ -22,19 +25,24 @@ same-length c = search needs
 returns-2 : tie.Need-returns-2
 unfolding shutOf
 returns-2 c =
-    let if1 = c .before .before .before .before .before .before .before .before .if1 in
-    let bare = c .before .before .before .before .before .before .bare in
-    let if2 = c .before .before .before .before .before .if2 in
-    let set-in = c .before .before .before .set-in in
-    let no-tables = c .no-tables in
-    rw (if1 .left, ← bare .ensures, if2 .taken, no-tables .ensures, set-in .ensures)
+    let if1 = c .before .before .before .before .before .before .before .before .before .if1 in
+    let bare = c .before .before .before .before .before .before .before .bare in
+    let if2 = c .before .before .before .before .before .before .if2 in
+    let back = c .before .before .before .before .back in
+    let with-top = c .before .with-top in
+    let given = c .given in
+    rw (if1 .left, ← bare .ensures, if2 .taken, ← with-top .ensures, ← given .ensures, back .ensures)
 
 same-length-2 : tie.Need-same-length-2
 same-length-2 c = search needs
 
 returns-3 : tie.Need-returns-3
 unfolding shutOf
-returns-3 c = rw (c .before .before .before .if1 .left, ← c .before .bare .ensures, c .if2 .left)
+returns-3 c =
+    let if1 = c .before .before .before .if1 in
+    let bare = c .before .bare in
+    let if2 = c .if2 in
+    rw (if1 .left, ← bare .ensures, if2 .left)
 
 pub shut-spec : {M : Type 1} → statement M
 shut-spec =
@@ -42,8 +50,9 @@ shut-spec =
     (tie.spec
     returns
     bare-requires
-    set-in-requires
-    no-tables-requires
+    back-requires
+    with-top-requires
+    given-requires
     same-length
     returns-2
     same-length-2

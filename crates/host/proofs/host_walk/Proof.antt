@@ -1,5 +1,4 @@
 use Rattle.host.specs.Walk.{hostWalkOf}
-use Rattle.area.specs.Pool.{link}
 use borrow.Author.Needs.{needs}
 use Rattle.host.proofs.host_walk.Statement.{statement}
 use Rattle.host.proofs.host_walk.Tie as tie
@@ -17,11 +16,11 @@ enum-told : tie.Need-enum-told
 enum-told c = search needs
 
 returns : tie.Need-returns
-unfolding hostWalkOf link
+unfolding hostWalkOf
 returns c = rw (← c .before .before .before .before .lookup .ensures, c .before .before .entry .given .1) (c .leaf .ensures)
 
 returns-2 : tie.Need-returns-2
-unfolding hostWalkOf link
+unfolding hostWalkOf
 returns-2 c = rw (← c .before .before .lookup .ensures, c .enum-told .given .1)
 
 pub host-walk-spec : {M : Type 1} → statement M

@@ -1,4 +1,4 @@
-use Rattle.jobs.specs.Run.{callOf}
+use Rattle.unit.specs.Calls.{callOf}
 use borrow.Author.Needs.{needs}
 use Rattle.jobs.proofs.run_call.Statement.{statement}
 use Rattle.jobs.proofs.run_call.Tie as tie

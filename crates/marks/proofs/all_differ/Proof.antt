@@ -6,15 +6,19 @@ use borrow.Author.Tests.{not-true, not-false}
 use Rattle.marks.specs.Key.{keysFit}
 use Rattle.marks.specs.Table.{keys}
 use Rattle.marks.proofs.Turn.{keys-turn, keys-end}
+use Rattle.marks.proofs.ByLevel.{ends-fit}
 use borrow.Author.Needs.{needs}
 use Rattle.marks.proofs.all_differ.Statement.{statement}
 use Rattle.marks.proofs.all_differ.Tie as tie
 
 abbrev Inv-loop : tie.InvT-loop
-Inv-loop place set levels rest₀ rest = (rest < 2 ^ 64) × (keysFit levels (keys place rest) ≡ keysFit levels (keys place set))
+Inv-loop place set levels ends rest₀ rest = (rest < 2 ^ 64) × (keysFit levels (keys place rest) ≡ keysFit levels (keys place set))
 
 abbrev μ-loop : tie.MeasureT-loop
-μ-loop place set levels rest₀ rest = rest
+μ-loop place set levels ends rest₀ rest = rest
+
+ends-of-requires : tie.Need-ends-of-requires Inv-loop μ-loop
+ends-of-requires c κs = search needs
 
 loop-holds : tie.Need-loop-holds Inv-loop μ-loop
 loop-holds c = search needs
@@ -37,8 +41,8 @@ differs-requires c κs = search needs
 returns : tie.Need-returns Inv-loop μ-loop
 unfolding keysFit
 returns c =
-    let turn = ap (keysFit (c .before .before .before .before .before .before .before .args .levels)) (keys-turn (c .before .before .before .before .before .before .before .args .place .now) (c .before .before .before .before .before .before .loop .rest) (c .before .before .before .before .lowest .result) (c .before .before .before .after-lowest .result) (omega arith) (omega arith) (c .before .before .before .before .lowest .ensures .0) (c .before .before .before .after-lowest .ensures .0)) in
-    sym (sym (c .before .before .before .before .before .before .loop .inv .1) ∙ turn ∙ rw (← c .before .differs .ensures, not-true (c .before .differs .result) (c .if1 .taken)))
+    let turn = ap (keysFit (c .before .before .before .before .before .before .before .before .before .args .levels)) (keys-turn (c .before .before .before .before .before .before .before .before .before .args .place .now) (c .before .before .before .before .before .before .before .loop .rest) (c .before .before .before .before .before .lowest .result) (c .before .before .before .before .after-lowest .result) (omega arith) (omega arith) (c .before .before .before .before .before .lowest .ensures .0) (c .before .before .before .before .after-lowest .ensures .0)) in
+    sym (sym (c .before .before .before .before .before .before .before .loop .inv .1) ∙ turn ∙ rw (← ends-fit (c .before .before .before .before .before .before .before .before .before .args .levels), ← c .before .before .before .before .before .before .before .before .ends-of .ensures, ← c .before .differs .ensures, not-true (c .before .differs .result) (c .if1 .taken)))
 
 loop-less : tie.Need-loop-less Inv-loop μ-loop
 loop-less c = search needs
@@ -46,12 +50,12 @@ loop-less c = search needs
 loop-again : tie.Need-loop-again Inv-loop μ-loop
 unfolding keysFit
 loop-again c =
-    let turn = ap (keysFit (c .before .before .before .before .before .before .before .args .levels)) (keys-turn (c .before .before .before .before .before .before .before .args .place .now) (c .before .before .before .before .before .before .loop .rest) (c .before .before .before .before .lowest .result) (c .before .before .before .after-lowest .result) (omega arith) (omega arith) (c .before .before .before .before .lowest .ensures .0) (c .before .before .before .after-lowest .ensures .0)) in
-    (omega arith, rw (← c .before .differs .ensures, not-false (c .before .differs .result) (c .if1 .left)) at (sym turn) ∙ c .before .before .before .before .before .before .loop .inv .1)
+    let turn = ap (keysFit (c .before .before .before .before .before .before .before .before .before .args .levels)) (keys-turn (c .before .before .before .before .before .before .before .before .before .args .place .now) (c .before .before .before .before .before .before .before .loop .rest) (c .before .before .before .before .before .lowest .result) (c .before .before .before .before .after-lowest .result) (omega arith) (omega arith) (c .before .before .before .before .before .lowest .ensures .0) (c .before .before .before .before .after-lowest .ensures .0)) in
+    (omega arith, rw (← ends-fit (c .before .before .before .before .before .before .before .before .before .args .levels), ← c .before .before .before .before .before .before .before .before .ends-of .ensures, ← c .before .differs .ensures, not-false (c .before .differs .result) (c .if1 .left)) at (sym turn) ∙ c .before .before .before .before .before .before .before .loop .inv .1)
 
 returns-2 : tie.Need-returns-2 Inv-loop μ-loop
 unfolding keysFit
-returns-2 c = sym (sym (c .before .loop .inv .1) ∙ ap (keysFit (c .before .before .args .levels)) (keys-end (c .before .before .args .place .now) (c .before .loop .rest) (c .loop-test .left)))
+returns-2 c = sym (sym (c .before .loop .inv .1) ∙ ap (keysFit (c .before .before .before .args .levels)) (keys-end (c .before .before .before .args .place .now) (c .before .loop .rest) (c .loop-test .left)))
 
 pub all-differ-spec : {M : Type 1} → statement M
 all-differ-spec =
@@ -59,6 +63,7 @@ all-differ-spec =
     (tie.spec
     Inv-loop
     μ-loop
+    ends-of-requires
     loop-holds
     lowest-requires
     after-lowest-requires

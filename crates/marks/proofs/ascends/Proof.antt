@@ -7,15 +7,23 @@ use lib.Bits.{bitAnd}
 use Rattle.marks.specs.Key.{ascending}
 use Rattle.marks.specs.Table.{keys}
 use Rattle.marks.proofs.Turn.{keys-turn, keys-end}
+use Rattle.marks.proofs.ByLevel.{ends-fit}
 use borrow.Author.Needs.{needs}
 use Rattle.marks.proofs.ascends.Statement.{statement}
 use Rattle.marks.proofs.ascends.Tie as tie
 
 abbrev Inv-loop : tie.InvT-loop
-Inv-loop place set levels last₀ rest₀ last rest = (rest < 2 ^ 64) × (ascending levels last (keys place rest) ≡ ascending levels 0 (keys place set))
+Inv-loop place set levels ends last₀ rest₀ last rest = (rest < 2 ^ 64) × (ascending levels last (keys place rest) ≡ ascending levels 0 (keys place set))
 
 abbrev μ-loop : tie.MeasureT-loop
-μ-loop place set levels last₀ rest₀ last rest = rest
+μ-loop place set levels ends last₀ rest₀ last rest = rest
+
+returns : tie.Need-returns Inv-loop μ-loop
+unfolding ascending
+returns c = sym (ap (ascending (c .before .args .levels) 0) (keys-end (c .before .args .place .now) (c .before .args .set) (c .if1 .taken)))
+
+ends-of-requires : tie.Need-ends-of-requires Inv-loop μ-loop
+ends-of-requires c κs = search needs
 
 loop-holds : tie.Need-loop-holds Inv-loop μ-loop
 loop-holds c = search needs
@@ -32,11 +40,11 @@ element-copy-out-key c = search needs
 follows-requires : tie.Need-follows-requires Inv-loop μ-loop
 follows-requires c κs = search needs
 
-returns : tie.Need-returns Inv-loop μ-loop
+returns-2 : tie.Need-returns-2 Inv-loop μ-loop
 unfolding ascending
-returns c =
-    let turn = ap (ascending (c .before .before .before .before .before .before .args .levels) (c .before .before .before .before .before .loop .last)) (keys-turn (c .before .before .before .before .before .before .args .place .now) (c .before .before .before .before .before .loop .rest) (c .before .before .before .lowest .result) (bitAnd (c .before .before .before .before .before .loop .rest) (c .before .before .before .before .before .loop .rest - 1)) (omega arith) (omega arith) (c .before .before .before .lowest .ensures .0) refl) in
-    sym (sym (c .before .before .before .before .before .loop .inv .1) ∙ turn ∙ rw (← c .before .follows .ensures, not-true (c .before .follows .result) (c .if1 .taken)))
+returns-2 c =
+    let turn = ap (ascending (c .before .before .before .before .before .before .before .before .before .args .levels) (c .before .before .before .before .before .before .loop .last)) (keys-turn (c .before .before .before .before .before .before .before .before .before .args .place .now) (c .before .before .before .before .before .before .loop .rest) (c .before .before .before .before .lowest .result) (bitAnd (c .before .before .before .before .before .before .loop .rest) (c .before .before .before .before .before .before .loop .rest - 1)) (omega arith) (omega arith) (c .before .before .before .before .lowest .ensures .0) refl) in
+    sym (sym (c .before .before .before .before .before .before .loop .inv .1) ∙ turn ∙ rw (← ends-fit (c .before .before .before .before .before .before .before .before .before .args .levels), ← c .before .before .before .before .before .before .before .ends-of .ensures, ← c .before .follows .ensures, not-true (c .before .follows .result) (c .if2 .taken)))
 
 after-lowest-requires : tie.Need-after-lowest-requires Inv-loop μ-loop
 after-lowest-requires c κs = search needs
@@ -47,12 +55,12 @@ loop-less c = search needs
 loop-again : tie.Need-loop-again Inv-loop μ-loop
 unfolding ascending
 loop-again c =
-    let turn = ap (ascending (c .before .before .before .before .before .before .before .args .levels) (c .before .before .before .before .before .before .loop .last)) (keys-turn (c .before .before .before .before .before .before .before .args .place .now) (c .before .before .before .before .before .before .loop .rest) (c .before .before .before .before .lowest .result) (c .after-lowest .result) (omega arith) (omega arith) (c .before .before .before .before .lowest .ensures .0) (c .after-lowest .ensures .0)) in
-    (omega arith, rw (← c .before .before .follows .ensures, not-false (c .before .before .follows .result) (c .before .if1 .left)) at (sym turn) ∙ c .before .before .before .before .before .before .loop .inv .1)
+    let turn = ap (ascending (c .before .before .before .before .before .before .before .before .before .before .args .levels) (c .before .before .before .before .before .before .before .loop .last)) (keys-turn (c .before .before .before .before .before .before .before .before .before .before .args .place .now) (c .before .before .before .before .before .before .before .loop .rest) (c .before .before .before .before .before .lowest .result) (c .after-lowest .result) (omega arith) (omega arith) (c .before .before .before .before .before .lowest .ensures .0) (c .after-lowest .ensures .0)) in
+    (omega arith, rw (← ends-fit (c .before .before .before .before .before .before .before .before .before .before .args .levels), ← c .before .before .before .before .before .before .before .before .ends-of .ensures, ← c .before .before .follows .ensures, not-false (c .before .before .follows .result) (c .before .if2 .left)) at (sym turn) ∙ c .before .before .before .before .before .before .before .loop .inv .1)
 
-returns-2 : tie.Need-returns-2 Inv-loop μ-loop
+returns-3 : tie.Need-returns-3 Inv-loop μ-loop
 unfolding ascending
-returns-2 c = sym (sym (c .before .loop .inv .1) ∙ ap (ascending (c .before .before .args .levels) (c .before .loop .last)) (keys-end (c .before .before .args .place .now) (c .before .loop .rest) (c .loop-test .left)))
+returns-3 c = sym (sym (c .before .loop .inv .1) ∙ ap (ascending (c .before .before .before .before .args .levels) (c .before .loop .last)) (keys-end (c .before .before .before .before .args .place .now) (c .before .loop .rest) (c .loop-test .left)))
 
 pub ascends-spec : {M : Type 1} → statement M
 ascends-spec =
@@ -60,13 +68,15 @@ ascends-spec =
     (tie.spec
     Inv-loop
     μ-loop
+    returns
+    ends-of-requires
     loop-holds
     lowest-requires
     mul-key
     element-copy-out-key
     follows-requires
-    returns
+    returns-2
     after-lowest-requires
     loop-less
     loop-again
-    returns-2)
+    returns-3)

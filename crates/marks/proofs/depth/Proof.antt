@@ -1,37 +1,49 @@
--- What is found so far and the depth by the places left make the whole. Assumes nothing.
-use mathlib.Core.Path.{_≡_, ap}
-use Prim.Native.Nat.{_<_, _^_, max}
+-- What is found so far and the depth by the places left make the whole, at each page that wants these keys. Assumes nothing.
+use mathlib.Core.Path.{_≡_, sym, ap, _∙_}
+use Prim.Native.Nat.{ℕ, _<_, _^_, max}
 use native.Mathlib.Omega.{arith}
+use Rattle.spec.specs.Entry.{pageOf}
 use Rattle.marks.specs.Key.{depthOf}
 use Rattle.marks.specs.Table.{keys}
+use Rattle.marks.specs.ByLevel.{wantsOf}
 use Rattle.marks.proofs.Turn.{keys-turn, keys-end}
+use Rattle.marks.proofs.ByLevel.{wanted-turn, wanted-end}
 use borrow.Author.Needs.{needs}
 use Rattle.marks.proofs.depth.Statement.{statement}
 use Rattle.marks.proofs.depth.Tie as tie
 
 abbrev Inv-loop : tie.InvT-loop
-Inv-loop place set page found₀ rest₀ found rest = (rest < 2 ^ 64) × (max found (depthOf page (keys place rest)) ≡ depthOf page (keys place set))
+Inv-loop place set wants found₀ rest₀ found rest = (rest < 2 ^ 64) × ((p : ℕ) → wants ≡ wantsOf p → max found (depthOf p (keys place rest)) ≡ depthOf p (keys place set))
 
 abbrev μ-loop : tie.MeasureT-loop
-μ-loop place set page found₀ rest₀ found rest = rest
+μ-loop place set wants found₀ rest₀ found rest = rest
 
-page-requires : tie.Need-page-requires Inv-loop μ-loop
-page-requires c κs = search needs
+returns : tie.Need-returns Inv-loop μ-loop
+unfolding depthOf
+returns c = sym (ap (depthOf (pageOf (c .before .args .address .0))) (keys-end (c .before .args .place .now) (c .before .args .set) (c .if1 .taken)))
+
+wants-of-requires : tie.Need-wants-of-requires Inv-loop μ-loop
+wants-of-requires c κs = search needs
 
 loop-holds : tie.Need-loop-holds Inv-loop μ-loop
 loop-holds c = search needs
 
+wanted-from-requires : tie.Need-wanted-from-requires Inv-loop μ-loop
+wanted-from-requires c κs = search needs
+
+returns-2 : tie.Need-returns-2 Inv-loop μ-loop
+returns-2 c =
+    let none = sym (c .before .wanted-from .ensures .0) ∙ keys-end (c .before .before .before .before .before .before .args .place .now) (c .before .wanted-from .result) (c .if2 .taken) in
+    omega (arith, c .before .before .before .loop .inv .1 (pageOf (c .before .before .before .before .before .before .args .address .0)) (c .before .before .before .before .wants-of .ensures), wanted-end (pageOf (c .before .before .before .before .before .before .args .address .0)) (keys (c .before .before .before .before .before .before .args .place .now) (c .before .before .before .loop .rest)) (rw (c .before .before .before .before .wants-of .ensures) at none))
+
 lowest-requires : tie.Need-lowest-requires Inv-loop μ-loop
 lowest-requires c κs = search needs
 
-mul-level-at : tie.Need-mul-level-at Inv-loop μ-loop
-mul-level-at c = search needs
+mul-greater : tie.Need-mul-greater Inv-loop μ-loop
+mul-greater c = search needs
 
-element-copy-out-level-at : tie.Need-element-copy-out-level-at Inv-loop μ-loop
-element-copy-out-level-at c = search needs
-
-level-at-requires : tie.Need-level-at-requires Inv-loop μ-loop
-level-at-requires c κs = search needs
+element-copy-out-greater : tie.Need-element-copy-out-greater Inv-loop μ-loop
+element-copy-out-greater c = search needs
 
 greater-requires : tie.Need-greater-requires Inv-loop μ-loop
 greater-requires c κs = search needs
@@ -43,16 +55,10 @@ loop-less : tie.Need-loop-less Inv-loop μ-loop
 loop-less c = search needs
 
 loop-again : tie.Need-loop-again Inv-loop μ-loop
-unfolding depthOf
 loop-again c =
-    let turn = keys-turn (c .before .before .before .before .before .before .before .before .args .place .now) (c .before .before .before .before .before .before .loop .rest) _ _ (omega arith) (omega arith) (c .before .before .before .before .lowest .ensures .0) (c .after-lowest .ensures .0) in
-    omega (arith, c .after-lowest .ensures .1, ap (depthOf (c .before .before .before .before .before .before .before .page .result)) turn, c .before .greater .ensures, c .before .before .level-at .ensures)
-
-returns : tie.Need-returns Inv-loop μ-loop
-unfolding depthOf
-returns c =
-    let end = keys-end (c .before .before .before .args .place .now) (c .before .loop .rest) (c .loop-test .left) in
-    rw (← c .before .before .page .ensures) (omega (arith, ap (depthOf (c .before .before .page .result)) end))
+    let turn = keys-turn (c .before .before .before .before .before .before .before .before .before .before .args .place .now) (c .before .before .before .before .before .wanted-from .result) (c .before .before .before .lowest .result) (c .after-lowest .result) (omega arith) (omega arith) (c .before .before .before .lowest .ensures .0) (c .after-lowest .ensures .0) in
+    let first = sym (c .before .before .before .before .before .wanted-from .ensures .0) ∙ turn in
+    (omega arith, λ p e. omega (arith, c .before .before .before .before .before .before .before .loop .inv .1 p e, wanted-turn p (keys (c .before .before .before .before .before .before .before .before .before .before .args .place .now) (c .before .before .before .before .before .before .before .loop .rest)) _ _ (rw e at first), c .before .greater .ensures))
 
 pub depth-spec : {M : Type 1} → statement M
 depth-spec =
@@ -60,14 +66,15 @@ depth-spec =
     (tie.spec
     Inv-loop
     μ-loop
-    page-requires
+    returns
+    wants-of-requires
     loop-holds
+    wanted-from-requires
+    returns-2
     lowest-requires
-    mul-level-at
-    element-copy-out-level-at
-    level-at-requires
+    mul-greater
+    element-copy-out-greater
     greater-requires
     after-lowest-requires
     loop-less
-    loop-again
-    returns)
+    loop-again)

@@ -1,6 +1,6 @@
+-- Each way goes by its test. Assumes nothing.
 use Prim.Native.Nat.{_<_}
 use native.Mathlib.Omega.{arith}
--- Each way goes by its test. Assumes nothing.
 use borrow.Author.Tests.{lt-ltb, le-ltb}
 use borrow.Author.Needs.{needs}
 use Rattle.marks.proofs.follows.Statement.{statement}

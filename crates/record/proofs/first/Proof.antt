@@ -1,4 +1,3 @@
--- A pool from which nothing is handed out, and no mark. Assumes nothing.
 use Rattle.record.specs.Open.{firstOf}
 use borrow.Author.Needs.{needs}
 use Rattle.record.proofs.first.Statement.{statement}
@@ -12,7 +11,10 @@ empty-requires c κs = search needs
 
 returns : tie.Need-returns
 unfolding firstOf
-returns c = rw (c .before .no-tables .ensures, c .empty .ensures)
+returns c =
+    let no-tables = c .before .no-tables in
+    let empty = c .empty in
+    rw (no-tables .ensures, empty .ensures)
 
 pub first-spec : {M : Type 1} → statement M
 first-spec = tie.close (tie.spec no-tables-requires empty-requires returns)

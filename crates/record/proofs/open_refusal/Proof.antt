@@ -1,4 +1,3 @@
--- Each refusal by its test, in their order. Assumes nothing.
 use borrow.Author.Tests.{not-true, not-false}
 use Rattle.spec.specs.Refusal.{openRefusal}
 use Rattle.record.specs.Open.{refusalOf}
@@ -11,19 +10,38 @@ words-fit-requires c κs = search needs
 
 returns : tie.Need-returns
 unfolding refusalOf openRefusal
-returns c = rw (← c .before .words-fit .ensures, not-true (c .before .words-fit .result) (c .if1 .taken))
+returns c =
+    let words-fit = c .before .words-fit in
+    let if1 = c .if1 in
+    rw (← words-fit .ensures, not-true (words-fit .result) (if1 .taken))
+
+layout-requires : tie.Need-layout-requires
+layout-requires c κs = search needs
 
 areas-fit-requires : tie.Need-areas-fit-requires
 areas-fit-requires c κs = search needs
 
 returns-2 : tie.Need-returns-2
 unfolding refusalOf openRefusal
-returns-2 c = rw (← c .before .before .before .words-fit .ensures, not-false (c .before .before .before .words-fit .result) (c .before .before .if1 .left), ← c .before .areas-fit .ensures, not-true (c .before .areas-fit .result) (c .if2 .taken))
+returns-2 c =
+    let words-fit = c .before .before .before .before .words-fit in
+    let if1 = c .before .before .before .if1 in
+    let layout = c .before .before .layout in
+    let areas-fit = c .before .areas-fit in
+    let if2 = c .if2 in
+    rw (← words-fit .ensures, not-false (words-fit .result) (if1 .left), ← (rw (layout .ensures) at (areas-fit .ensures)), not-true (areas-fit .result) (if2 .taken))
 
 returns-3 : tie.Need-returns-3
 unfolding refusalOf openRefusal
-returns-3 c = rw (← c .before .before .before .words-fit .ensures, not-false (c .before .before .before .words-fit .result) (c .before .before .if1 .left), ← c .before .areas-fit .ensures, not-false (c .before .areas-fit .result) (c .if2 .left))
+returns-3 c =
+    let words-fit = c .before .before .before .before .words-fit in
+    let if1 = c .before .before .before .if1 in
+    let layout = c .before .before .layout in
+    let areas-fit = c .before .areas-fit in
+    let if2 = c .if2 in
+    rw (← words-fit .ensures, not-false (words-fit .result) (if1 .left), ← (rw (layout .ensures) at (areas-fit .ensures)), not-false (areas-fit .result) (if2 .left))
 
 pub open-refusal-spec : {M : Type 1} → statement M
 open-refusal-spec =
-    tie.close (tie.spec words-fit-requires returns areas-fit-requires returns-2 returns-3)
+    tie.close
+    (tie.spec words-fit-requires returns layout-requires areas-fit-requires returns-2 returns-3)

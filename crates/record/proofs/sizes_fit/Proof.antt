@@ -1,28 +1,53 @@
--- The length, then the tests of an opening. Assumes nothing.
-use borrow.Author.Tests.{eq-eqb, ne-eqb}
+use borrow.Author.Tests.{le-ltb}
+use Rattle.spec.specs.Refusal.{areasFit}
+use Rattle.host.specs.Walk.{config}
+use mathlib.Core.Path.{_≡_, refl}
+use mathlib.Core.Bool.{Bool, true, false, _&&_}
+use Prim.Native.Nat.{_*_, _<_}
+use native.Mathlib.Omega.{arith}
+use lib.Dec.{eqb}
+use borrow.Author.Tests.{le-leb, lt-leb, lt-ltb, eq-eqb, ne-eqb}
 use Rattle.record.specs.Record.{sizesFit}
 use borrow.Author.Needs.{needs}
 use Rattle.record.proofs.sizes_fit.Statement.{statement}
 use Rattle.record.proofs.sizes_fit.Tie as tie
 
+zero : (b d : Bool) → false ≡ (b && false && d)
+zero true d = refl
+zero false d = refl
+
 returns : tie.Need-returns
 unfolding sizesFit
-returns c = rw (ne-eqb (c .before .args .len) (c .before .args .words) (c .if1 .taken))
+returns c =
+    let args = c .before .before .args in
+    rw (le-ltb 0 (args .l .frames) (omega arith)) (zero (eqb (args .len) (args .l .frames * 512)) (areasFit (config (args .l))))
 
-words-fit-requires : tie.Need-words-fit-requires
-words-fit-requires c κs = search needs
+returns-2 : tie.Need-returns-2
+unfolding sizesFit
+returns-2 c =
+    let args = c .before .before .before .before .args in
+    let if2 = c .if2 in
+    let some : 0 < args .l .frames = omega arith in rw (lt-ltb _ _ some, lt-leb _ _ (if2 .taken)) (zero (eqb (args .len) (args .l .frames * 512)) (areasFit (config (args .l))))
+
+mul-if3 : tie.Need-mul-if3
+mul-if3 c = search needs
+
+returns-3 : tie.Need-returns-3
+unfolding sizesFit
+returns-3 c = rw (ne-eqb _ _ (c .if3 .taken))
 
 areas-fit-requires : tie.Need-areas-fit-requires
 areas-fit-requires c κs = search needs
 
-returns-2 : tie.Need-returns-2
+returns-4 : tie.Need-returns-4
 unfolding sizesFit
-returns-2 c = rw (eq-eqb (c .before .before .before .before .args .len) (c .before .before .before .before .args .words) (c .before .before .before .if1 .left), ← c .before .before .words-fit .ensures, c .before .if2 .taken) (c .areas-fit .ensures)
-
-returns-3 : tie.Need-returns-3
-unfolding sizesFit
-returns-3 c = rw (eq-eqb (c .before .before .before .args .len) (c .before .before .before .args .words) (c .before .before .if1 .left), ← c .before .words-fit .ensures, c .if2 .left)
+returns-4 c =
+    let args = c .before .before .before .before .before .before .before .args in
+    let if2 = c .before .before .before .if2 in
+    let if3 = c .before .if3 in
+    let areas-fit = c .areas-fit in
+    let some : 0 < args .l .frames = omega arith in rw (eq-eqb _ _ (if3 .left), lt-ltb _ _ some, le-leb _ _ (if2 .left)) (areas-fit .ensures)
 
 pub sizes-fit-spec : {M : Type 1} → statement M
 sizes-fit-spec =
-    tie.close (tie.spec returns words-fit-requires areas-fit-requires returns-2 returns-3)
+    tie.close (tie.spec returns returns-2 mul-if3 returns-3 areas-fit-requires returns-4)

@@ -1,7 +1,25 @@
+-- At depth 0 the held path leads to the page, and nothing is read.
+use mathlib.Core.Path.{_≡_, sym, ap, _∙_}
+use Prim.Native.Nat.{_-_}
+use native.Mathlib.Omega.{arith}
+use Rattle.spec.specs.Entry.{pageOf}
+use Rattle.host.specs.Walk.{config}
+use Rattle.walk.specs.declared.Walked.the-variants as walked
+use Rattle.walk.specs.Memory.{trailFrom}
+use Rattle.walk.proofs.Laws.{loop-end}
 use Rattle.request.specs.Translate.{directOf}
 use borrow.Author.Needs.{needs}
 use Rattle.request.proofs.direct.Statement.{statement}
 use Rattle.request.proofs.direct.Tie as tie
+
+returns : tie.Need-returns
+unfolding directOf
+returns c =
+    let args = c .before .before .before .args in
+    let if1 = c .if1 in
+    let none : args .q .depth ≡ 0 = if1 .taken in
+    let all : args .s .layout .levels - args .q .depth ≡ args .s .layout .levels = omega arith in
+    sym (loop-end (config (args .s .layout)) (args .s .top) (args .mem .now) (args .s .layout .levels - args .q .depth) (args .q .store) 0 (args .q .depth) (args .page .0) (pageOf (args .q .address .0)) (args .writable) none ∙ ap (walked.Arrived (args .page) (args .writable)) all)
 
 page-requires : tie.Need-page-requires
 page-requires c κs = search needs
@@ -12,9 +30,13 @@ sub-walk-tables c = search needs
 walk-tables-requires : tie.Need-walk-tables-requires
 walk-tables-requires c κs = search needs
 
-returns : tie.Need-returns
-unfolding directOf
-returns c = rw (← c .before .before .page .ensures) (c .walk-tables .ensures)
+returns-2 : tie.Need-returns-2
+unfolding directOf trailFrom
+returns-2 c =
+    let page = c .before .before .before .page in
+    let walk-tables = c .walk-tables in
+    rw (walk-tables .ensures, page .ensures)
 
 pub direct-spec : {M : Type 1} → statement M
-direct-spec = tie.close (tie.spec page-requires sub-walk-tables walk-tables-requires returns)
+direct-spec =
+    tie.close (tie.spec returns page-requires sub-walk-tables walk-tables-requires returns-2)

@@ -15,15 +15,25 @@ held-requires c κs = search needs
 
 returns : tie.Need-returns
 unfolding foundOf
-returns c = rw (lt-ltb _ _ (c .before .before .before .if1 .taken), ← c .before .before .path-of .ensures) (c .held .ensures)
+returns c =
+    let if1 = c .before .before .before .if1 in
+    let path-of = c .before .before .path-of in
+    let held = c .held in
+    rw (lt-ltb _ _ (if1 .taken), ← path-of .ensures) (held .ensures)
 
 returns-2 : tie.Need-returns-2
 unfolding foundOf
-returns-2 c = rw (le-ltb _ _ (c .before .if1 .left), eq-eqb _ _ (c .if2 .taken))
+returns-2 c =
+    let if1 = c .before .before .if1 in
+    let if2 = c .if2 in
+    rw (le-ltb _ _ (if1 .left), eq-eqb _ _ (if2 .taken))
 
 returns-3 : tie.Need-returns-3
 unfolding foundOf
-returns-3 c = rw (le-ltb _ _ (c .before .if1 .left), ne-eqb _ _ (c .if2 .left))
+returns-3 c =
+    let if1 = c .before .before .before .if1 in
+    let if2 = c .before .if2 in
+    rw (le-ltb _ _ (if1 .left), ne-eqb _ _ (if2 .left))
 
 pub found-spec : {M : Type 1} → statement M
 found-spec =

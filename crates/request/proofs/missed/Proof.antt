@@ -1,12 +1,21 @@
-use native.Mathlib.Omega.{arith}
+-- The walk of the shadow part hands out the tables that a fill notes.
+use mathlib.Core.Path.{_≡_, sym, ap}
 use Prim.Native.Nat.{_-_}
+use native.Mathlib.Omega.{arith}
 use Rattle.spec.specs.Entry.{indexes}
+use Rattle.spec.specs.Plain.{walk}
 use Rattle.host.specs.Walk.{config}
+use Rattle.walk.specs.declared.Trail.{Trail}
+use Rattle.walk.specs.Memory.{walkedOf, trailFrom}
 use Rattle.request.specs.Translate.{missedOf}
 use Rattle.request.proofs.Fits.{walk-in}
 use borrow.Author.Needs.{needs}
 use Rattle.request.proofs.missed.Statement.{statement}
 use Rattle.request.proofs.missed.Tie as tie
+
+came : (c : tie.After-walk-root) → walkedOf (config (c .before .before .before .before .before .before .args .s .layout)) (c .before .before .before .before .before .before .args .s .top) (c .before .before .before .before .before .before .args .mem .now) 0 (walk (config (c .before .before .before .before .before .before .args .s .layout)) (c .before .before .before .before .before .before .args .q .store) (c .before .before .before .before .before .before .args .root .0) (indexes (c .before .before .before .before .before .before .args .s .layout .levels - c .before .before .before .before .before .before .args .q .depth) (c .before .before .before .before .path-of .result))) ≡ c .walk-root .result .walked
+unfolding trailFrom
+came c = sym (ap (λ (t : Trail). t .walked) (c .walk-root .ensures))
 
 path-of-requires : tie.Need-path-of-requires
 path-of-requires c κs = search needs
@@ -17,40 +26,61 @@ sub-walk-root c = search needs
 walk-root-requires : tie.Need-walk-root-requires
 walk-root-requires c κs = search needs
 
-enum-known-page : tie.Need-enum-known-page
-enum-known-page c = search needs
+enum-known-walked : tie.Need-enum-known-walked
+enum-known-walked c = search needs
 
 filled-requires : tie.Need-filled-requires
 filled-requires c κs =
-    let at = rw (← c .before .before .before .before .walk-root .ensures, c .before .before .page .given .1) at (walk-in (config (c .before .before .before .before .before .before .before .before .before .args .l)) (c .before .before .before .before .before .before .before .before .before .args .mem .now) (c .before .before .before .before .before .before .before .before .before .args .store) 0 (c .before .before .before .before .before .before .before .before .before .args .root .0) (indexes (c .before .before .before .before .before .before .before .before .before .args .l .levels - c .before .before .before .before .before .before .before .before .before .args .d) (c .before .before .before .before .before .before .path-of .result))) in
-    (c .before .before .before .before .before .before .before .before .before .pre .0, c .before .before .before .before .before .before .before .before .before .pre .1, omega (arith, at .1, c .before .before .before .before .before .before .before .before .before .pre .0))
+    let args = c .before .before .before .before .before .before .before .before .before .before .before .before .args in
+    let pre = c .before .before .before .before .before .before .before .before .before .before .before .before .pre in
+    let path-of = c .before .before .before .before .before .before .before .before .before .before .path-of in
+    let walked = c .before .before .before .before .walked in
+    let at = rw (came (c .before .before .before .before .before .before), walked .given .1) at (walk-in (config (args .s .layout)) (args .s .top) (args .mem .now) (args .q .store) 0 (args .root .0) (indexes (args .s .layout .levels - args .q .depth) (path-of .result))) in
+    (pre .0, pre .1, omega (arith, at .1, pre .0))
 
-enum-known-fault : tie.Need-enum-known-fault
-enum-known-fault c = search needs
+enum-known-walked-2 : tie.Need-enum-known-walked-2
+enum-known-walked-2 c = search needs
 
 enum-told : tie.Need-enum-told
 enum-told c = search needs
+
+damaged-requires : tie.Need-damaged-requires
+damaged-requires c κs = search needs
 
 same-length : tie.Need-same-length
 same-length c = search needs
 
 returns : tie.Need-returns
 unfolding missedOf
-returns c = rw (← c .before .before .before .before .before .before .before .before .before .path-of .ensures, ← c .before .before .before .before .before .before .before .walk-root .ensures, c .before .before .before .before .before .page .given .1) (c .before .before .filled .ensures)
+returns c =
+    let path-of = c .before .before .before .before .before .before .before .before .before .before .before .before .before .path-of in
+    let walk-root = c .before .before .before .before .before .before .before .before .before .walk-root in
+    let walked = c .before .before .before .before .before .before .before .walked in
+    let filled = c .before .before .filled in
+    rw (← path-of .ensures, ← walk-root .ensures, walked .given .1) (filled .ensures)
 
 same-length-2 : tie.Need-same-length-2
 same-length-2 c = search needs
 
 returns-2 : tie.Need-returns-2
 unfolding missedOf
-returns-2 c = rw (← c .before .before .before .before .before .path-of .ensures, ← c .before .before .before .walk-root .ensures, c .before .fault .given .1)
+returns-2 c =
+    let path-of = c .before .before .before .before .before .before .before .path-of in
+    let walk-root = c .before .before .before .walk-root in
+    let walked2 = c .before .walked2 in
+    rw (← path-of .ensures, ← walk-root .ensures, walked2 .given .1)
 
 same-length-3 : tie.Need-same-length-3
 same-length-3 c = search needs
 
 returns-3 : tie.Need-returns-3
 unfolding missedOf
-returns-3 c = rw (← c .before .before .before .before .path-of .ensures, ← c .before .before .walk-root .ensures, c .enum-told .given .1)
+returns-3 c =
+    let path-of = c .before .before .before .before .before .before .before .path-of in
+    let walk-root = c .before .before .before .walk-root in
+    let enum-told = c .before .enum-told in
+    let damaged = c .damaged in
+    rw (← path-of .ensures, ← walk-root .ensures, enum-told .given .1, damaged .ensures)
 
 pub missed-spec : {M : Type 1} → statement M
 missed-spec =
@@ -59,10 +89,11 @@ missed-spec =
     path-of-requires
     sub-walk-root
     walk-root-requires
-    enum-known-page
+    enum-known-walked
     filled-requires
-    enum-known-fault
+    enum-known-walked-2
     enum-told
+    damaged-requires
     same-length
     returns
     same-length-2

@@ -1,3 +1,4 @@
+use Rattle.walk.specs.Memory.{trailFrom}
 use Rattle.request.specs.Translate.{plainOf}
 use borrow.Author.Needs.{needs}
 use Rattle.request.proofs.plain.Statement.{statement}
@@ -13,8 +14,12 @@ exit-of-requires : tie.Need-exit-of-requires
 exit-of-requires c κs = search needs
 
 returns : tie.Need-returns
-unfolding plainOf
-returns c = rw (← c .before .before .page .ensures, ← c .before .walk-root .ensures, ← c .exit-of .ensures)
+unfolding plainOf trailFrom
+returns c =
+    let page = c .before .before .page in
+    let walk-root = c .before .walk-root in
+    let exit-of = c .exit-of in
+    rw (exit-of .ensures, walk-root .ensures, page .ensures)
 
 pub plain-spec : {M : Type 1} → statement M
 plain-spec = tie.close (tie.spec page-requires walk-root-requires exit-of-requires returns)

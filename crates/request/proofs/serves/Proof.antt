@@ -9,7 +9,10 @@ granted-requires c κs = search needs
 
 returns : tie.Need-returns
 unfolding servesOf
-returns c = rw (eq-eqb _ _ (c .before .if1 .taken)) (c .granted .ensures)
+returns c =
+    let if1 = c .before .if1 in
+    let granted = c .granted in
+    rw (eq-eqb _ _ (if1 .taken)) (granted .ensures)
 
 returns-2 : tie.Need-returns-2
 unfolding servesOf

@@ -6,10 +6,16 @@ fits-requires : tie.Need-fits-requires
 fits-requires c κs = search needs
 
 returns : tie.Need-returns
-returns c = rw (← c .before .before .fits2 .ensures, c .before .if1 .taken)
+returns c =
+    let fits2 = c .before .before .fits2 in
+    let if1 = c .before .if1 in
+    rw (← fits2 .ensures, if1 .taken)
 
 returns-2 : tie.Need-returns-2
-returns-2 c = rw (← c .before .fits2 .ensures, c .if1 .left)
+returns-2 c =
+    let fits2 = c .before .fits2 in
+    let if1 = c .if1 in
+    rw (← fits2 .ensures, if1 .left)
 
 pub address-ok-spec : {M : Type 1} → statement M
 address-ok-spec = tie.close (tie.spec fits-requires returns returns-2)

@@ -1,4 +1,7 @@
+use Prim.Native.Nat.{_+_}
 use borrow.Author.Tests.{eq-eqb, ne-eqb}
+use Rattle.spec.specs.Config.{frameBits}
+use Rattle.entry.specs.Levels.{ofLevels}
 use Rattle.entry.proofs.Entries.{shift-out}
 use borrow.Author.Needs.{needs}
 use Rattle.unit.proofs.device_ok.Statement.{statement}
@@ -14,10 +17,18 @@ shr-if1 : tie.Need-shr-if1
 shr-if1 c = search needs
 
 returns : tie.Need-returns
-returns c = rw (← shift-out (c .before .before .args .a) 48, eq-eqb _ _ (rw (c .before .frame-bits .ensures) at (c .if1 .taken)))
+returns c =
+    let args = c .before .before .args in
+    let frame-bits = c .before .frame-bits in
+    let if1 = c .if1 in
+    rw (← shift-out (args .a) (12 + frameBits (ofLevels (args .levels))), eq-eqb _ _ (rw (frame-bits .ensures) at (if1 .taken)))
 
 returns-2 : tie.Need-returns-2
-returns-2 c = rw (← shift-out (c .before .before .args .a) 48, ne-eqb _ _ (rw (c .before .frame-bits .ensures) at (c .if1 .left)))
+returns-2 c =
+    let args = c .before .before .args in
+    let frame-bits = c .before .frame-bits in
+    let if1 = c .if1 in
+    rw (← shift-out (args .a) (12 + frameBits (ofLevels (args .levels))), ne-eqb _ _ (rw (frame-bits .ensures) at (if1 .left)))
 
 pub device-ok-spec : {M : Type 1} → statement M
 device-ok-spec = tie.close (tie.spec frame-bits-requires add-if1 shr-if1 returns returns-2)

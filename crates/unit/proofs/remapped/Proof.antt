@@ -1,4 +1,4 @@
-use borrow.Author.Tests.{eq-eqb, ne-eqb}
+use borrow.Author.Tests.{eq-eqb, ne-eqb, not-true, not-false}
 use Rattle.unit.specs.Calls.{unmappedOf}
 use borrow.Author.Needs.{needs}
 use Rattle.unit.proofs.remapped.Statement.{statement}
@@ -7,55 +7,67 @@ use Rattle.unit.proofs.remapped.Tie as tie
 with-host-requires : tie.Need-with-host-requires
 with-host-requires c κs = search needs
 
-no-tables-requires : tie.Need-no-tables-requires
-no-tables-requires c κs = search needs
+held-none-requires : tie.Need-held-none-requires
+held-none-requires c κs = search needs
 
 with-held-requires : tie.Need-with-held-requires
 with-held-requires c κs = search needs
 
 returns : tie.Need-returns
 unfolding unmappedOf
-returns c = rw (eq-eqb _ _ (c .before .before .before .if1 .taken), c .with-held .ensures, c .before .before .with-host .ensures, c .before .no-tables .ensures)
-
-layout-requires : tie.Need-layout-requires
-layout-requires c κs = search needs
+returns c =
+    let with-host = c .before .before .before .before .before .with-host in
+    let if1 = c .before .before .if1 in
+    let held-none = c .before .held-none in
+    let with-held = c .with-held in
+    rw (eq-eqb _ _ (if1 .taken), with-held .ensures, held-none .ensures, with-host .ensures)
 
 drop-mapping-requires : tie.Need-drop-mapping-requires
-drop-mapping-requires c κs = rw (c .before .layout .ensures) (c .before .before .before .before .before .before .pre)
+drop-mapping-requires c κs = c .before .before .before .before .before .before .pre
 
-with-host-requires-2 : tie.Need-with-host-requires-2
-with-host-requires-2 c κs = search needs
-
-with-held-requires-2 : tie.Need-with-held-requires-2
-with-held-requires-2 c κs = search needs
+refused-in-requires : tie.Need-refused-in-requires
+refused-in-requires c κs = search needs
 
 same-length : tie.Need-same-length
 same-length c = search needs
 
 returns-2 : tie.Need-returns-2
 unfolding unmappedOf
-returns-2 c = rw (ne-eqb _ _ (c .before .before .before .before .before .before .before .before .before .if1 .left), ← (rw (c .before .before .before .before .before .before .before .before .layout .ensures) at (c .before .before .before .before .before .before .drop-mapping .ensures)), c .before .before .if2 .taken, c .with-held2 .ensures, c .before .with-host2 .ensures)
+returns-2 c =
+    let if1 = c .before .before .before .before .before .before .before .before .before .if1 in
+    let drop-mapping = c .before .before .before .before .before .before .before .drop-mapping in
+    let if2 = c .before .if2 in
+    let refused-in = c .refused-in in
+    rw (ne-eqb _ _ (if1 .left), ← drop-mapping .ensures, not-true (drop-mapping .result .ok) (if2 .taken), refused-in .ensures)
+
+with-held-requires-2 : tie.Need-with-held-requires-2
+with-held-requires-2 c κs = search needs
 
 same-length-2 : tie.Need-same-length-2
 same-length-2 c = search needs
 
 returns-3 : tie.Need-returns-3
 unfolding unmappedOf
-returns-3 c = rw (ne-eqb _ _ (c .before .before .before .before .before .before .before .if1 .left), ← (rw (c .before .before .before .before .before .before .layout .ensures) at (c .before .before .before .before .drop-mapping .ensures)), c .if2 .left)
+returns-3 c =
+    let with-host = c .before .before .before .before .before .before .before .before .before .before .before .before .with-host in
+    let if1 = c .before .before .before .before .before .before .before .before .before .if1 in
+    let drop-mapping = c .before .before .before .before .before .before .before .drop-mapping in
+    let if2 = c .before .if2 in
+    let with-held2 = c .with-held2 in
+    rw (ne-eqb _ _ (if1 .left), ← drop-mapping .ensures, not-false (drop-mapping .result .ok) (if2 .left), with-held2 .ensures, with-host .ensures)
 
 pub remapped-spec : {M : Type 1} → statement M
 remapped-spec =
     tie.close
     (tie.spec
     with-host-requires
-    no-tables-requires
+    held-none-requires
     with-held-requires
     returns
-    layout-requires
     drop-mapping-requires
-    with-host-requires-2
-    with-held-requires-2
+    refused-in-requires
     same-length
     returns-2
+    with-held-requires-2
     same-length-2
     returns-3)

@@ -1,115 +1,26 @@
-use native.Mathlib.Omega.{arith}
-use mathlib.Core.Path.{_≡_, sym, subst, _∙_}
-use mathlib.Core.Bool.{true}
-use lib.ListN.{length}
-use Rattle.record.specs.Record.{configOf, fitsOf}
-use Rattle.request.proofs.Fits.{ArrivedIn}
-use Rattle.request.proofs.Leaves.{Leaves}
-use Rattle.unit.specs.Calls.{translatedOf, withHeld, storeBy, storeCall}
-use Rattle.unit.proofs.Ranges.{fits-sound, small, top-small, leaves, put-exits}
 use borrow.Author.Needs.{needs}
 use Rattle.unit.proofs.store.Statement.{statement}
 use Rattle.unit.proofs.store.Tie as tie
-use Rattle.words.specs.After.{yields}
 
--- the record breaks no rule
-fit : (c : tie.Then1) → fitsOf (c .before .before .before .before .before .before .before .args .t1) (length (c .before .before .before .before .before .before .before .args .mem .now)) ≡ true
-fit c = sym (c .before .fits2 .ensures) ∙ c .if1 .taken
+head-requires : tie.Need-head-requires
+head-requires c κs = search needs
 
--- the call, once the address is translated
-came : (c : tie.After-translated) → storeCall (c .before .before .before .before .before .before .before .before .before .before .before .before .before .before .before .args .t1) (c .before .before .before .before .before .before .before .before .before .before .before .before .before .before .before .args .mem .now) (c .before .before .before .before .before .before .before .before .before .before .before .before .before .before .before .args .a) (c .before .before .before .before .before .before .before .before .before .before .before .before .before .before .before .args .v) ≡ storeBy (c .before .before .before .before .before .before .before .before .before .before .before .before .before .before .before .args .t1) (c .before .before .before .before .before .before .before .before .before .before .before .before .before .before .before .args .a) (c .before .before .before .before .before .before .before .before .before .before .before .before .before .before .before .args .v) (yields (c .translated .result) (c .translated .last .0)) (c .translated .result .walked)
-unfolding storeCall translatedOf
-came c = rw (fit (c .before .before .before .before .before .before .before .before), ← c .before .before .before .before .before .before .before .address-ok .ensures, c .before .before .before .before .before .before .if2 .taken, ← (rw (c .before .before .before .before .before .layout .ensures) at (c .translated .ensures)))
+store-at-requires : tie.Need-store-at-requires
+store-at-requires c κs = search needs
 
-left : (c : tie.After-translated) → Leaves (configOf (c .before .before .before .before .before .before .before .before .before .before .before .before .before .before .before .args .t1)) (c .before .before .before .before .before .before .before .before .before .before .before .before .before .before .before .args .mem .now) (yields (c .translated .result) (c .translated .last .0))
-unfolding translatedOf
-left c = leaves (c .before .before .before .before .before .before .before .before .before .before .before .before .before .before .before .args .t1) _ (fit (c .before .before .before .before .before .before .before .before)) (c .before .before .before .before .before .before .before .before .before .before .before .before .before .before .before .args .mem .now) true (c .before .before .before .before .before .before .before .before .before .before .before .before .before .before .before .args .a) _ (rw (c .before .before .before .before .before .layout .ensures) at (c .translated .ensures))
-
-fits-requires : tie.Need-fits-requires
-fits-requires c κs = search needs
-
-address-ok-requires : tie.Need-address-ok-requires
-address-ok-requires c κs = search needs
-
-layout-requires : tie.Need-layout-requires
-layout-requires c κs = search needs
-
-translated-requires : tie.Need-translated-requires
-translated-requires c κs = (rw (c .before .before .before .before .layout .ensures) (fits-sound (c .before .before .before .before .before .before .before .before .before .before .before .before .before .before .args .t1) _ (fit (c .before .before .before .before .before .before .before)) .0), top-small (c .before .before .before .before .before .before .before .before .before .before .before .before .before .before .args .t1) _ (fit (c .before .before .before .before .before .before .before)))
-
-enum-known-walked : tie.Need-enum-known-walked
-enum-known-walked c = search needs
-
-word-of-requires : tie.Need-word-of-requires
-word-of-requires c κs = search needs
-
-put-word-requires : tie.Need-put-word-requires
-put-word-requires c κs = rw (c .before .before .before .before .before .before .before .before .before .before .before .before .before .layout .ensures) (fits-sound (c .before .before .before .before .before .before .before .before .before .before .before .before .before .before .before .before .before .before .before .before .before .before .before .args .t1) _ (fit (c .before .before .before .before .before .before .before .before .before .before .before .before .before .before .before .before)) .0, left (c .before .before .before .before .before .before .before .before) .fresh, small (c .before .before .before .before .before .before .before .before .before .before .before .before .before .before .before .before .before .before .before .before .before .before .before .args .t1) _ (fit (c .before .before .before .before .before .before .before .before .before .before .before .before .before .before .before .before)) _ (subst (ArrivedIn (configOf (c .before .before .before .before .before .before .before .before .before .before .before .before .before .before .before .before .before .before .before .before .before .before .before .args .t1))) (c .before .before .before .walked .given .1) (left (c .before .before .before .before .before .before .before .before) .arrived)), c .word-of .ensures .1)
-
-add-t47 : tie.Need-add-t47
-add-t47 c = let l = left (c .before .before .before .before .before .before .before .before .before .before .before .before .before .before .before) in omega (arith, l .exits, put-exits (configOf (c .before .before .before .before .before .before .before .before .before .before .before .before .before .before .before .before .before .before .before .before .before .before .before .before .before .before .before .before .before .before .args .t1)) _ _ _ _ _ _ (l .fresh) (rw (c .before .before .before .before .before .before .before .before .before .before .before .before .before .before .before .before .before .before .before .before .layout .ensures, c .before .before .before .before .before .before .before .word-of .ensures .0) at (c .before .before .before .before .before .before .put-word .ensures)))
-
-enum-known-walked-2 : tie.Need-enum-known-walked-2
-enum-known-walked-2 c = search needs
-
-enum-told : tie.Need-enum-told
-enum-told c = search needs
+served-requires : tie.Need-served-requires
+served-requires c κs = search needs
 
 same-length : tie.Need-same-length
 same-length c = search needs
 
 returns : tie.Need-returns
-unfolding withHeld
-returns c = rw (came (c .before .before .before .before .before .before .before .before .before .before .before .before .before .before .before), c .before .before .before .before .before .before .before .before .before .before .walked .given .1, ← (rw (c .before .before .before .before .before .before .before .before .before .before .before .before .before .before .before .before .before .before .before .before .layout .ensures, c .before .before .before .before .before .before .before .word-of .ensures .0) at (c .before .before .before .before .before .before .put-word .ensures)), c .before .before .if3 .taken)
-
-same-length-2 : tie.Need-same-length-2
-same-length-2 c = search needs
-
-returns-2 : tie.Need-returns-2
-returns-2 c = rw (came (c .before .before .before .before .before .before .before .before .before .before .before .before .before), c .before .before .before .before .before .before .before .before .walked .given .1, ← (rw (c .before .before .before .before .before .before .before .before .before .before .before .before .before .before .before .before .before .before .layout .ensures, c .before .before .before .before .before .word-of .ensures .0) at (c .before .before .before .before .put-word .ensures)), c .if3 .left)
-
-same-length-3 : tie.Need-same-length-3
-same-length-3 c = search needs
-
-returns-3 : tie.Need-returns-3
-unfolding withHeld
-returns-3 c = rw (came (c .before .before .before .before .before .before), c .before .walked2 .given .1)
-
-same-length-4 : tie.Need-same-length-4
-same-length-4 c = search needs
-
-returns-4 : tie.Need-returns-4
-returns-4 c = rw (came (c .before .before .before .before .before), c .enum-told .given .1)
-
-returns-5 : tie.Need-returns-5
-unfolding storeCall
-returns-5 c = rw (fit (c .before .before), ← c .before .address-ok .ensures, c .if2 .left)
-
-returns-6 : tie.Need-returns-6
-unfolding storeCall
-returns-6 c = rw (← c .before .fits2 .ensures, c .if1 .left)
+returns c =
+    let head = c .before .before .before .before .before .before .before .head in
+    let store-at = c .before .before .before .store-at in
+    let served = c .served in
+    rw (served .ensures) (rw (head .ensures) at (store-at .ensures))
 
 pub store-spec : {M : Type 1} → statement M
 store-spec =
-    tie.close
-    (tie.spec
-    fits-requires
-    address-ok-requires
-    layout-requires
-    translated-requires
-    enum-known-walked
-    word-of-requires
-    put-word-requires
-    add-t47
-    enum-known-walked-2
-    enum-told
-    same-length
-    returns
-    same-length-2
-    returns-2
-    same-length-3
-    returns-3
-    same-length-4
-    returns-4
-    returns-5
-    returns-6)
+    tie.close (tie.spec head-requires store-at-requires served-requires same-length returns)

@@ -1,11 +1,14 @@
-use mathlib.Core.Path.{refl}
-use Rattle.unit.specs.Calls.{withHeld}
+use Rattle.unit.specs.Calls.{headHeld}
+use borrow.Author.Needs.{needs}
 use Rattle.unit.proofs.with_held.Statement.{statement}
 use Rattle.unit.proofs.with_held.Tie as tie
 
+with-tables-requires : tie.Need-with-tables-requires
+with-tables-requires c κs = search needs
+
 returns : tie.Need-returns
-unfolding withHeld
-returns c = refl
+unfolding headHeld
+returns c = c .with-tables .ensures
 
 pub with-held-spec : {M : Type 1} → statement M
-with-held-spec = tie.close (tie.spec returns)
+with-held-spec = tie.close (tie.spec with-tables-requires returns)

@@ -1,11 +1,14 @@
+-- The root's host walk, then the tables; where it fails no table was read.
 use mathlib.Core.Path.{ap, _∙_}
 use mathlib.Core.Bool.{true, false}
 use native.Mathlib.Omega.{arith}
+use lib.ListN.{replicate}
 use Rattle.spec.specs.Entry.{indexes}
 use Rattle.spec.specs.Plain.{levels}
 use Rattle.host.specs.Walk.{config}
-use Rattle.walk.specs.Memory.{walkedOf}
-use Rattle.walk.proofs.Laws.{walk-step, table-fits}
+use Rattle.walk.specs.Memory.{trailOf}
+use Rattle.walk.proofs.Laws.{table-fits}
+use Rattle.walk.proofs.Trails.{trail-root}
 use borrow.Author.Needs.{needs}
 use Rattle.walk.proofs.walk_root.Statement.{statement}
 use Rattle.walk.proofs.walk_root.Tie as tie
@@ -18,9 +21,12 @@ enum-known-page c = search needs
 
 walk-tables-requires : tie.Need-walk-tables-requires
 walk-tables-requires c κs =
-    let a = c .before .before .before .before .before .args in
-    let fits = rw (← c .before .before .before .to-table .ensures, c .before .page .given .1) at (table-fits (config (a .l)) (a .mem .now) 0 false (a .root .0) true) in
-    (c .before .before .before .before .before .pre .0, omega (arith, c .before .before .before .before .before .pre), omega (arith, fits .1, c .before .before .before .before .before .pre), omega (arith, fits .0 .1, c .before .before .before .before .before .pre))
+    let args = c .before .before .before .before .before .args in
+    let pre = c .before .before .before .before .before .pre in
+    let to-table = c .before .before .before .to-table in
+    let page = c .before .page in
+    let fits = rw (← to-table .ensures, page .given .1) at (table-fits (config (args .s .layout)) (args .s .top) (args .mem .now) 0 false (args .root .0) true) in
+    (pre .0, omega (arith, pre), omega (arith, fits .1, pre), omega (arith, fits .0 .1, pre))
 
 enum-known-fault : tie.Need-enum-known-fault
 enum-known-fault c = search needs
@@ -30,16 +36,28 @@ enum-told c = search needs
 
 returns : tie.Need-returns
 returns c =
-    let a = c .before .before .before .before .before .before .args in
-    let p = c .before .before .page .given .0 in
-    rw (walk-step (config (c .before .before .before .before .before .before .args .l)) (c .before .before .before .before .before .before .args .mem .now) 0 (c .before .before .before .before .before .before .args .store) (c .before .before .before .before .before .before .args .root .0) (indexes (c .before .before .before .before .before .before .args .k) (c .before .before .before .before .before .before .args .path)), ← c .before .before .before .before .to-table .ensures, c .before .before .page .given .1)
-    (c .walk-tables .ensures ∙ ap (λ n. walkedOf (config (a .l)) (a .mem .now) (p .1 .1 .0) (levels (config (a .l)) (a .store) n (p .0 .0) true (indexes (a .k) (a .path)))) (c .before .before .before .before .before .before .pre .1))
+    let args = c .before .before .before .before .before .before .args in
+    let pre = c .before .before .before .before .before .before .pre in
+    let to-table = c .before .before .before .before .to-table in
+    let page = c .before .before .page in
+    let walk-tables = c .walk-tables in
+    let p = page .given .0 in
+    rw (trail-root (config (args .s .layout)) (args .s .top) (args .mem .now) (replicate 8 0) 0 0 (args .store) (args .root .0) (indexes (args .k) (args .path)), ← to-table .ensures, page .given .1)
+    (walk-tables .ensures ∙ ap (λ n. trailOf (config (args .s .layout)) (args .s .top) (args .mem .now) (p .1 .1 .0) (levels (config (args .s .layout)) (args .store) n (p .0 .0) true (indexes (args .k) (args .path)))) (pre .1))
 
 returns-2 : tie.Need-returns-2
-returns-2 c = rw (walk-step (config (c .before .before .before .before .before .args .l)) (c .before .before .before .before .before .args .mem .now) 0 (c .before .before .before .before .before .args .store) (c .before .before .before .before .before .args .root .0) (indexes (c .before .before .before .before .before .args .k) (c .before .before .before .before .before .args .path)), ← c .before .before .before .to-table .ensures, c .before .fault .given .1)
+returns-2 c =
+    let args = c .before .before .before .before .before .args in
+    let to-table = c .before .before .before .to-table in
+    let fault = c .before .fault in
+    rw (trail-root (config (args .s .layout)) (args .s .top) (args .mem .now) (replicate 8 0) 0 0 (args .store) (args .root .0) (indexes (args .k) (args .path)), ← to-table .ensures, fault .given .1)
 
 returns-3 : tie.Need-returns-3
-returns-3 c = rw (walk-step (config (c .before .before .before .before .args .l)) (c .before .before .before .before .args .mem .now) 0 (c .before .before .before .before .args .store) (c .before .before .before .before .args .root .0) (indexes (c .before .before .before .before .args .k) (c .before .before .before .before .args .path)), ← c .before .before .to-table .ensures, c .enum-told .given .1)
+returns-3 c =
+    let args = c .before .before .before .before .args in
+    let to-table = c .before .before .to-table in
+    let enum-told = c .enum-told in
+    rw (trail-root (config (args .s .layout)) (args .s .top) (args .mem .now) (replicate 8 0) 0 0 (args .store) (args .root .0) (indexes (args .k) (args .path)), ← to-table .ensures, enum-told .given .1)
 
 pub walk-root-spec : {M : Type 1} → statement M
 walk-root-spec =

@@ -1,49 +1,62 @@
+-- The loop's invariant: what is left of the walk, with the tables noted so far, is handed out as the whole walk's trail.
 use mathlib.Core.Path.{_≡_, refl, sym, _∙_}
 use Prim.Native.Nat.{_+_, _-_, _*_, _≤_, _<_}
 use native.Mathlib.Omega.{arith}
+use lib.ListN.{set}
 use Rattle.spec.specs.Entry.{indexes}
 use Rattle.spec.specs.Plain.{levels}
 use Rattle.host.specs.Walk.{config}
 use Rattle.entry.proofs.Entries.{index-fits}
-use Rattle.walk.specs.Memory.{walkedOf}
-use Rattle.walk.proofs.Laws.{thenWalked, TurnFits, turn-fits, loop-step, loop-end}
+use Rattle.walk.specs.Memory.{trailFrom, trailOf}
+use Rattle.walk.proofs.Laws.{TurnFits, turn-fits}
+use Rattle.walk.proofs.Trails.{thenTrail, trail-step, trail-end}
 use borrow.Author.Needs.{needs}
 use Rattle.walk.proofs.walk_tables.Statement.{statement}
 use Rattle.walk.proofs.walk_tables.Tie as tie
 
 abbrev Inv-loop : tie.InvT-loop
-Inv-loop mem l store path k below right read left₀ at₀ w₀ n₀ left at w n =
-    (left ≤ k) × (at < 1099511627776) × (n + 6 * left ≤ 1024 + 6 * k)
-    × (walkedOf (config l) mem n (levels (config l) store (below + left) at w (indexes left path))
-    ≡ walkedOf (config l) mem n₀ (levels (config l) store (below + k) at₀ w₀ (indexes k path)))
+Inv-loop mem s store path k below right read left₀ at₀ w₀ n₀ tables₀ depth₀ left at w n tables depth =
+    (left ≤ k) × (at < 1099511627776) × (n + 6 * left ≤ 1024 + 6 * k) × (depth + left ≡ k)
+    × (trailFrom (config (s .layout)) (s .top) mem tables depth n (levels (config (s .layout)) store (below + left) at w (indexes left path))
+    ≡ trailFrom (config (s .layout)) (s .top) mem tables₀ 0 n₀ (levels (config (s .layout)) store (below + k) at₀ w₀ (indexes k path)))
 
 abbrev μ-loop : tie.MeasureT-loop
-μ-loop mem l store path k below right read left₀ at₀ w₀ n₀ left at w n = left
+μ-loop mem s store path k below right read left₀ at₀ w₀ n₀ tables₀ depth₀ left at w n tables depth = left
 
+-- the walk's trail, by where the turn came to
 turned : (c : tie.After-descend Inv-loop μ-loop)
-    → let a = c .before .before .before .before .before .args in
-    let at = c .before .before .before .loop in
-    thenWalked (c .descend .result) (λ u v j. walkedOf (config (a .l)) (a .mem .now) j (levels (config (a .l)) (a .store) (a .below + (at .left - 1)) u v (indexes (at .left - 1) (a .path))))
-    ≡ walkedOf (config (a .l)) (a .mem .now) (a .read) (levels (config (a .l)) (a .store) (a .below + a .k) (a .table .0) (a .right) (indexes (a .k) (a .path)))
+    → thenTrail (c .descend .result) (set (c .before .before .before .loop .tables) (c .before .before .before .loop .depth) (c .before .before .before .loop .at)) (λ u v j. trailFrom (config (c .before .before .before .before .before .args .s .layout)) (c .before .before .before .before .before .args .s .top) (c .before .before .before .before .before .args .mem .now) (set (c .before .before .before .loop .tables) (c .before .before .before .loop .depth) (c .before .before .before .loop .at)) (c .before .before .before .loop .depth + 1) j (levels (config (c .before .before .before .before .before .args .s .layout)) (c .before .before .before .before .before .args .store) (c .before .before .before .before .before .args .below + (c .before .before .before .loop .left - 1)) u v (indexes (c .before .before .before .loop .left - 1) (c .before .before .before .before .before .args .path))))
+    ≡ trailOf (config (c .before .before .before .before .before .args .s .layout)) (c .before .before .before .before .before .args .s .top) (c .before .before .before .before .before .args .mem .now) (c .before .before .before .before .before .args .read) (levels (config (c .before .before .before .before .before .args .s .layout)) (c .before .before .before .before .before .args .store) (c .before .before .before .before .before .args .below + c .before .before .before .before .before .args .k) (c .before .before .before .before .before .args .table .0) (c .before .before .before .before .before .args .right) (indexes (c .before .before .before .before .before .args .k) (c .before .before .before .before .before .args .path)))
 turned c =
-    let a = c .before .before .before .before .before .args in
-    let at = c .before .before .before .loop in
-    rw (c .descend .ensures, c .before .index-of .ensures, ← loop-step (config (a .l)) (a .mem .now) (at .n) (a .store) (a .below) (at .left) (at .at) (a .path) (at .w) (c .before .before .loop-test .taken))
-    (at .inv .3)
+    let args = c .before .before .before .before .before .args in
+    let loop = c .before .before .before .loop in
+    let loop-test = c .before .before .loop-test in
+    let index-of = c .before .index-of in
+    let descend = c .descend in
+    rw (descend .ensures, index-of .ensures, ← trail-step (config (args .s .layout)) (args .s .top) (args .mem .now) (loop .tables) (loop .depth) (loop .n) (args .store) (args .below) (loop .left) (loop .at) (args .path) (loop .w) (loop-test .taken)) (loop .inv .4)
 
 -- where the turn arrived
-arrived : (c : tie.After-descend Inv-loop μ-loop)
-    → TurnFits (config (c .before .before .before .before .before .args .l)) (c .before .before .before .loop .n + 1) (c .descend .result)
+arrived : (c : tie.After-descend Inv-loop μ-loop) → TurnFits (config (c .before .before .before .before .before .args .s .layout)) (c .before .before .before .loop .n + 1) (c .descend .result)
 arrived c =
-    let a = c .before .before .before .before .before .args in
-    let at = c .before .before .before .loop in
-    rw (c .descend .ensures) (turn-fits (config (a .l)) (a .mem .now) (at .n) (a .store) _ (at .at) _ (at .w))
+    let args = c .before .before .before .before .before .args in
+    let loop = c .before .before .before .loop in
+    let descend = c .descend in
+    rw (descend .ensures) (turn-fits (config (args .s .layout)) (args .s .top) (args .mem .now) (loop .n) (args .store) _ (loop .at) _ (loop .w))
 
 loop-holds : tie.Need-loop-holds Inv-loop μ-loop
-loop-holds c = (search needs, search needs, search needs, refl)
+loop-holds c = (search needs, search needs, search needs, search needs, refl)
 
 sub-left : tie.Need-sub-left Inv-loop μ-loop
 sub-left c = search needs
+
+mul-tables : tie.Need-mul-tables Inv-loop μ-loop
+mul-tables c = search needs
+
+array-write-tables : tie.Need-array-write-tables Inv-loop μ-loop
+array-write-tables c = search needs
+
+add-depth : tie.Need-add-depth Inv-loop μ-loop
+add-depth c = search needs
 
 index-of-requires : tie.Need-index-of-requires Inv-loop μ-loop
 index-of-requires c κs = search needs
@@ -55,7 +68,12 @@ add-descend-2 : tie.Need-add-descend-2 Inv-loop μ-loop
 add-descend-2 c = search needs
 
 descend-requires : tie.Need-descend-requires Inv-loop μ-loop
-descend-requires c κs = (c .before .before .before .before .pre .0, omega (arith, c .before .before .loop .inv .2, c .before .before .before .before .pre), c .before .before .loop .inv .1, rw (c .index-of .ensures) (index-fits (c .before .before .loop .left - 1) (c .before .before .before .before .args .path)))
+descend-requires c κs =
+    let pre = c .before .before .before .before .pre in
+    let args = c .before .before .before .before .args in
+    let loop = c .before .before .loop in
+    let index-of = c .index-of in
+    (pre .0, omega (arith, loop .inv .2, pre), loop .inv .1, rw (index-of .ensures) (index-fits (loop .left - 1) (args .path)))
 
 enum-known-page : tie.Need-enum-known-page Inv-loop μ-loop
 enum-known-page c = search needs
@@ -65,10 +83,11 @@ loop-less c = search needs
 
 loop-again : tie.Need-loop-again Inv-loop μ-loop
 loop-again c =
-    let d = c .before .before .before in
-    let told = c .before .page .given .1 in
-    let fits = rw told at (arrived d) in
-    (omega arith, omega (arith, fits .0 .1, c .before .before .before .before .before .before .before .before .pre), omega (arith, fits .1, c .before .before .before .before .before .before .before .before .pre), rw told at (turned d))
+    let pre = c .before .before .before .before .before .before .before .before .pre in
+    let page = c .before .page in
+    let told = page .given .1 in
+    let fits = rw told at (arrived (c .before .before .before)) in
+    (omega arith, omega (arith, fits .0 .1, pre), omega (arith, fits .1, pre), omega arith, rw told at (turned (c .before .before .before)))
 
 enum-known-fault : tie.Need-enum-known-fault Inv-loop μ-loop
 enum-known-fault c = search needs
@@ -84,10 +103,10 @@ returns-2 c = rw (c .enum-told .given .1) at (turned (c .before .before))
 
 returns-3 : tie.Need-returns-3 Inv-loop μ-loop
 returns-3 c =
-    let a = c .before .before .before .args in
-    let at = c .before .loop in
-    let none : at .left ≡ 0 = omega arith in
-    sym (loop-end (config (a .l)) (a .mem .now) (at .n) (a .store) (a .below) (at .left) (at .at) (a .path) (at .w) none) ∙ at .inv .3
+    let args = c .before .before .before .args in
+    let loop = c .before .loop in
+    let none : loop .left ≡ 0 = omega arith in
+    sym (trail-end (config (args .s .layout)) (args .s .top) (args .mem .now) (loop .tables) (loop .depth) (loop .n) (args .store) (args .below) (loop .left) (loop .at) (args .path) (loop .w) none) ∙ loop .inv .4
 
 pub walk-tables-spec : {M : Type 1} → statement M
 walk-tables-spec =
@@ -97,6 +116,9 @@ walk-tables-spec =
     μ-loop
     loop-holds
     sub-left
+    mul-tables
+    array-write-tables
+    add-depth
     index-of-requires
     add-descend
     add-descend-2

@@ -136,7 +136,7 @@ fn loads(title: &str, addresses: &[u64]) {
     let mut ways: Vec<Way> = Vec::new();
     for (level, elsewhere) in [(0, 0), (0, 8), (0, 62), (1, 0), (2, 0), (3, 0), (4, 0), (5, 0)] {
         let (mut unit, mut memory) = prepared(level, elsewhere, addresses);
-        let name = format!("unit: load at depth {level}, {} marks", unit.set.count_ones());
+        let name = format!("unit: load at depth {level}, {} marks", unit.head.set.count_ones());
         ways.push((name, Box::new(move |address| word(unit.load(&mut memory, address)))));
     }
     let (mut unit, mut memory) = prepared(0, 0, addresses);

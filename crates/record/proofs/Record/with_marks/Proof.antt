@@ -1,4 +1,3 @@
--- By the definition. Assumes nothing.
 use mathlib.Core.Path.{refl}
 use Rattle.record.specs.Record.{withMarks}
 use Rattle.record.proofs.Record.with_marks.Statement.{statement}

@@ -1,4 +1,3 @@
--- Two pools from which nothing is handed out. Assumes nothing.
 use Rattle.record.specs.Record.{zeros}
 use borrow.Author.Needs.{needs}
 use Rattle.record.proofs.Record.zeros.Statement.{statement}
@@ -12,7 +11,10 @@ no-tables-requires-2 c κs = search needs
 
 returns : tie.Need-returns
 unfolding zeros
-returns c = rw (c .before .no-tables .ensures, c .no-tables2 .ensures)
+returns c =
+    let no-tables = c .before .no-tables in
+    let no-tables2 = c .no-tables2 in
+    rw (no-tables .ensures, no-tables2 .ensures)
 
 pub zeros-spec : {M : Type 1} → statement M
 zeros-spec = tie.close (tie.spec no-tables-requires no-tables-requires-2 returns)

@@ -1,0 +1,91 @@
+use native.Mathlib.Omega.{arith}
+use mathlib.Core.Bool.{false}
+use Rattle.words.specs.After.{yields}
+use Rattle.host.specs.Walk.{config}
+use Rattle.request.proofs.Fits.{held-small}
+use Rattle.request.proofs.Leaves.{Leaves, translate-leaves}
+use Rattle.request.specs.Access.{loadOf}
+use borrow.Author.Needs.{needs}
+use Rattle.request.proofs.load.Statement.{statement}
+use Rattle.request.proofs.load.Tie as tie
+
+-- what the translation leaves
+left : (c : tie.After-translate) → Leaves (config (c .before .before .before .args .s .layout)) (c .before .before .before .args .mem .now) (yields (c .translate .result) (c .translate .last .0))
+left c =
+    let args = c .before .before .before .args in
+    let pre = c .before .before .before .pre in
+    let translate = c .translate in
+    rw (translate .ensures) (translate-leaves (config (args .s .layout)) (args .s .top) (args .mem .now) false (args .held) (pre .1) (args .root .0) (args .a .0) (args .d))
+
+translate-requires : tie.Need-translate-requires
+translate-requires c κs =
+    let pre = c .before .before .pre in
+    let args = c .before .before .args in
+    (pre .0, held-small (config (args .s .layout)) (args .held) (pre .1) (pre .0 .3))
+
+enum-known-walked : tie.Need-enum-known-walked
+enum-known-walked c = search needs
+
+read-word-requires : tie.Need-read-word-requires
+read-word-requires c κs =
+    let pre = c .before .before .before .before .before .before .before .before .before .before .pre in
+    let walked = c .before .before .walked in
+    let at = rw (walked .given .1) at (left (c .before .before .before .before .before .before .before) .arrived) in omega (arith, at .1, pre .0)
+
+enum-known-walked-2 : tie.Need-enum-known-walked-2
+enum-known-walked-2 c = search needs
+
+enum-told : tie.Need-enum-told
+enum-told c = search needs
+
+refused-requires : tie.Need-refused-requires
+refused-requires c κs = search needs
+
+same-length : tie.Need-same-length
+same-length c = search needs
+
+returns : tie.Need-returns
+unfolding loadOf
+returns c =
+    let translate = c .before .before .before .before .before .before .before .before .translate in
+    let walked = c .before .before .before .walked in
+    let read-word = c .read-word in
+    rw (← translate .ensures, walked .given .1, read-word .ensures)
+
+same-length-2 : tie.Need-same-length-2
+same-length-2 c = search needs
+
+returns-2 : tie.Need-returns-2
+unfolding loadOf
+returns-2 c =
+    let translate = c .before .before .before .before .before .before .translate in
+    let walked2 = c .before .walked2 in
+    rw (← translate .ensures, walked2 .given .1)
+
+same-length-3 : tie.Need-same-length-3
+same-length-3 c = search needs
+
+returns-3 : tie.Need-returns-3
+unfolding loadOf
+returns-3 c =
+    let translate = c .before .before .before .before .before .before .translate in
+    let enum-told = c .before .enum-told in
+    let refused = c .refused in
+    rw (← translate .ensures, enum-told .given .1, refused .ensures)
+
+pub load-spec : {M : Type 1} → statement M
+load-spec =
+    tie.close
+    (tie.spec
+    translate-requires
+    enum-known-walked
+    read-word-requires
+    enum-known-walked-2
+    enum-told
+    refused-requires
+    same-length
+    returns
+    same-length-2
+    returns-2
+    same-length-3
+    returns-3)

@@ -1,0 +1,87 @@
+-- Loads and stores from address to word, and the held paths that a store drops; for any memory.
+-- Assumes nothing.
+use Prim.Native.Nat.{ℕ, _+_}
+use mathlib.Core.Bool.{Bool, true, false, cond}
+use mathlib.Core.List.{List}
+use Rattle.spec.specs.declared.Answer.{Answer}
+use Rattle.spec.specs.declared.Answer.the-variants as answer
+use Rattle.spec.specs.Config.{Config}
+use Rattle.spec.specs.Entry.{pageOf, wordOf}
+use Rattle.spec.specs.Plain.{next}
+use Rattle.words.specs.After.{After, yields}
+use Rattle.words.specs.Words.{wordIn, setIn}
+use Rattle.area.specs.declared.Pool.{Pool}
+use Rattle.host.specs.Walk.{page}
+use Rattle.walk.specs.declared.Walked.{Walked}
+use Rattle.walk.specs.declared.Walked.the-variants as walked
+use Rattle.walk.specs.Memory.{walkedOf}
+use Rattle.shadow.specs.declared.Left.{Left}
+use Rattle.shadow.specs.declared.Cut.the-variants.{Word}
+use Rattle.shadow.specs.Cut.{watchedOf}
+use Rattle.shadow.specs.Drop.{scanOf}
+use Rattle.request.specs.declared.Held.{Held}
+use Rattle.request.specs.declared.Put.{Put}
+use Rattle.request.specs.declared.Served.{Served}
+use Rattle.request.specs.declared.Translated.{Translated}
+use Rattle.request.specs.Translate.{exitBy, translateOf}
+
+-- what a request leaves
+abbrev pub serving : Held → Answer → List ℕ → After Served
+serving h x m = yields (record { held = h; answer = x }) m
+
+-- "A refusal returns its number with the record given"
+abbrev pub refused : Held → ℕ → List ℕ → After Served
+refused h n m = serving h (answer.Refused n) m
+
+-- ---- the word of a store
+
+abbrev pub stored : Pool → ℕ → Bool → List ℕ → After Put
+stored p e b m = yields (record { pool = p; exits = e; ok = b }) m
+
+-- the drops are found before the word is written, so that damage met on the way has changed no guest word
+abbrev pub putBy : Pool → ℕ → ℕ → ℕ → After Left → After Put
+putBy p t i v o = cond (o .result .ok) (stored (o .result .pool) 1 true (setIn (o .memory) t i v)) (stored p 0 false (o .memory))
+
+-- word i of host frame t gets v: "1 for a store into a frame that is watched once the store is translated"; a frame that is not
+-- watched has no word that a held path read
+unfoldable pub putOf : Config → List ℕ → Pool → ℕ → ℕ → ℕ → After Put
+putOf c m p t i v =
+    cond (watchedOf c m (p .fresh) t) (putBy p t i v (scanOf c (Word (page t) i) p m)) (stored p 0 true (setIn m t i v))
+
+-- ---- load
+
+-- h: what was held when the load came
+abbrev pub loadBy : Held → ℕ → After Translated → Walked → After Served
+loadBy h a o (walked.Arrived t w n) = serving (o .result .held) (answer.Value (wordIn (o .memory) (t .0) (wordOf a)) n (o .result .exits)) (o .memory)
+loadBy h a o (walked.Faulted x n) = serving (o .result .held) (answer.Faulted x n (o .result .exits)) (o .memory)
+loadBy h a o walked.Damaged = refused h 11 (o .memory)
+
+unfoldable pub loadOf : Config → ℕ → List ℕ → Held → ℕ → ℕ → ℕ → After Served
+loadOf c ht m h root a d = let o = translateOf c ht m h root false a d in loadBy h a o (o .result .walked)
+
+-- ---- store
+
+-- a store that came to its word, with what is held then: n references, e exits so far
+abbrev pub writtenBy : Held → Held → ℕ → ℕ → After Put → After Served
+writtenBy h held n e s =
+    cond (s .result .ok)
+    (serving (record { pool = s .result .pool; frame = held .frame }) (answer.Done n (e + s .result .exits)) (s .memory))
+    (refused h 11 (s .memory))
+
+abbrev pub storeBy : Config → Held → ℕ → ℕ → After Translated → Walked → After Served
+storeBy c h a v o (walked.Arrived t w n) =
+    writtenBy h (o .result .held) n (o .result .exits) (putOf c (o .memory) (o .result .held .pool) (t .0) (wordOf a) v)
+storeBy c h a v o (walked.Faulted x n) = serving (o .result .held) (answer.Faulted x n (o .result .exits)) (o .memory)
+storeBy c h a v o walked.Damaged = refused h 11 (o .memory)
+
+unfoldable pub storeOf : Config → ℕ → List ℕ → Held → ℕ → ℕ → ℕ → ℕ → After Served
+storeOf c ht m h root a d v = let o = translateOf c ht m h root true a d in storeBy c h a v o (o .result .walked)
+
+-- "For a device store: the host walk's words, 1 exit for H or W, 1, if granted, for a watched frame"
+abbrev pub deviceBy : Config → List ℕ → Held → ℕ → ℕ → Walked → After Served
+deviceBy c m h a v (walked.Arrived t w n) = writtenBy h h n 0 (putOf c m (h .pool) (t .0) (wordOf a) v)
+deviceBy c m h a v (walked.Faulted x n) = serving h (answer.Faulted x n (exitBy (walked.Faulted x n))) m
+deviceBy c m h a v walked.Damaged = refused h 11 m
+
+unfoldable pub deviceOf : Config → ℕ → List ℕ → Held → ℕ → ℕ → After Served
+deviceOf c ht m h a v = deviceBy c m h a v (walkedOf c ht m 0 (next true true (pageOf a) true))

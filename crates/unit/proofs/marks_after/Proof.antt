@@ -1,0 +1,24 @@
+use borrow.Author.Needs.{needs}
+use Rattle.unit.proofs.marks_after.Statement.{statement}
+use Rattle.unit.proofs.marks_after.Tie as tie
+
+with-key-requires : tie.Need-with-key-requires
+with-key-requires c κs = search needs
+
+without-key-requires : tie.Need-without-key-requires
+without-key-requires c κs = search needs
+
+returns : tie.Need-returns
+returns c =
+    let if1 = c .before .if1 in
+    let with-key = c .with-key in
+    rw (if1 .taken) (with-key .ensures)
+
+returns-2 : tie.Need-returns-2
+returns-2 c =
+    let if1 = c .before .if1 in
+    let without-key = c .without-key in
+    rw (if1 .left) (without-key .ensures)
+
+pub marks-after-spec : {M : Type 1} → statement M
+marks-after-spec = tie.close (tie.spec with-key-requires without-key-requires returns returns-2)

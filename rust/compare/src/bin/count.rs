@@ -1,0 +1,171 @@
+//! Makes one of the main calls so many times, for callgrind to count: `count CASE CALLS`. `count` alone names the cases.
+//! tests/counts.rs counts what runs from entry to return of the functions of `counted`, and nothing around them.
+
+use cangrieb::{Answer, Record};
+
+/// One call of the wrapper each. As they are exported, they are compiled for any arguments and callers, not for those here.
+mod counted {
+    use cangrieb::{Answer, Record};
+
+    macro_rules! calls {
+        ($($call:ident($($argument:ident: $sort:ty),*);)*) => {$(
+            #[export_name = concat!("counted_", stringify!($call))]
+            #[inline(never)]
+            pub fn $call(unit: &mut Record, memory: &mut [u64] $(, $argument: $sort)*) -> Answer {
+                unit.$call(memory $(, $argument)*)
+            }
+        )*};
+    }
+
+    calls! {
+        load(address: u64);
+        store(address: u64, value: u64);
+        device_store(address: u64, value: u64);
+        root(guest: u64);
+        map(guest: u64, frame: u64, writable: bool);
+        unmap(guest: u64);
+        set_mark(address: u64, level: u64);
+        clear_mark(address: u64, level: u64);
+    }
+}
+
+/// A case: its name, the guest it begins with, and what it does each time. That leaves the guest as it was, so that each
+/// time costs the same.
+type Case = (&'static str, fn() -> Guest, fn(&mut Record, &mut [u64]));
+
+const CASES: [Case; 25] = [
+    ("load-depth-0", || held(0, 0), load::<0>),
+    ("load-depth-0-marks-8", || held(0, 8), load::<0>),
+    ("load-depth-0-marks-62", || held(0, 62), load::<0>),
+    ("load-depth-1", || held(1, 0), load::<1>),
+    ("load-depth-1-marks-8", || held(1, 8), load::<1>),
+    ("load-depth-1-marks-62", || held(1, 62), load::<1>),
+    ("load-depth-2", || held(2, 0), load::<2>),
+    ("load-depth-2-marks-8", || held(2, 8), load::<2>),
+    ("load-depth-2-marks-62", || held(2, 62), load::<2>),
+    ("load-depth-3", || held(3, 0), load::<3>),
+    ("load-depth-3-marks-8", || held(3, 8), load::<3>),
+    ("load-depth-3-marks-62", || held(3, 62), load::<3>),
+    ("load-depth-4", || held(4, 0), load::<4>),
+    ("load-depth-4-marks-8", || held(4, 8), load::<4>),
+    ("load-depth-4-marks-62", || held(4, 62), load::<4>),
+    ("load-depth-5", || held(5, 0), load::<5>),
+    ("load-depth-5-marks-8", || held(5, 8), load::<5>),
+    ("load-depth-5-marks-62", || held(5, 62), load::<5>),
+    ("store", || held(0, 0), store),
+    ("device-store", || held(0, 0), device_store),
+    ("root", guest, root),
+    ("map-anew", guest, map_anew),
+    ("map-unmap", guest, map_unmap),
+    ("mark-set-clear", guest, mark_set_clear),
+    ("root-load-fill", || held(0, 0), root_load_fill),
+];
+
+// What a case does. The answers show that the calls are the ones meant.
+
+const WORD: u64 = 7;
+
+fn load<const DEPTH: u64>(unit: &mut Record, memory: &mut [u64]) {
+    let said = counted::load(unit, memory, 0);
+    assert_eq!(said, Answer::Value { word: WORD, references: 4 + 4 * DEPTH, exits: 0 });
+}
+
+fn store(unit: &mut Record, memory: &mut [u64]) {
+    let said = counted::store(unit, memory, 0, WORD);
+    assert_eq!(said, Answer::Done { references: 4, exits: 0 });
+}
+
+fn device_store(unit: &mut Record, memory: &mut [u64]) {
+    let said = counted::device_store(unit, memory, PAGE << 12, WORD);
+    assert_eq!(said, Answer::Done { references: 4, exits: 0 });
+}
+
+fn root(unit: &mut Record, memory: &mut [u64]) {
+    assert_eq!(counted::root(unit, memory, 0), Answer::Ok);
+}
+
+fn map(unit: &mut Record, memory: &mut [u64], guest: u64) {
+    let said = counted::map(unit, memory, guest, BASE + guest, true);
+    assert_eq!(said, Answer::Ok);
+}
+
+fn map_anew(unit: &mut Record, memory: &mut [u64]) {
+    map(unit, memory, PAGE);
+}
+
+/// Of the frame after the guest's last: the host tables stand for the others too, so that none is made or given back.
+fn map_unmap(unit: &mut Record, memory: &mut [u64]) {
+    map(unit, memory, PAGE + 1);
+    assert_eq!(counted::unmap(unit, memory, PAGE + 1), Answer::Ok);
+}
+
+fn mark_set_clear(unit: &mut Record, memory: &mut [u64]) {
+    assert_eq!(counted::set_mark(unit, memory, 0, 1), Answer::Ok);
+    assert_eq!(counted::clear_mark(unit, memory, 0, 1), Answer::Ok);
+}
+
+/// The root load drops all paths, so that the load fills its own, of four tables.
+fn root_load_fill(unit: &mut Record, memory: &mut [u64]) {
+    root(unit, memory);
+    let said = counted::load(unit, memory, 0);
+    assert_eq!(said, Answer::Value { word: WORD, references: 4, exits: 1 });
+}
+
+// The guest.
+
+const HOSTS: u64 = 16;
+const SHADOWS: u64 = 16;
+const FRAMES: u64 = 64;
+const BASE: u64 = HOSTS + SHADOWS;
+const PAGE: u64 = 4;
+
+/// Aligned, so that neither arguments nor environment move it and the calls' own places on the stack within a page: the
+/// instructions of a copy may depend on where it reads and writes.
+#[repr(align(4096))]
+struct Guest {
+    unit: Record,
+    memory: Vec<u64>,
+}
+
+/// A guest with one page at address 0: its frames 0 to 3 are the tables, 4 is the page. No mark is set and no path held.
+fn guest() -> Guest {
+    let mut memory = vec![0; (FRAMES * 512) as usize];
+    let mut unit = Record::open(&mut memory, HOSTS, SHADOWS).unwrap();
+    for guest in 0..=PAGE {
+        assert_eq!(unit.map(&mut memory, guest, BASE + guest, true), Answer::Ok);
+    }
+    for table in 0..PAGE {
+        memory[((BASE + table) * 512) as usize] = (table + 1) << 12 | 3;
+    }
+    memory[((BASE + PAGE) * 512) as usize] = WORD;
+    assert_eq!(unit.root(&mut memory, 0), Answer::Ok);
+    Guest { unit, memory }
+}
+
+/// The guest with a mark of level `depth` at its page (0: none) and so many marks elsewhere, and with the page's path
+/// held; at depth 5 there is none to hold.
+fn held(depth: u64, elsewhere: u64) -> Guest {
+    let Guest { mut unit, mut memory } = guest();
+    if depth > 0 {
+        assert_eq!(unit.set_mark(&mut memory, 0, depth), Answer::Ok);
+    }
+    for number in 0..elsewhere {
+        assert_eq!(unit.set_mark(&mut memory, (1 << 40) + (number << 21), 1), Answer::Ok);
+    }
+    assert!(matches!(unit.load(&mut memory, 0), Answer::Value { word: WORD, .. }));
+    Guest { unit, memory }
+}
+
+fn main() {
+    let arguments: Vec<String> = std::env::args().skip(1).collect();
+    let [name, calls] = &arguments[..] else {
+        CASES.iter().for_each(|(name, ..)| println!("{name}"));
+        return;
+    };
+    let calls: u64 = calls.parse().expect("a number of calls");
+    let (_, guest, step) = CASES.iter().find(|case| case.0 == name).expect("a case");
+    let mut guest = guest();
+    for _ in 0..calls {
+        step(&mut guest.unit, &mut guest.memory);
+    }
+}

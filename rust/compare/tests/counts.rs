@@ -1,0 +1,96 @@
+//! The instructions of the main calls, counted by callgrind, beside the bounds in counts.txt. A count above its bound fails.
+//!
+//! The program `count` makes each call in a function of its own, and callgrind collects from that function's entry to its
+//! return: the call and all that it calls, and nothing of the loop around it. So nothing is subtracted, and the counts are
+//! exact.
+
+use std::fmt::Write as _;
+use std::io::Write as _;
+use std::path::{Path, PathBuf};
+use std::process::Command;
+
+/// How many times a case is run. Each costs the same, so that the total is a multiple.
+const CALLS: u64 = 100;
+
+/// For the program and what callgrind writes.
+const FOLDER: &str = env!("CARGO_TARGET_TMPDIR");
+
+/// The program `count` as a release build has it, whatever this test is built as.
+fn release_build() -> PathBuf {
+    let manifest = Path::new(env!("CARGO_MANIFEST_DIR")).join("Cargo.toml");
+    let built = Command::new(env!("CARGO"))
+        .args(["build", "--quiet", "--offline", "--release", "--bin", "count", "--target-dir", FOLDER])
+        .arg("--manifest-path")
+        .arg(manifest)
+        .status();
+    assert!(built.unwrap().success(), "the program was not built");
+    Path::new(FOLDER).join("release/count")
+}
+
+/// What the command prints.
+fn output(command: &mut Command) -> String {
+    let output = command.output().unwrap_or_else(|error| panic!("{command:?}: {error}"));
+    assert!(output.status.success(), "{command:?}:\n{}", String::from_utf8_lossy(&output.stderr));
+    String::from_utf8(output.stdout).unwrap()
+}
+
+/// Of the C library's ways to copy and to clear, the one that every x86-64 processor has: which it takes else is the machine's.
+const PLAIN_COPIES: &str = "glibc.cpu.hwcaps=-AVX2,-AVX512F,-AVX512VL,-ERMS,-FSRM,-SSSE3";
+
+/// The instructions of a case, run once.
+fn count(program: &Path, case: &str) -> u64 {
+    let profile = format!("{FOLDER}/{case}.callgrind");
+    output(
+        Command::new("valgrind")
+            .env("GLIBC_TUNABLES", PLAIN_COPIES)
+            .args(["--tool=callgrind", "--toggle-collect=counted_*"])
+            .arg(format!("--callgrind-out-file={profile}"))
+            .arg(program)
+            .args([case, &CALLS.to_string()]),
+    );
+    let text = std::fs::read_to_string(&profile).unwrap();
+    std::fs::remove_file(&profile).unwrap();
+    let total = text.lines().find_map(|line| line.strip_prefix("totals: ")).expect("a line of totals");
+    let total: u64 = total.parse().expect(total);
+    assert!(total > 0, "{case}: callgrind saw no function counted_*");
+    assert_eq!(total % CALLS, 0, "{case}: {total} in all, so that not each of {CALLS} costs the same");
+    total / CALLS
+}
+
+/// The lines of counts.txt: a case and its bound.
+fn bounds() -> Vec<(String, u64)> {
+    let file = Path::new(env!("CARGO_MANIFEST_DIR")).join("counts.txt");
+    let text = std::fs::read_to_string(file).unwrap();
+    let bound = |line: &str| {
+        let (case, bound) = line.split_once(' ').expect(line);
+        (case.to_string(), bound.trim().parse().expect(line))
+    };
+    text.lines().filter(|line| !line.is_empty() && !line.starts_with('#')).map(bound).collect()
+}
+
+#[test]
+fn within_their_bounds() {
+    let program = release_build();
+    let bounds = bounds();
+    let cases = output(&mut Command::new(&program));
+    let bounded: Vec<&str> = bounds.iter().map(|(case, _)| case.as_str()).collect();
+    assert_eq!(cases.lines().collect::<Vec<_>>(), bounded, "the cases of count, and those of counts.txt");
+
+    let mut table = format!("\n{:<22} {:>7} {:>7}\n", "instructions", "count", "bound");
+    let mut above = String::new();
+    for (case, bound) in bounds {
+        let count = count(&program, &case);
+        let remark = if count > bound {
+            writeln!(above, "{case}: {count} instructions, bound {bound}").unwrap();
+            "  above its bound"
+        } else if count * 100 < bound * 97 {
+            "  more than 3 of 100 below its bound, which may be lowered"
+        } else {
+            ""
+        };
+        writeln!(table, "{case:<22} {count:>7} {bound:>7}{remark}").unwrap();
+    }
+    // Shown also where the test passes, as nothing printed by println is.
+    std::io::stderr().write_all(table.as_bytes()).unwrap();
+    assert!(above.is_empty(), "above their bounds in counts.txt:\n{above}");
+}
