@@ -18,8 +18,9 @@ fn main() {
             Answer::Value { word, references, exits } => {
                 println!("{address:#x}: {word:#x}, {references} references, {exits} exits")
             }
-            Answer::Fault { fault, .. } => println!("{address:#x}: {fault:?}, for the guest"),
-            other => println!("{address:#x}: {other:?}"),
+            Answer::Fault { fault, .. } => println!("{address:#x}: {fault}"),
+            Answer::Refused(refusal) => println!("{address:#x}: {refusal}"),
+            Answer::Ok | Answer::Done { .. } => unreachable!("no answer to a load"),
         }
     }
 }

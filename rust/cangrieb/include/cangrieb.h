@@ -15,6 +15,10 @@
 #include <stddef.h>
 #include <stdint.h>
 
+#ifdef __cplusplus
+extern "C" {
+#endif
+
 /* What the unit keeps of an area of tables. */
 struct cangrieb_pool {
     uint64_t fresh, free, used;
@@ -31,7 +35,8 @@ struct cangrieb_head {
     uint64_t set;            /* the places of marks that are set, one bit each */
 };
 
-/* The unit's record: plain data, which may be copied and kept. The two parts may also be kept apart. */
+/* The unit's record: plain data, which may be copied and kept. The two parts may also be kept apart. A place that set names
+   holds a mark, its level in bits 0 to 2 and above them the indexes that it keeps; those marks ascend. */
 struct cangrieb_record {
     struct cangrieb_head head;
     uint64_t place[64];
@@ -55,6 +60,13 @@ struct cangrieb_answer {
     uint64_t references; /* words of tables read */
     uint64_t exits;      /* calls of the guest's processor to the monitor */
 };
+
+/* The library has these as rows of 15, 64 and 7 words. */
+#if defined __STDC_VERSION__ && __STDC_VERSION__ >= 201112L
+_Static_assert(sizeof(struct cangrieb_head) == 15 * sizeof(uint64_t), "a head has 15 words");
+_Static_assert(sizeof(struct cangrieb_record) == 79 * sizeof(uint64_t), "a record has 15 words and 64 places");
+_Static_assert(sizeof(struct cangrieb_answer) == 7 * sizeof(uint64_t), "an answer has 7 words");
+#endif
 
 /* Refusals of each call in parentheses; of several that apply, the first named.
    1 the words are no multiple of 512, or the frames are 0 or more than 65,536; 2 fewer than 4 host or shadow frames, or no
@@ -96,5 +108,9 @@ struct cangrieb_answer cangrieb_set_mark(struct cangrieb_head *head, uint64_t pl
 /* (3, 4, 5, 6, 11) */
 struct cangrieb_answer cangrieb_clear_mark(struct cangrieb_head *head, uint64_t place[64], uint64_t *memory,
                                            size_t words, uint64_t address, uint64_t level);
+
+#ifdef __cplusplus
+}
+#endif
 
 #endif

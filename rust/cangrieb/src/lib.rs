@@ -20,14 +20,22 @@
 //! assert_eq!(unit.load(&mut memory, 0), Answer::Value { word: 3, references: 4, exits: 0 });
 //! ```
 
+#![no_std]
+#![deny(missing_docs)]
+
+use core::fmt;
+
 pub mod raw;
 
 /// What the unit keeps of an area of tables. The unit's own: a caller has no use for it.
 #[repr(C)]
 #[derive(Clone, Copy, Debug, Default, PartialEq, Eq)]
 pub struct Pool {
+    /// Frames handed out so far.
     pub fresh: u64,
+    /// The first frame given back, as an entry, or 0.
     pub free: u64,
+    /// Tables in use.
     pub used: u64,
     /// The entry of the area's top table, or 0.
     pub top: u64,
@@ -39,12 +47,15 @@ pub struct Pool {
 pub struct Head {
     /// Levels of tables, 4 as opened.
     pub levels: u64,
-    /// The opening's host frames and shadow frames.
+    /// Host frames, as opened.
     pub hosts: u64,
+    /// Shadow frames, as opened.
     pub shadows: u64,
     /// Frames of the memory.
     pub frames: u64,
+    /// The host tables.
     pub host: Pool,
+    /// The shadow tables.
     pub shadow: Pool,
     /// The guest frame of the guest's top table.
     pub root: u64,
@@ -59,8 +70,10 @@ pub struct Head {
 #[repr(C)]
 #[derive(Clone, Copy, Debug, PartialEq, Eq)]
 pub struct Record {
+    /// All but the places of the marks.
     pub head: Head,
-    /// What stands at each place of a mark.
+    /// The marks, in ascending order at the places that `head.set` names: each its level in bits
+    /// 0 to 2 and above them the indexes that it keeps.
     pub place: [u64; 64],
 }
 
@@ -68,26 +81,108 @@ pub struct Record {
 #[derive(Clone, Copy, Debug, PartialEq, Eq)]
 pub enum Fault {
     /// A: a guest entry is not present.
-    Absent { level: u64 },
+    Absent {
+        /// The level of the entry.
+        level: u64,
+    },
     /// M: a present guest entry is malformed.
-    Malformed { level: u64 },
+    Malformed {
+        /// The level of the entry.
+        level: u64,
+    },
     /// P: a store through a guest entry that is not writable.
-    Protected { level: u64 },
+    Protected {
+        /// The level that the fault names.
+        level: u64,
+    },
     /// H: a guest frame is not mapped.
-    HostAbsent { frame: u64 },
+    HostAbsent {
+        /// The guest frame.
+        frame: u64,
+    },
     /// W: a store to a guest frame that is mapped read-only.
-    HostReadOnly { frame: u64 },
+    HostReadOnly {
+        /// The guest frame.
+        frame: u64,
+    },
 }
 
 /// What a call answers. References are the words of tables read; exits are calls of the guest's processor to the monitor.
 #[derive(Clone, Copy, Debug, PartialEq, Eq)]
 pub enum Answer {
+    /// Done, where a call has nothing to count.
     Ok,
-    Value { word: u64, references: u64, exits: u64 },
-    Done { references: u64, exits: u64 },
-    Fault { fault: Fault, references: u64, exits: u64 },
-    Refused(u64),
+    /// A load's word.
+    Value {
+        /// The word loaded.
+        word: u64,
+        /// Words of tables read.
+        references: u64,
+        /// Calls of the guest's processor to the monitor.
+        exits: u64,
+    },
+    /// A store is done.
+    Done {
+        /// Words of tables read.
+        references: u64,
+        /// Calls of the guest's processor to the monitor.
+        exits: u64,
+    },
+    /// The walk ended before its word; no guest word is changed.
+    Fault {
+        /// Why.
+        fault: Fault,
+        /// Words of tables read.
+        references: u64,
+        /// Calls of the guest's processor to the monitor.
+        exits: u64,
+    },
+    /// The call was refused; the record is as it was, and so is the memory, but that 11 may have altered host and shadow frames.
+    Refused(Refusal),
 }
+
+/// Why a call was refused: its number, from 1 to 12.
+#[derive(Clone, Copy, Debug, PartialEq, Eq)]
+pub struct Refusal(pub u64);
+
+impl fmt::Display for Refusal {
+    fn fmt(&self, out: &mut fmt::Formatter) -> fmt::Result {
+        let why = match self.0 {
+            1 => "the words are no multiple of 512, or the frames are 0 or more than 65,536",
+            2 => "fewer than 4 host or shadow frames, or no guest frame is left",
+            3 => "the memory has another length, or the record breaks a rule",
+            4 => "the address does not fit",
+            5 => "the mark's level is not 1 to 5",
+            6 => "the mark is set already, or is not set",
+            7 => "64 marks are set",
+            8 => "the guest frame does not fit",
+            9 => "the host frame is not in the guest area",
+            10 => "no host table is free",
+            11 => "a host or shadow table is damaged",
+            12 => "the guest frame is not mapped",
+            _ => "no number of the unit's",
+        };
+        write!(out, "refused with {}: {why}", self.0)
+    }
+}
+
+impl core::error::Error for Refusal {}
+
+impl fmt::Display for Fault {
+    fn fmt(&self, out: &mut fmt::Formatter) -> fmt::Result {
+        match self {
+            Fault::Absent { level } => write!(out, "A: the guest entry of level {level} is not present"),
+            Fault::Malformed { level } => write!(out, "M: the guest entry of level {level} is malformed"),
+            Fault::Protected { level } => write!(out, "P: a store without the right to write, level {level}"),
+            Fault::HostAbsent { frame } => write!(out, "H: guest frame {frame} is not mapped"),
+            Fault::HostReadOnly { frame } => {
+                write!(out, "W: a store to guest frame {frame}, mapped read-only")
+            }
+        }
+    }
+}
+
+impl core::error::Error for Fault {}
 
 impl Answer {
     fn from_raw(raw: raw::Answer) -> Answer {
@@ -97,7 +192,7 @@ impl Answer {
             1 => Answer::Value { word: raw.number, references, exits },
             2 => Answer::Done { references, exits },
             3 => Answer::Fault { fault: Fault::from_raw(raw), references, exits },
-            _ => Answer::Refused(raw.number),
+            _ => Answer::Refused(Refusal(raw.number)),
         }
     }
 }
@@ -129,10 +224,10 @@ impl Record {
     /// Opens a memory with so many host frames and shadow frames; those are cleared, the guest area is kept. Refused with
     /// 1 if the words are no multiple of 512 or the frames are 0 or more than 65,536; with 2 if either number is below 4
     /// or no guest frame is left.
-    pub fn open(memory: &mut [u64], hosts: u64, shadows: u64) -> Result<Record, u64> {
+    pub fn open(memory: &mut [u64], hosts: u64, shadows: u64) -> Result<Record, Refusal> {
         let mut record = Record::zeros();
         match call!(cangrieb_open(&mut record.head, &mut record.place, memory, hosts, shadows)) {
-            Answer::Refused(number) => Err(number),
+            Answer::Refused(refusal) => Err(refusal),
             _ => Ok(record),
         }
     }

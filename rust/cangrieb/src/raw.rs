@@ -3,7 +3,9 @@
 //! back by value.
 
 use crate::Head;
+use core::mem::size_of;
 
+/// An answer in numbers. What a kind does not have is 0.
 #[repr(C)]
 #[derive(Clone, Copy, Debug, PartialEq, Eq)]
 pub struct Answer {
@@ -13,13 +15,21 @@ pub struct Answer {
     pub number: u64,
     /// The letter of a fault, in ASCII.
     pub letter: u64,
+    /// The guest level of A, M and P.
     pub level: u64,
+    /// The guest frame of H and W.
     pub frame: u64,
+    /// Words of tables read.
     pub references: u64,
+    /// Calls of the guest's processor to the monitor.
     pub exits: u64,
 }
 
+/// The library has these as rows of 15 and 7 words.
+const _: () = assert!(size_of::<Head>() == 15 * 8 && size_of::<Answer>() == 7 * 8);
+
 extern "C" {
+    /// Lays the memory out and writes the record: 1, 2. A refusal sets the record to 0.
     pub fn cangrieb_open(
         head: &mut Head,
         place: &mut [u64; 64],
@@ -28,6 +38,7 @@ extern "C" {
         hosts: u64,
         shadows: u64,
     ) -> Answer;
+    /// Loads a word: 3, 4, 11.
     pub fn cangrieb_load(
         head: &mut Head,
         place: &[u64; 64],
@@ -35,6 +46,7 @@ extern "C" {
         words: usize,
         address: u64,
     ) -> Answer;
+    /// Stores a word: 3, 4, 11.
     pub fn cangrieb_store(
         head: &mut Head,
         place: &[u64; 64],
@@ -43,6 +55,7 @@ extern "C" {
         address: u64,
         value: u64,
     ) -> Answer;
+    /// A device stores a word at a guest-physical address: 3, 4, 11.
     pub fn cangrieb_device_store(
         head: &mut Head,
         place: &[u64; 64],
@@ -51,6 +64,7 @@ extern "C" {
         address: u64,
         value: u64,
     ) -> Answer;
+    /// Another root: 3, 8.
     pub fn cangrieb_root(
         head: &mut Head,
         place: &[u64; 64],
@@ -58,6 +72,7 @@ extern "C" {
         words: usize,
         guest: u64,
     ) -> Answer;
+    /// Maps a guest frame, or maps it anew: 3, 8, 9, 10, 11.
     pub fn cangrieb_map(
         head: &mut Head,
         place: &[u64; 64],
@@ -67,6 +82,7 @@ extern "C" {
         frame: u64,
         writable: bool,
     ) -> Answer;
+    /// Unmaps a guest frame: 3, 8, 12, 11.
     pub fn cangrieb_unmap(
         head: &mut Head,
         place: &[u64; 64],
@@ -74,6 +90,7 @@ extern "C" {
         words: usize,
         guest: u64,
     ) -> Answer;
+    /// Sets a mark: 3, 4, 5, 6, 7, 11.
     pub fn cangrieb_set_mark(
         head: &mut Head,
         place: &mut [u64; 64],
@@ -82,6 +99,7 @@ extern "C" {
         address: u64,
         level: u64,
     ) -> Answer;
+    /// Clears a mark: 3, 4, 5, 6, 11.
     pub fn cangrieb_clear_mark(
         head: &mut Head,
         place: &mut [u64; 64],

@@ -1,6 +1,6 @@
 //! Document 01's sixteen-frame guest through the archive, and the edges of the interface.
 
-use cangrieb::{raw, Answer, Fault, Head, Record};
+use cangrieb::{raw, Answer, Fault, Head, Record, Refusal};
 
 /// "H = S = 4; guest frames 0 to 7 at 8 to 15, writable; root 0" and the guest's words.
 fn guest() -> (Record, Vec<u64>) {
@@ -23,6 +23,10 @@ fn value(word: u64, references: u64, exits: u64) -> Answer {
     Answer::Value { word, references, exits }
 }
 
+fn refused(number: u64) -> Answer {
+    Answer::Refused(Refusal(number))
+}
+
 fn fault(fault: Fault, references: u64, exits: u64) -> Answer {
     Answer::Fault { fault, references, exits }
 }
@@ -36,7 +40,7 @@ fn loads() {
     assert_eq!(unit.load(&mut memory, 0x2000), fault(Fault::HostAbsent { frame: 8 }, 24, 1));
     assert_eq!(unit.load(&mut memory, 0x3000), fault(Fault::Absent { level: 1 }, 20, 1));
     assert_eq!(unit.load(&mut memory, 0xFFFF_FFFF_FFF8), fault(Fault::Absent { level: 4 }, 5, 1));
-    assert_eq!(unit.load(&mut memory, 1 << 48), Answer::Refused(4));
+    assert_eq!(unit.load(&mut memory, 1 << 48), refused(4));
     assert_eq!(unit.store(&mut memory, 0x1000, 1), fault(Fault::Protected { level: 1 }, 20, 1));
 }
 
@@ -61,7 +65,7 @@ fn marks() {
     assert_eq!(unit.set_mark(&mut memory, 0, 5), Answer::Ok);
     assert_eq!(unit.load(&mut memory, 0), value(0, 24, 0));
     assert_eq!(unit.clear_mark(&mut memory, 0, 5), Answer::Ok);
-    assert_eq!(unit.clear_mark(&mut memory, 0, 5), Answer::Refused(6));
+    assert_eq!(unit.clear_mark(&mut memory, 0, 5), refused(6));
 }
 
 #[test]
@@ -73,9 +77,9 @@ fn mappings() {
     assert_eq!(unit.load(&mut memory, 0), value(13, 4, 1));
     assert_eq!(unit.store(&mut memory, 0, 1), fault(Fault::HostReadOnly { frame: 4 }, 24, 1));
     assert_eq!(unit.unmap(&mut memory, 4), Answer::Ok);
-    assert_eq!(unit.unmap(&mut memory, 4), Answer::Refused(12));
-    assert_eq!(unit.map(&mut memory, 1 << 36, 0, true), Answer::Refused(8));
-    assert_eq!(unit.map(&mut memory, 4, 7, true), Answer::Refused(9));
+    assert_eq!(unit.unmap(&mut memory, 4), refused(12));
+    assert_eq!(unit.map(&mut memory, 1 << 36, 0, true), refused(8));
+    assert_eq!(unit.map(&mut memory, 4, 7, true), refused(9));
 }
 
 /// Every call but the opening through the archive's own functions, each on a copy of the record, with an address and a
@@ -144,21 +148,21 @@ fn refused_calls() {
     assert_eq!(calls.map(|(_, said)| said), [4, 4, 4, 8, 8, 8, 4, 4].map(|number| (4, number)));
     assert!(calls.iter().all(|(after, _)| *after == unit));
     let mut after = unit;
-    assert_eq!(after.set_mark(&mut memory, 0, 6), Answer::Refused(5));
-    assert_eq!(after.set_mark(&mut memory, 0x20_0000, 1), Answer::Refused(6));
-    assert_eq!(after.clear_mark(&mut memory, 0, 1), Answer::Refused(6));
+    assert_eq!(after.set_mark(&mut memory, 0, 6), refused(5));
+    assert_eq!(after.set_mark(&mut memory, 0x20_0000, 1), refused(6));
+    assert_eq!(after.clear_mark(&mut memory, 0, 1), refused(6));
     assert_eq!(after, unit);
     assert_eq!(memory, before);
 }
 
 #[test]
 fn refused_openings() {
-    assert_eq!(Record::open(&mut [], 4, 4), Err(1));
-    assert_eq!(Record::open(&mut [0; 511], 4, 4), Err(1));
-    assert_eq!(Record::open(&mut vec![0; 8 * 512], 4, 4), Err(2));
-    assert_eq!(Record::open(&mut vec![0; 16 * 512], 3, 4), Err(2));
-    assert_eq!(Record::open(&mut vec![0; 16 * 512], u64::MAX, 5), Err(2));
-    assert_eq!(Record::open(&mut vec![0; 65_537 * 512], 4, 4), Err(1));
+    assert_eq!(Record::open(&mut [], 4, 4), Err(Refusal(1)));
+    assert_eq!(Record::open(&mut [0; 511], 4, 4), Err(Refusal(1)));
+    assert_eq!(Record::open(&mut vec![0; 8 * 512], 4, 4), Err(Refusal(2)));
+    assert_eq!(Record::open(&mut vec![0; 16 * 512], 3, 4), Err(Refusal(2)));
+    assert_eq!(Record::open(&mut vec![0; 16 * 512], u64::MAX, 5), Err(Refusal(2)));
+    assert_eq!(Record::open(&mut vec![0; 65_537 * 512], 4, 4), Err(Refusal(1)));
     assert!(Record::open(&mut vec![0; 65_536 * 512], 4, 4).is_ok());
 }
 
@@ -185,6 +189,16 @@ fn broken_records() {
     }
     assert_eq!(memory, before);
     let mut after = unit;
-    assert_eq!(after.load(&mut memory[512..], 0), Answer::Refused(3));
+    assert_eq!(after.load(&mut memory[512..], 0), refused(3));
     assert_eq!(after, unit);
+}
+
+/// What a monitor prints.
+#[test]
+fn texts() {
+    assert_eq!(Refusal(12).to_string(), "refused with 12: the guest frame is not mapped");
+    assert_eq!(Fault::HostAbsent { frame: 8 }.to_string(), "H: guest frame 8 is not mapped");
+    let texts: Vec<String> = (1..=12).map(|number| Refusal(number).to_string()).collect();
+    assert!(texts.iter().all(|text| !text.contains("no number")));
+    assert!(Refusal(13).to_string().contains("no number"));
 }

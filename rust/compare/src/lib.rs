@@ -31,7 +31,7 @@ fn in_walkers_terms(said: cangrieb::Answer) -> Answer {
         cangrieb::Answer::Fault { fault, references, exits } => {
             Answer::Fault { fault: fault_in_walkers_terms(fault), references, exits }
         }
-        cangrieb::Answer::Refused(number) => Answer::No(number as u32),
+        cangrieb::Answer::Refused(refusal) => Answer::No(refusal.0 as u32),
     }
 }
 

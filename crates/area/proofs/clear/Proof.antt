@@ -3,21 +3,6 @@ use Rattle.area.specs.Remove.{clearOf}
 use Rattle.area.proofs.clear.Statement.{statement}
 use Rattle.area.proofs.clear.Tie as tie
 
-entry-at-requires : tie.Need-entry-at-requires
-entry-at-requires c κs = search needs
-
-present-requires : tie.Need-present-requires
-present-requires c κs = search needs
-
-put-entry-requires : tie.Need-put-entry-requires
-put-entry-requires c κs = search needs
-
-release-requires : tie.Need-release-requires
-release-requires c κs = search needs
-
-same-length : tie.Need-same-length
-same-length c = search needs
-
 returns : tie.Need-returns
 unfolding clearOf
 returns c =
@@ -28,9 +13,6 @@ returns c =
     let release = c .before .before .release in
     rw (← entry-at .ensures, ← present .ensures, if1 .taken, ← put-entry .ensures) (release .ensures)
 
-same-length-2 : tie.Need-same-length-2
-same-length-2 c = search needs
-
 returns-2 : tie.Need-returns-2
 unfolding clearOf
 returns-2 c = rw (← c .before .before .entry-at .ensures, ← c .before .present .ensures, c .if1 .left)
@@ -39,11 +21,11 @@ pub clear-spec : {M : Type 1} → statement M
 clear-spec =
     tie.close
     (tie.spec
-    entry-at-requires
-    present-requires
-    put-entry-requires
-    release-requires
-    same-length
+    (λ c κs. search needs)
+    (λ c κs. search needs)
+    (λ c κs. search needs)
+    (λ c κs. search needs)
+    (λ c. search needs)
     returns
-    same-length-2
+    (λ c. search needs)
     returns-2)

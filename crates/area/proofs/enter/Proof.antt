@@ -3,20 +3,8 @@ use borrow.Author.Needs.{needs}
 use Rattle.area.proofs.enter.Statement.{statement}
 use Rattle.area.proofs.enter.Tie as tie
 
-hop-requires : tie.Need-hop-requires
-hop-requires c κs = search needs
-
-enum-known-f : tie.Need-enum-known-f
-enum-known-f c = search needs
-
 enum-told : tie.Need-enum-told
 enum-told c = search needs
-
-new-top-requires : tie.Need-new-top-requires
-new-top-requires c κs = search needs
-
-enum-told-2 : tie.Need-enum-told-2
-enum-told-2 c = search needs
 
 returns : tie.Need-returns
 unfolding enterOf
@@ -24,9 +12,6 @@ returns c =
     let hop = c .before .before .before .hop in
     let f = c .before .f in
     rw (← hop .ensures, f .given .1)
-
-same-length : tie.Need-same-length
-same-length c = search needs
 
 returns-2 : tie.Need-returns-2
 unfolding enterOf
@@ -47,12 +32,12 @@ pub enter-spec : {M : Type 1} → statement M
 enter-spec =
     tie.close
     (tie.spec
-    hop-requires
-    enum-known-f
+    (λ c κs. search needs)
+    (λ c. search needs)
     enum-told
-    new-top-requires
-    enum-told-2
+    (λ c κs. search needs)
+    (λ c. search needs)
     returns
-    same-length
+    (λ c. search needs)
     returns-2
     returns-3)

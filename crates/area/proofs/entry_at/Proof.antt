@@ -3,12 +3,9 @@ use borrow.Author.Needs.{needs}
 use Rattle.area.proofs.entry_at.Statement.{statement}
 use Rattle.area.proofs.entry_at.Tie as tie
 
-word-in-requires : tie.Need-word-in-requires
-word-in-requires c κs = search needs
-
 returns : tie.Need-returns
 unfolding entryIn
 returns c = rw (← c .word-in .ensures)
 
 pub entry-at-spec : {M : Type 1} → statement M
-entry-at-spec = tie.close (tie.spec word-in-requires returns)
+entry-at-spec = tie.close (tie.spec (λ c κs. search needs) returns)

@@ -3,12 +3,9 @@ use borrow.Author.Needs.{needs}
 use Rattle.area.proofs.high.Statement.{statement}
 use Rattle.area.proofs.high.Tie as tie
 
-word-in-requires : tie.Need-word-in-requires
-word-in-requires c κs = search needs
-
 returns : tie.Need-returns
 unfolding highOf
 returns c = rw (← c .word-in .ensures)
 
 pub high-spec : {M : Type 1} → statement M
-high-spec = tie.close (tie.spec word-in-requires returns)
+high-spec = tie.close (tie.spec (λ c κs. search needs) returns)

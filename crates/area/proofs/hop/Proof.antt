@@ -3,15 +3,6 @@ use borrow.Author.Needs.{needs}
 use Rattle.area.proofs.hop.Statement.{statement}
 use Rattle.area.proofs.hop.Tie as tie
 
-present-requires : tie.Need-present-requires
-present-requires c κs = search needs
-
-frame-of-requires : tie.Need-frame-of-requires
-frame-of-requires c κs = search needs
-
-inside-requires : tie.Need-inside-requires
-inside-requires c κs = search needs
-
 returns : tie.Need-returns
 unfolding hopOf
 returns c =
@@ -37,6 +28,4 @@ unfolding hopOf
 returns-3 c = rw (← c .before .present .ensures, c .if1 .left)
 
 pub hop-spec : {M : Type 1} → statement M
-hop-spec =
-    tie.close
-    (tie.spec present-requires frame-of-requires inside-requires returns returns-2 returns-3)
+hop-spec = tie.close (tie.spec (λ c κs. search needs) (λ c κs. search needs) (λ c κs. search needs) returns returns-2 returns-3)

@@ -16,23 +16,8 @@ seen c =
     let a = c .before .before .before .before .args in
     c .room .ensures ∙ ap (roomOf (a .a) (a .p) (a .mem .now)) (indexes-step (a .k) (a .g) (omega arith))
 
-room-requires : tie.Need-room-requires
-room-requires c κs = search needs
-
-enum-known-n : tie.Need-enum-known-n
-enum-known-n c = search needs
-
-place-requires : tie.Need-place-requires
-place-requires c κs = search needs
-
 enum-told : tie.Need-enum-told
 enum-told c = search needs
-
-enum-told-2 : tie.Need-enum-told-2
-enum-told-2 c = search needs
-
-same-length : tie.Need-same-length
-same-length c = search needs
 
 returns : tie.Need-returns
 unfolding insertOf
@@ -43,18 +28,12 @@ returns c =
     let place = c .before .before .place in
     rw (indexes-step (args .k) (args .g) (omega (arith, pre .1)), ← seen (c .before .before .before .before .before .before .before), n .given .1) (place .ensures)
 
-same-length-2 : tie.Need-same-length-2
-same-length-2 c = search needs
-
 returns-2 : tie.Need-returns-2
 unfolding insertOf
 returns-2 c =
     let args = c .before .before .before .before .before .before .args in
     let enum-told = c .enum-told in
     rw (indexes-step (args .k) (args .g) (omega arith), ← seen (c .before .before), enum-told .given .1)
-
-same-length-3 : tie.Need-same-length-3
-same-length-3 c = search needs
 
 returns-3 : tie.Need-returns-3
 unfolding insertOf
@@ -67,14 +46,14 @@ pub insert-spec : {M : Type 1} → statement M
 insert-spec =
     tie.close
     (tie.spec
-    room-requires
-    enum-known-n
-    place-requires
+    (λ c κs. search needs)
+    (λ c. search needs)
+    (λ c κs. search needs)
     enum-told
-    enum-told-2
-    same-length
+    (λ c. search needs)
+    (λ c. search needs)
     returns
-    same-length-2
+    (λ c. search needs)
     returns-2
-    same-length-3
+    (λ c. search needs)
     returns-3)

@@ -3,12 +3,9 @@ use borrow.Author.Needs.{needs}
 use Rattle.area.proofs.level.Statement.{statement}
 use Rattle.area.proofs.level.Tie as tie
 
-high-requires : tie.Need-high-requires
-high-requires c κs = search needs
-
 returns : tie.Need-returns
 unfolding levelOf
 returns c = rw (← c .high .ensures)
 
 pub level-spec : {M : Type 1} → statement M
-level-spec = tie.close (tie.spec high-requires returns)
+level-spec = tie.close (tie.spec (λ c κs. search needs) returns)

@@ -5,12 +5,6 @@ use borrow.Author.Needs.{needs}
 use Rattle.area.proofs.new_table.Statement.{statement}
 use Rattle.area.proofs.new_table.Tie as tie
 
-take-frame-requires : tie.Need-take-frame-requires
-take-frame-requires c κs = search needs
-
-enum-known-way : tie.Need-enum-known-way
-enum-known-way c = search needs
-
 write-header-requires : tie.Need-write-header-requires
 write-header-requires c κs =
     let args = c .before .before .before .before .before .before .before .before .before .args in
@@ -22,12 +16,6 @@ write-header-requires c κs =
 enum-told : tie.Need-enum-told
 enum-told c = search needs
 
-enum-told-2 : tie.Need-enum-told-2
-enum-told-2 c = search needs
-
-same-length : tie.Need-same-length
-same-length c = search needs
-
 returns : tie.Need-returns
 unfolding tableOf
 returns c =
@@ -36,15 +24,9 @@ returns c =
     let write-header = c .before .before .write-header in
     rw (← take-frame .ensures, way .given .1, write-header .ensures)
 
-same-length-2 : tie.Need-same-length-2
-same-length-2 c = search needs
-
 returns-2 : tie.Need-returns-2
 unfolding tableOf
 returns-2 c = rw (← c .before .before .before .before .take-frame .ensures, c .enum-told .given .1)
-
-same-length-3 : tie.Need-same-length-3
-same-length-3 c = search needs
 
 returns-3 : tie.Need-returns-3
 unfolding tableOf
@@ -54,14 +36,14 @@ pub new-table-spec : {M : Type 1} → statement M
 new-table-spec =
     tie.close
     (tie.spec
-    take-frame-requires
-    enum-known-way
+    (λ c κs. search needs)
+    (λ c. search needs)
     write-header-requires
     enum-told
-    enum-told-2
-    same-length
+    (λ c. search needs)
+    (λ c. search needs)
     returns
-    same-length-2
+    (λ c. search needs)
     returns-2
-    same-length-3
+    (λ c. search needs)
     returns-3)

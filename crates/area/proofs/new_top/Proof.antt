@@ -6,12 +6,6 @@ use borrow.Author.Needs.{needs}
 use Rattle.area.proofs.new_top.Statement.{statement}
 use Rattle.area.proofs.new_top.Tie as tie
 
-new-table-requires : tie.Need-new-table-requires
-new-table-requires c κs = search needs
-
-enum-known-way : tie.Need-enum-known-way
-enum-known-way c = search needs
-
 mul-with-top : tie.Need-mul-with-top
 mul-with-top c =
     let args = c .before .before .before .before .before .before .before .before .before .args in
@@ -26,17 +20,8 @@ add-with-top c =
     let way = c .before .way in
     let good = rw (← new-table .ensures, way .given .1) at (table-good (args .a) (args .p) (args .mem .now) (args .guest) (args .a .levels) 0 0) in omega (arith, good .1)
 
-with-top-requires : tie.Need-with-top-requires
-with-top-requires c κs = search needs
-
 enum-told : tie.Need-enum-told
 enum-told c = search needs
-
-enum-told-2 : tie.Need-enum-told-2
-enum-told-2 c = search needs
-
-same-length : tie.Need-same-length
-same-length c = search needs
 
 returns : tie.Need-returns
 unfolding topOf link
@@ -46,18 +31,12 @@ returns c =
     let with-top = c .with-top in
     rw (← new-table .ensures, way .given .1, with-top .ensures)
 
-same-length-2 : tie.Need-same-length-2
-same-length-2 c = search needs
-
 returns-2 : tie.Need-returns-2
 unfolding topOf
 returns-2 c =
     let new-table = c .before .before .before .before .before .new-table in
     let enum-told = c .enum-told in
     rw (← new-table .ensures, enum-told .given .1)
-
-same-length-3 : tie.Need-same-length-3
-same-length-3 c = search needs
 
 returns-3 : tie.Need-returns-3
 unfolding topOf
@@ -70,16 +49,16 @@ pub new-top-spec : {M : Type 1} → statement M
 new-top-spec =
     tie.close
     (tie.spec
-    new-table-requires
-    enum-known-way
+    (λ c κs. search needs)
+    (λ c. search needs)
     mul-with-top
     add-with-top
-    with-top-requires
+    (λ c κs. search needs)
     enum-told
-    enum-told-2
-    same-length
+    (λ c. search needs)
+    (λ c. search needs)
     returns
-    same-length-2
+    (λ c. search needs)
     returns-2
-    same-length-3
+    (λ c. search needs)
     returns-3)

@@ -3,12 +3,9 @@ use borrow.Author.Needs.{needs}
 use Rattle.area.proofs.parent.Statement.{statement}
 use Rattle.area.proofs.parent.Tie as tie
 
-frame-at-requires : tie.Need-frame-at-requires
-frame-at-requires c κs = search needs
-
 returns : tie.Need-returns
 unfolding parentOf
 returns c = c .frame-at .ensures
 
 pub parent-spec : {M : Type 1} → statement M
-parent-spec = tie.close (tie.spec frame-at-requires returns)
+parent-spec = tie.close (tie.spec (λ c κs. search needs) returns)

@@ -5,15 +5,6 @@ use borrow.Author.Needs.{needs}
 use Rattle.area.proofs.place.Statement.{statement}
 use Rattle.area.proofs.place.Tie as tie
 
-word-at-requires : tie.Need-word-at-requires
-word-at-requires c κs = search needs
-
-enter-requires : tie.Need-enter-requires
-enter-requires c κs = search needs
-
-enum-known-way : tie.Need-enum-known-way
-enum-known-way c = search needs
-
 down-requires : tie.Need-down-requires
 down-requires c κs =
     let args = c .before .before .before .before .before .before .before .before .before .before .before .before .args in
@@ -26,12 +17,6 @@ down-requires c κs =
 enum-told : tie.Need-enum-told
 enum-told c = search needs
 
-enum-told-2 : tie.Need-enum-told-2
-enum-told-2 c = search needs
-
-same-length : tie.Need-same-length
-same-length c = search needs
-
 returns : tie.Need-returns
 unfolding placeOf
 returns c =
@@ -41,9 +26,6 @@ returns c =
     let down = c .before .before .down in
     rw (← word-at .ensures, ← enter .ensures, way .given .1) (down .ensures)
 
-same-length-2 : tie.Need-same-length-2
-same-length-2 c = search needs
-
 returns-2 : tie.Need-returns-2
 unfolding placeOf
 returns-2 c =
@@ -51,9 +33,6 @@ returns-2 c =
     let enter = c .before .before .before .before .before .enter in
     let enum-told = c .enum-told in
     rw (← word-at .ensures, ← enter .ensures, enum-told .given .1)
-
-same-length-3 : tie.Need-same-length-3
-same-length-3 c = search needs
 
 returns-3 : tie.Need-returns-3
 unfolding placeOf
@@ -67,15 +46,15 @@ pub place-spec : {M : Type 1} → statement M
 place-spec =
     tie.close
     (tie.spec
-    word-at-requires
-    enter-requires
-    enum-known-way
+    (λ c κs. search needs)
+    (λ c κs. search needs)
+    (λ c. search needs)
     down-requires
     enum-told
-    enum-told-2
-    same-length
+    (λ c. search needs)
+    (λ c. search needs)
     returns
-    same-length-2
+    (λ c. search needs)
     returns-2
-    same-length-3
+    (λ c. search needs)
     returns-3)

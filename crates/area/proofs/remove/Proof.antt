@@ -9,18 +9,6 @@ use borrow.Author.Needs.{needs}
 use Rattle.area.proofs.remove.Statement.{statement}
 use Rattle.area.proofs.remove.Tie as tie
 
-last-table-requires : tie.Need-last-table-requires
-last-table-requires c κs = search needs
-
-enum-known-f : tie.Need-enum-known-f
-enum-known-f c = search needs
-
-sub-clear : tie.Need-sub-clear
-sub-clear c = search needs
-
-index-at-requires : tie.Need-index-at-requires
-index-at-requires c κs = search needs
-
 clear-requires : tie.Need-clear-requires
 clear-requires c κs =
     let args = c .before .before .before .before .before .before .before .before .args in
@@ -34,12 +22,6 @@ clear-requires c κs =
 enum-told : tie.Need-enum-told
 enum-told c = search needs
 
-enum-told-2 : tie.Need-enum-told-2
-enum-told-2 c = search needs
-
-same-length : tie.Need-same-length
-same-length c = search needs
-
 returns : tie.Need-returns
 unfolding removeOf
 returns c =
@@ -51,9 +33,6 @@ returns c =
     let clear = c .before .before .clear in
     rw (indexes-step (args .k) (args .g) (omega (arith, pre .1)), ← last-table .ensures, f .given .1, indexes-length, indexes-last, ← index-at .ensures) (clear .ensures)
 
-same-length-2 : tie.Need-same-length-2
-same-length-2 c = search needs
-
 returns-2 : tie.Need-returns-2
 unfolding removeOf
 returns-2 c =
@@ -61,9 +40,6 @@ returns-2 c =
     let last-table = c .before .before .last-table in
     let enum-told = c .enum-told in
     rw (indexes-step (args .k) (args .g) (omega arith), ← last-table .ensures, enum-told .given .1)
-
-same-length-3 : tie.Need-same-length-3
-same-length-3 c = search needs
 
 returns-3 : tie.Need-returns-3
 unfolding removeOf
@@ -77,16 +53,16 @@ pub remove-spec : {M : Type 1} → statement M
 remove-spec =
     tie.close
     (tie.spec
-    last-table-requires
-    enum-known-f
-    sub-clear
-    index-at-requires
+    (λ c κs. search needs)
+    (λ c. search needs)
+    (λ c. search needs)
+    (λ c κs. search needs)
     clear-requires
     enum-told
-    enum-told-2
-    same-length
+    (λ c. search needs)
+    (λ c. search needs)
     returns
-    same-length-2
+    (λ c. search needs)
     returns-2
-    same-length-3
+    (λ c. search needs)
     returns-3)

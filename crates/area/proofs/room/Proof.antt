@@ -13,17 +13,8 @@ counted c =
     let lookup = c .lookup in
     let l = indexes-length (args .k) (args .g) in rw (← lookup .ensures) at (look-good (args .a .base) (args .a .size) (args .mem .now) (args .p .top) (indexes (args .k) (args .g)) 0 (args .k) (omega arith))
 
-lookup-requires : tie.Need-lookup-requires
-lookup-requires c κs = search needs
-
-enum-known-e : tie.Need-enum-known-e
-enum-known-e c = search needs
-
 sub-fits : tie.Need-sub-fits
 sub-fits c = let n = rw (c .before .e .given .1) at (counted (c .before .before .before)) in omega arith
-
-fits-requires : tie.Need-fits-requires
-fits-requires c κs = search needs
 
 sub-t13 : tie.Need-sub-t13
 sub-t13 c = let n = rw (c .before .before .before .e .given .1) at (counted (c .before .before .before .before .before)) in omega arith
@@ -60,10 +51,10 @@ pub room-spec : {M : Type 1} → statement M
 room-spec =
     tie.close
     (tie.spec
-    lookup-requires
-    enum-known-e
+    (λ c κs. search needs)
+    (λ c. search needs)
     sub-fits
-    fits-requires
+    (λ c κs. search needs)
     sub-t13
     enum-told
     returns

@@ -7,21 +7,6 @@ returns : tie.Need-returns
 unfolding shutOf
 returns c = rw (c .if1 .taken)
 
-bare-requires : tie.Need-bare-requires
-bare-requires c κs = search needs
-
-back-requires : tie.Need-back-requires
-back-requires c κs = search needs
-
-with-top-requires : tie.Need-with-top-requires
-with-top-requires c κs = search needs
-
-given-requires : tie.Need-given-requires
-given-requires c κs = search needs
-
-same-length : tie.Need-same-length
-same-length c = search needs
-
 returns-2 : tie.Need-returns-2
 unfolding shutOf
 returns-2 c =
@@ -32,9 +17,6 @@ returns-2 c =
     let with-top = c .before .with-top in
     let given = c .given in
     rw (if1 .left, ← bare .ensures, if2 .taken, ← with-top .ensures, ← given .ensures, back .ensures)
-
-same-length-2 : tie.Need-same-length-2
-same-length-2 c = search needs
 
 returns-3 : tie.Need-returns-3
 unfolding shutOf
@@ -49,11 +31,11 @@ shut-spec =
     tie.close
     (tie.spec
     returns
-    bare-requires
-    back-requires
-    with-top-requires
-    given-requires
-    same-length
+    (λ c κs. search needs)
+    (λ c κs. search needs)
+    (λ c κs. search needs)
+    (λ c κs. search needs)
+    (λ c. search needs)
     returns-2
-    same-length-2
+    (λ c. search needs)
     returns-3)

@@ -6,12 +6,6 @@ use borrow.Author.Needs.{needs}
 use Rattle.area.proofs.take_frame.Statement.{statement}
 use Rattle.area.proofs.take_frame.Tie as tie
 
-hop-requires : tie.Need-hop-requires
-hop-requires c κs = search needs
-
-enum-known-f : tie.Need-enum-known-f
-enum-known-f c = search needs
-
 take-freed-requires : tie.Need-take-freed-requires
 take-freed-requires c κs =
     let args = c .before .before .before .before .before .before .before .before .before .args in
@@ -23,15 +17,6 @@ take-freed-requires c κs =
 enum-told : tie.Need-enum-told
 enum-told c = search needs
 
-take-fresh-requires : tie.Need-take-fresh-requires
-take-fresh-requires c κs = search needs
-
-enum-told-2 : tie.Need-enum-told-2
-enum-told-2 c = search needs
-
-same-length : tie.Need-same-length
-same-length c = search needs
-
 returns : tie.Need-returns
 unfolding takeOf
 returns c =
@@ -40,9 +25,6 @@ returns c =
     let f = c .before .before .before .before .before .f in
     let take-freed = c .before .before .take-freed in
     rw (lt-ltb _ _ (if1 .taken), ← hop .ensures, f .given .1) (take-freed .ensures)
-
-same-length-2 : tie.Need-same-length-2
-same-length-2 c = search needs
 
 returns-2 : tie.Need-returns-2
 unfolding takeOf
@@ -65,15 +47,15 @@ pub take-frame-spec : {M : Type 1} → statement M
 take-frame-spec =
     tie.close
     (tie.spec
-    hop-requires
-    enum-known-f
+    (λ c κs. search needs)
+    (λ c. search needs)
     take-freed-requires
     enum-told
-    take-fresh-requires
-    enum-told-2
-    same-length
+    (λ c κs. search needs)
+    (λ c. search needs)
+    (λ c. search needs)
     returns
-    same-length-2
+    (λ c. search needs)
     returns-2
     returns-3
     returns-4)

@@ -4,21 +4,6 @@ use borrow.Author.Needs.{needs}
 use Rattle.area.proofs.take_fresh.Statement.{statement}
 use Rattle.area.proofs.take_fresh.Tie as tie
 
-add-frame : tie.Need-add-frame
-add-frame c = search needs
-
-zero-frame-requires : tie.Need-zero-frame-requires
-zero-frame-requires c κs = search needs
-
-add-t10 : tie.Need-add-t10
-add-t10 c = search needs
-
-add-t11 : tie.Need-add-t11
-add-t11 c = search needs
-
-same-length : tie.Need-same-length
-same-length c = search needs
-
 returns : tie.Need-returns
 unfolding freshOf
 returns c =
@@ -32,4 +17,12 @@ returns-2 c = rw (le-ltb _ _ (c .if1 .left))
 
 pub take-fresh-spec : {M : Type 1} → statement M
 take-fresh-spec =
-    tie.close (tie.spec add-frame zero-frame-requires add-t10 add-t11 same-length returns returns-2)
+    tie.close
+    (tie.spec
+    (λ c. search needs)
+    (λ c κs. search needs)
+    (λ c. search needs)
+    (λ c. search needs)
+    (λ c. search needs)
+    returns
+    returns-2)

@@ -5,18 +5,6 @@ use borrow.Author.Needs.{needs}
 use Rattle.area.proofs.unhang.Statement.{statement}
 use Rattle.area.proofs.unhang.Tie as tie
 
-bare-requires : tie.Need-bare-requires
-bare-requires c κs = search needs
-
-parent-requires : tie.Need-parent-requires
-parent-requires c κs = search needs
-
-inside-requires : tie.Need-inside-requires
-inside-requires c κs = search needs
-
-slot-requires : tie.Need-slot-requires
-slot-requires c κs = search needs
-
 put-entry-requires : tie.Need-put-entry-requires
 put-entry-requires c κs =
     let args = c .before .before .before .before .before .before .before .before .before .before .before .args in
@@ -25,15 +13,6 @@ put-entry-requires c κs =
     let p = parent-small (args .mem .now) (args .f) in
     let s = slot-small (args .mem .now) (args .f) in
     (omega (arith, parent .ensures), omega (arith, slot .ensures))
-
-back-requires : tie.Need-back-requires
-back-requires c κs = search needs
-
-given-requires : tie.Need-given-requires
-given-requires c κs = search needs
-
-same-length : tie.Need-same-length
-same-length c = search needs
 
 returns : tie.Need-returns
 unfolding unhangOf
@@ -49,9 +28,6 @@ returns c =
     let given = c .given in
     rw (← bare .ensures, if1 .taken, ← parent .ensures, ← inside .ensures, if2 .taken, ← slot .ensures, given .ensures, back .ensures, put-entry .ensures)
 
-same-length-2 : tie.Need-same-length-2
-same-length-2 c = search needs
-
 returns-2 : tie.Need-returns-2
 unfolding unhangOf
 returns-2 c =
@@ -62,9 +38,6 @@ returns-2 c =
     let if2 = c .if2 in
     rw (← bare .ensures, if1 .taken, ← parent .ensures, ← inside .ensures, if2 .left)
 
-same-length-3 : tie.Need-same-length-3
-same-length-3 c = search needs
-
 returns-3 : tie.Need-returns-3
 unfolding unhangOf
 returns-3 c = rw (← c .before .bare .ensures, c .if1 .left)
@@ -73,16 +46,16 @@ pub unhang-spec : {M : Type 1} → statement M
 unhang-spec =
     tie.close
     (tie.spec
-    bare-requires
-    parent-requires
-    inside-requires
-    slot-requires
+    (λ c κs. search needs)
+    (λ c κs. search needs)
+    (λ c κs. search needs)
+    (λ c κs. search needs)
     put-entry-requires
-    back-requires
-    given-requires
-    same-length
+    (λ c κs. search needs)
+    (λ c κs. search needs)
+    (λ c. search needs)
     returns
-    same-length-2
+    (λ c. search needs)
     returns-2
-    same-length-3
+    (λ c. search needs)
     returns-3)

@@ -7,11 +7,8 @@ use borrow.Author.Needs.{needs}
 use Rattle.bits.proofs.after_lowest.Statement.{statement}
 use Rattle.bits.proofs.after_lowest.Tie as tie
 
-sub-result : tie.Need-sub-result
-sub-result c = search needs
-
 returns : tie.Need-returns
 returns c = (refl, omega (arith, and-le-r (c .args .x) (c .args .x - 1)))
 
 pub after-lowest-spec : {M : Type 1} → statement M
-after-lowest-spec = tie.close (tie.spec sub-result returns)
+after-lowest-spec = tie.close (tie.spec (λ c. search needs) returns)

@@ -8,8 +8,5 @@ use Rattle.bits.proofs.count.Tie as tie
 cast-result : tie.Need-cast-result
 cast-result c = omega (arith, ones-le 64 (c .args .x) (omega arith))
 
-returns : tie.Need-returns
-returns c = search needs
-
 pub count-spec : {M : Type 1} → statement M
-count-spec = tie.close (tie.spec cast-result returns)
+count-spec = tie.close (tie.spec cast-result (λ c. search needs))

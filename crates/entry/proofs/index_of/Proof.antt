@@ -5,15 +5,9 @@ use borrow.Author.Needs.{needs}
 use Rattle.entry.proofs.index_of.Statement.{statement}
 use Rattle.entry.proofs.index_of.Tie as tie
 
-mul-result : tie.Need-mul-result
-mul-result c = search needs
-
-shr-result : tie.Need-shr-result
-shr-result c = search needs
-
 returns : tie.Need-returns
 unfolding index
 returns c = refl
 
 pub index-of-spec : {M : Type 1} → statement M
-index-of-spec = tie.close (tie.spec mul-result shr-result returns)
+index-of-spec = tie.close (tie.spec (λ c. search needs) (λ c. search needs) returns)

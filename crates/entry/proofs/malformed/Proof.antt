@@ -10,15 +10,6 @@ use borrow.Author.Needs.{needs}
 use Rattle.entry.proofs.malformed.Statement.{statement}
 use Rattle.entry.proofs.malformed.Tie as tie
 
-frame-bits-requires : tie.Need-frame-bits-requires
-frame-bits-requires c κs = search needs
-
-add-if1 : tie.Need-add-if1
-add-if1 c = search needs
-
-shr-if1 : tie.Need-shr-if1
-shr-if1 c = search needs
-
 returns : tie.Need-returns
 returns c =
     let low : c .before .before .before .args .level ≤ 1 = omega arith in
@@ -38,5 +29,4 @@ returns-3 c =
     sym (malformed-high (ofLevels (c .before .before .args .levels)) _ _ some)
 
 pub malformed-spec : {M : Type 1} → statement M
-malformed-spec =
-    tie.close (tie.spec frame-bits-requires add-if1 shr-if1 returns returns-2 returns-3)
+malformed-spec = tie.close (tie.spec (λ c κs. search needs) (λ c. search needs) (λ c. search needs) returns returns-2 returns-3)

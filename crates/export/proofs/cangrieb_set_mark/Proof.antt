@@ -2,21 +2,6 @@ use borrow.Author.Needs.{needs}
 use Rattle.export.proofs.cangrieb_set_mark.Statement.{statement}
 use Rattle.export.proofs.cangrieb_set_mark.Tie as tie
 
-record-in-requires : tie.Need-record-in-requires
-record-in-requires c κs = search needs
-
-set-mark-requires : tie.Need-set-mark-requires
-set-mark-requires c κs = search needs
-
-put-back-requires : tie.Need-put-back-requires
-put-back-requires c κs = search needs
-
-answer-of-requires : tie.Need-answer-of-requires
-answer-of-requires c κs = search needs
-
-same-length : tie.Need-same-length
-same-length c = search needs
-
 returns : tie.Need-returns
 returns c =
     let record-in = c .before .before .before .before .before .before .before .before .record-in in
@@ -29,9 +14,9 @@ pub cangrieb-set-mark-spec : {M : Type 1} → statement M
 cangrieb-set-mark-spec =
     tie.close
     (tie.spec
-    record-in-requires
-    set-mark-requires
-    put-back-requires
-    answer-of-requires
-    same-length
+    (λ c κs. search needs)
+    (λ c κs. search needs)
+    (λ c κs. search needs)
+    (λ c κs. search needs)
+    (λ c. search needs)
     returns)

@@ -3,15 +3,6 @@ use borrow.Author.Needs.{needs}
 use Rattle.host.proofs.host_walk.Statement.{statement}
 use Rattle.host.proofs.host_walk.Tie as tie
 
-lookup-requires : tie.Need-lookup-requires
-lookup-requires c κs = search needs
-
-enum-known-entry : tie.Need-enum-known-entry
-enum-known-entry c = search needs
-
-leaf-requires : tie.Need-leaf-requires
-leaf-requires c κs = search needs
-
 enum-told : tie.Need-enum-told
 enum-told c = search needs
 
@@ -24,5 +15,4 @@ unfolding hostWalkOf
 returns-2 c = rw (← c .before .before .lookup .ensures, c .enum-told .given .1)
 
 pub host-walk-spec : {M : Type 1} → statement M
-host-walk-spec =
-    tie.close (tie.spec lookup-requires enum-known-entry leaf-requires enum-told returns returns-2)
+host-walk-spec = tie.close (tie.spec (λ c κs. search needs) (λ c. search needs) (λ c κs. search needs) enum-told returns returns-2)

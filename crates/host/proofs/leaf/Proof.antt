@@ -3,18 +3,6 @@ use borrow.Author.Needs.{needs}
 use Rattle.host.proofs.leaf.Statement.{statement}
 use Rattle.host.proofs.leaf.Tie as tie
 
-present-requires : tie.Need-present-requires
-present-requires c κs = search needs
-
-frame-of-requires : tie.Need-frame-of-requires
-frame-of-requires c κs = search needs
-
-in-guest-area-requires : tie.Need-in-guest-area-requires
-in-guest-area-requires c κs = search needs
-
-writable-requires : tie.Need-writable-requires
-writable-requires c κs = search needs
-
 returns : tie.Need-returns
 unfolding leafOf
 returns c = rw (← c .before .before .before .before .before .present .ensures, c .before .before .before .before .if1 .taken, ← c .before .before .before .frame-of .ensures, ← c .before .before .in-guest-area .ensures, c .before .if2 .taken, ← c .writable .ensures)
@@ -31,10 +19,10 @@ pub leaf-spec : {M : Type 1} → statement M
 leaf-spec =
     tie.close
     (tie.spec
-    present-requires
-    frame-of-requires
-    in-guest-area-requires
-    writable-requires
+    (λ c κs. search needs)
+    (λ c κs. search needs)
+    (λ c κs. search needs)
+    (λ c κs. search needs)
     returns
     returns-2
     returns-3)

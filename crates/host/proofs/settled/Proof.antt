@@ -2,14 +2,8 @@ use borrow.Author.Needs.{needs}
 use Rattle.host.proofs.settled.Statement.{statement}
 use Rattle.host.proofs.settled.Tie as tie
 
-enum-known-way : tie.Need-enum-known-way
-enum-known-way c = search needs
-
 enum-told : tie.Need-enum-told
 enum-told c = search needs
-
-enum-told-2 : tie.Need-enum-told-2
-enum-told-2 c = search needs
 
 returns : tie.Need-returns
 returns c = rw (c .before .way .given .1)
@@ -21,5 +15,4 @@ returns-3 : tie.Need-returns-3
 returns-3 c = rw (c .enum-told2 .given .1)
 
 pub settled-spec : {M : Type 1} → statement M
-settled-spec =
-    tie.close (tie.spec enum-known-way enum-told enum-told-2 returns returns-2 returns-3)
+settled-spec = tie.close (tie.spec (λ c. search needs) enum-told (λ c. search needs) returns returns-2 returns-3)

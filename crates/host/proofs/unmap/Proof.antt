@@ -4,20 +4,8 @@ use borrow.Author.Needs.{needs}
 use Rattle.host.proofs.unmap.Statement.{statement}
 use Rattle.host.proofs.unmap.Tie as tie
 
-frame-fits-requires : tie.Need-frame-fits-requires
-frame-fits-requires c κs = search needs
-
-tables-requires : tie.Need-tables-requires
-tables-requires c κs = search needs
-
 remove-requires : tie.Need-remove-requires
 remove-requires c κs = rw (c .before .tables .ensures) (omega (arith, c .before .before .before .before .before .pre), omega (arith, c .before .before .before .before .before .pre), omega (arith, c .before .before .before .before .before .pre))
-
-settled-requires : tie.Need-settled-requires
-settled-requires c κs = search needs
-
-same-length : tie.Need-same-length
-same-length c = search needs
 
 returns : tie.Need-returns
 unfolding unmapOf
@@ -33,10 +21,10 @@ pub unmap-spec : {M : Type 1} → statement M
 unmap-spec =
     tie.close
     (tie.spec
-    frame-fits-requires
-    tables-requires
+    (λ c κs. search needs)
+    (λ c κs. search needs)
     remove-requires
-    settled-requires
-    same-length
+    (λ c κs. search needs)
+    (λ c. search needs)
     returns
     returns-2)

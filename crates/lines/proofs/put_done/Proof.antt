@@ -4,24 +4,10 @@ use borrow.Author.Needs.{needs}
 use Rattle.lines.proofs.put_done.Statement.{statement}
 use Rattle.lines.proofs.put_done.Tie as tie
 
-slice-aggregate-put-text : tie.Need-slice-aggregate-put-text
-slice-aggregate-put-text c = search needs
-
-put-text-requires : tie.Need-put-text-requires
-put-text-requires c κs = search needs
-
-put-pair-requires : tie.Need-put-pair-requires
-put-pair-requires c κs = search needs
-
-same-length : tie.Need-same-length
-same-length c = search needs
-
 returns : tie.Need-returns
 returns c =
     let a = c .before .before .before .before .before .before .before .before .before .before .args in
     (omega (arith, c .before .before .before .before .before .before .put-text .ensures .0, c .before .before .put-pair .ensures .0), (then (a .out .now) (c .before .before .before .before .before .before .put-text .last .0) (c .before .before .put-pair .last .0) (a .at) (c .before .before .before .before .before .before .put-text .result) (c .before .before .put-pair .result) _ _ (c .before .before .before .before .before .before .put-text .ensures .1) (c .before .before .put-pair .ensures .1)))
 
 pub put-done-spec : {M : Type 1} → statement M
-put-done-spec =
-    tie.close
-    (tie.spec slice-aggregate-put-text put-text-requires put-pair-requires same-length returns)
+put-done-spec = tie.close (tie.spec (λ c. search needs) (λ c κs. search needs) (λ c κs. search needs) (λ c. search needs) returns)

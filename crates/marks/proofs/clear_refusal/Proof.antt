@@ -8,15 +8,9 @@ use borrow.Author.Needs.{needs}
 use Rattle.marks.proofs.clear_refusal.Statement.{statement}
 use Rattle.marks.proofs.clear_refusal.Tie as tie
 
-fits-requires : tie.Need-fits-requires
-fits-requires c κs = search needs
-
 returns : tie.Need-returns
 unfolding clearRefusal
 returns c = rw (← c .before .fits2 .ensures, not-true (c .before .fits2 .result) (c .if1 .taken))
-
-level-fits-requires : tie.Need-level-fits-requires
-level-fits-requires c κs = search needs
 
 returns-2 : tie.Need-returns-2
 unfolding clearRefusal
@@ -24,9 +18,6 @@ returns-2 c = rw (← c .before .before .before .fits2 .ensures, not-false (c .b
 
 key-of-requires : tie.Need-key-of-requires
 key-of-requires c κs = omega (arith, level-below (c .before .before .before .before .args .levels) (c .before .before .before .before .args .level) (sym (c .before .level-fits .ensures) ∙ not-false (c .before .level-fits .result) (c .if2 .left)))
-
-holds-requires : tie.Need-holds-requires
-holds-requires c κs = search needs
 
 returns-3 : tie.Need-returns-3
 unfolding clearRefusal
@@ -40,11 +31,11 @@ pub clear-refusal-spec : {M : Type 1} → statement M
 clear-refusal-spec =
     tie.close
     (tie.spec
-    fits-requires
+    (λ c κs. search needs)
     returns
-    level-fits-requires
+    (λ c κs. search needs)
     returns-2
     key-of-requires
-    holds-requires
+    (λ c κs. search needs)
     returns-3
     returns-4)

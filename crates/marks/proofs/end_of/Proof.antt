@@ -7,18 +7,6 @@ use borrow.Author.Needs.{needs}
 use Rattle.marks.proofs.end_of.Statement.{statement}
 use Rattle.marks.proofs.end_of.Tie as tie
 
-level-fits-requires : tie.Need-level-fits-requires
-level-fits-requires c κs = search needs
-
-kept-requires : tie.Need-kept-requires
-kept-requires c κs = search needs
-
-mul-power : tie.Need-mul-power
-mul-power c = search needs
-
-power-requires : tie.Need-power-requires
-power-requires c κs = search needs
-
 mul-result : tie.Need-mul-result
 mul-result c =
     let few : 9 * c .before .kept .result ≤ 45 = omega arith in
@@ -36,10 +24,10 @@ pub end-of-spec : {M : Type 1} → statement M
 end-of-spec =
     tie.close
     (tie.spec
-    level-fits-requires
-    kept-requires
-    mul-power
-    power-requires
+    (λ c κs. search needs)
+    (λ c κs. search needs)
+    (λ c. search needs)
+    (λ c κs. search needs)
     mul-result
     returns
     returns-2)

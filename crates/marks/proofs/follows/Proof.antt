@@ -6,9 +6,6 @@ use borrow.Author.Needs.{needs}
 use Rattle.marks.proofs.follows.Statement.{statement}
 use Rattle.marks.proofs.follows.Tie as tie
 
-key-fits-requires : tie.Need-key-fits-requires
-key-fits-requires c κs = search needs
-
 returns : tie.Need-returns
 returns c =
     let next : c .before .before .args .last < c .before .before .args .key = omega arith in
@@ -18,4 +15,4 @@ returns-2 : tie.Need-returns-2
 returns-2 c = rw (le-ltb _ _ (c .if1 .left))
 
 pub follows-spec : {M : Type 1} → statement M
-follows-spec = tie.close (tie.spec key-fits-requires returns returns-2)
+follows-spec = tie.close (tie.spec (λ c κs. search needs) returns returns-2)

@@ -4,11 +4,8 @@ use borrow.Author.Needs.{needs}
 use Rattle.marks.proofs.holds.Statement.{statement}
 use Rattle.marks.proofs.holds.Tie as tie
 
-place-of-requires : tie.Need-place-of-requires
-place-of-requires c κs = search needs
-
 returns : tie.Need-returns
 returns c = rw (c .place-of .ensures) (place-known (c .before .args .place .now) (c .before .args .key) (c .before .args .set))
 
 pub holds-spec : {M : Type 1} → statement M
-holds-spec = tie.close (tie.spec place-of-requires returns)
+holds-spec = tie.close (tie.spec (λ c κs. search needs) returns)

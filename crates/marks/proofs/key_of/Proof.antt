@@ -8,15 +8,6 @@ use borrow.Author.Needs.{needs}
 use Rattle.marks.proofs.key_of.Statement.{statement}
 use Rattle.marks.proofs.key_of.Tie as tie
 
-page-requires : tie.Need-page-requires
-page-requires c κs = search needs
-
-mul-result : tie.Need-mul-result
-mul-result c = search needs
-
-shr-result : tie.Need-shr-result
-shr-result c = search needs
-
 mul-result-2 : tie.Need-mul-result-2
 unfolding pageOf
 mul-result-2 c = omega (arith, shr-le (c .page .result) (9 * c .before .args .level), c .page .ensures)
@@ -30,5 +21,4 @@ unfolding keyOf
 returns c = rw (c .page .ensures)
 
 pub key-of-spec : {M : Type 1} → statement M
-key-of-spec =
-    tie.close (tie.spec page-requires mul-result shr-result mul-result-2 add-result returns)
+key-of-spec = tie.close (tie.spec (λ c κs. search needs) (λ c. search needs) (λ c. search needs) mul-result-2 add-result returns)

@@ -8,11 +8,8 @@ use Rattle.marks.proofs.level_fits.Tie as tie
 returns : tie.Need-returns
 returns c = rw (lt-leb _ _ (c .if1 .taken))
 
-add-result : tie.Need-add-result
-add-result c = search needs
-
 returns-2 : tie.Need-returns-2
 returns-2 c = rw (le-leb _ _ (c .if1 .left), add-one)
 
 pub level-fits-spec : {M : Type 1} → statement M
-level-fits-spec = tie.close (tie.spec returns add-result returns-2)
+level-fits-spec = tie.close (tie.spec returns (λ c. search needs) returns-2)

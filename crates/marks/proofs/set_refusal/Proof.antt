@@ -11,15 +11,9 @@ use borrow.Author.Needs.{needs}
 use Rattle.marks.proofs.set_refusal.Statement.{statement}
 use Rattle.marks.proofs.set_refusal.Tie as tie
 
-fits-requires : tie.Need-fits-requires
-fits-requires c κs = search needs
-
 returns : tie.Need-returns
 unfolding setRefusal
 returns c = rw (← c .before .fits2 .ensures, not-true (c .before .fits2 .result) (c .if1 .taken))
-
-level-fits-requires : tie.Need-level-fits-requires
-level-fits-requires c κs = search needs
 
 returns-2 : tie.Need-returns-2
 unfolding setRefusal
@@ -28,15 +22,9 @@ returns-2 c = rw (← c .before .before .before .fits2 .ensures, not-false (c .b
 key-of-requires : tie.Need-key-of-requires
 key-of-requires c κs = omega (arith, level-below (c .before .before .before .before .args .levels) (c .before .before .before .before .args .level) (sym (c .before .level-fits .ensures) ∙ not-false (c .before .level-fits .result) (c .if2 .left)))
 
-holds-requires : tie.Need-holds-requires
-holds-requires c κs = search needs
-
 returns-3 : tie.Need-returns-3
 unfolding setRefusal
 returns-3 c = rw (← c .before .before .before .before .before .before .fits2 .ensures, not-false (c .before .before .before .before .before .before .fits2 .result) (c .before .before .before .before .before .if1 .left), ← c .before .before .before .before .level-fits .ensures, not-false (c .before .before .before .before .level-fits .result) (c .before .before .before .if2 .left), ← c .before .before .key-of .ensures, ← c .before .holds .ensures, c .if3 .taken)
-
-count-requires : tie.Need-count-requires
-count-requires c κs = search needs
 
 returns-4 : tie.Need-returns-4
 unfolding setRefusal
@@ -54,13 +42,13 @@ pub set-refusal-spec : {M : Type 1} → statement M
 set-refusal-spec =
     tie.close
     (tie.spec
-    fits-requires
+    (λ c κs. search needs)
     returns
-    level-fits-requires
+    (λ c κs. search needs)
     returns-2
     key-of-requires
-    holds-requires
+    (λ c κs. search needs)
     returns-3
-    count-requires
+    (λ c κs. search needs)
     returns-4
     returns-5)

@@ -3,12 +3,6 @@ use borrow.Author.Needs.{needs}
 use Rattle.record.proofs.first.Statement.{statement}
 use Rattle.record.proofs.first.Tie as tie
 
-no-tables-requires : tie.Need-no-tables-requires
-no-tables-requires c κs = search needs
-
-empty-requires : tie.Need-empty-requires
-empty-requires c κs = search needs
-
 returns : tie.Need-returns
 unfolding firstOf
 returns c =
@@ -17,4 +11,4 @@ returns c =
     rw (no-tables .ensures, empty .ensures)
 
 pub first-spec : {M : Type 1} → statement M
-first-spec = tie.close (tie.spec no-tables-requires empty-requires returns)
+first-spec = tie.close (tie.spec (λ c κs. search needs) (λ c κs. search needs) returns)

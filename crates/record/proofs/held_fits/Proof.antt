@@ -6,9 +6,6 @@ use Rattle.record.proofs.held_fits.Tie as tie
 returns : tie.Need-returns
 returns c = rw (eq-eqb _ _ (c .if1 .taken))
 
-in-guest-area-requires : tie.Need-in-guest-area-requires
-in-guest-area-requires c κs = search needs
-
 returns-2 : tie.Need-returns-2
 returns-2 c =
     let if1 = c .before .if1 in
@@ -16,4 +13,4 @@ returns-2 c =
     rw (ne-eqb _ _ (if1 .left)) (in-guest-area .ensures)
 
 pub held-fits-spec : {M : Type 1} → statement M
-held-fits-spec = tie.close (tie.spec returns in-guest-area-requires returns-2)
+held-fits-spec = tie.close (tie.spec returns (λ c κs. search needs) returns-2)

@@ -8,9 +8,6 @@ returns : tie.Need-returns
 unfolding isTable
 returns c = rw (ne-eqb _ _ (c .if1 .taken))
 
-inside-requires : tie.Need-inside-requires
-inside-requires c κs = search needs
-
 returns-2 : tie.Need-returns-2
 unfolding isTable
 returns-2 c =
@@ -19,4 +16,4 @@ returns-2 c =
     rw (eq-eqb _ _ (if1 .left)) (inside .ensures)
 
 pub is-table-spec : {M : Type 1} → statement M
-is-table-spec = tie.close (tie.spec returns inside-requires returns-2)
+is-table-spec = tie.close (tie.spec returns (λ c κs. search needs) returns-2)

@@ -8,12 +8,6 @@ use borrow.Author.Needs.{needs}
 use Rattle.record.proofs.open.Statement.{statement}
 use Rattle.record.proofs.open.Tie as tie
 
-open-refusal-requires : tie.Need-open-refusal-requires
-open-refusal-requires c κs = search needs
-
-zeros-requires : tie.Need-zeros-requires
-zeros-requires c κs = search needs
-
 returns : tie.Need-returns
 unfolding openOf
 returns c =
@@ -29,9 +23,6 @@ open-granted-requires c κs =
     let if1 = c .before .if1 in
     let z = granted-sized (length (args .mem .now)) (args .hosts) (args .shadows) (sym (open-refusal .ensures) ∙ if1 .left) .0 in omega (arith, z .guest, z .frames)
 
-same-length : tie.Need-same-length
-same-length c = search needs
-
 returns-2 : tie.Need-returns-2
 unfolding openOf
 returns-2 c =
@@ -41,12 +32,4 @@ returns-2 c =
     rw (← open-refusal .ensures, eq-eqb _ _ (if1 .left), ← open-granted .ensures)
 
 pub open-spec : {M : Type 1} → statement M
-open-spec =
-    tie.close
-    (tie.spec
-    open-refusal-requires
-    zeros-requires
-    returns
-    open-granted-requires
-    same-length
-    returns-2)
+open-spec = tie.close (tie.spec (λ c κs. search needs) (λ c κs. search needs) returns open-granted-requires (λ c. search needs) returns-2)

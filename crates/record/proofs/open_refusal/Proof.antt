@@ -5,21 +5,12 @@ use borrow.Author.Needs.{needs}
 use Rattle.record.proofs.open_refusal.Statement.{statement}
 use Rattle.record.proofs.open_refusal.Tie as tie
 
-words-fit-requires : tie.Need-words-fit-requires
-words-fit-requires c κs = search needs
-
 returns : tie.Need-returns
 unfolding refusalOf openRefusal
 returns c =
     let words-fit = c .before .words-fit in
     let if1 = c .if1 in
     rw (← words-fit .ensures, not-true (words-fit .result) (if1 .taken))
-
-layout-requires : tie.Need-layout-requires
-layout-requires c κs = search needs
-
-areas-fit-requires : tie.Need-areas-fit-requires
-areas-fit-requires c κs = search needs
 
 returns-2 : tie.Need-returns-2
 unfolding refusalOf openRefusal
@@ -42,6 +33,4 @@ returns-3 c =
     rw (← words-fit .ensures, not-false (words-fit .result) (if1 .left), ← (rw (layout .ensures) at (areas-fit .ensures)), not-false (areas-fit .result) (if2 .left))
 
 pub open-refusal-spec : {M : Type 1} → statement M
-open-refusal-spec =
-    tie.close
-    (tie.spec words-fit-requires returns layout-requires areas-fit-requires returns-2 returns-3)
+open-refusal-spec = tie.close (tie.spec (λ c κs. search needs) returns (λ c κs. search needs) (λ c κs. search needs) returns-2 returns-3)

@@ -23,9 +23,6 @@ returns-3 c =
     let if3 = c .if3 in
     rw (le-leb _ _ (if1 .left), le-leb _ _ (if2 .left), eq-eqb _ _ (if3 .taken))
 
-is-table-requires : tie.Need-is-table-requires
-is-table-requires c κs = search needs
-
 returns-4 : tie.Need-returns-4
 unfolding poolFits
 returns-4 c =
@@ -36,4 +33,4 @@ returns-4 c =
     rw (le-leb _ _ (if1 .left), le-leb _ _ (if2 .left), ne-eqb _ _ (if3 .left)) (is-table .ensures)
 
 pub pool-fits-spec : {M : Type 1} → statement M
-pool-fits-spec = tie.close (tie.spec returns returns-2 returns-3 is-table-requires returns-4)
+pool-fits-spec = tie.close (tie.spec returns returns-2 returns-3 (λ c κs. search needs) returns-4)

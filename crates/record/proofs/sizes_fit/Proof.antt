@@ -29,15 +29,9 @@ returns-2 c =
     let if2 = c .if2 in
     let some : 0 < args .l .frames = omega arith in rw (lt-ltb _ _ some, lt-leb _ _ (if2 .taken)) (zero (eqb (args .len) (args .l .frames * 512)) (areasFit (config (args .l))))
 
-mul-if3 : tie.Need-mul-if3
-mul-if3 c = search needs
-
 returns-3 : tie.Need-returns-3
 unfolding sizesFit
 returns-3 c = rw (ne-eqb _ _ (c .if3 .taken))
-
-areas-fit-requires : tie.Need-areas-fit-requires
-areas-fit-requires c κs = search needs
 
 returns-4 : tie.Need-returns-4
 unfolding sizesFit
@@ -49,5 +43,4 @@ returns-4 c =
     let some : 0 < args .l .frames = omega arith in rw (eq-eqb _ _ (if3 .left), lt-ltb _ _ some, le-leb _ _ (if2 .left)) (areas-fit .ensures)
 
 pub sizes-fit-spec : {M : Type 1} → statement M
-sizes-fit-spec =
-    tie.close (tie.spec returns returns-2 mul-if3 returns-3 areas-fit-requires returns-4)
+sizes-fit-spec = tie.close (tie.spec returns returns-2 (λ c. search needs) returns-3 (λ c κs. search needs) returns-4)

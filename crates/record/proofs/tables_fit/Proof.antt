@@ -4,18 +4,12 @@ use borrow.Author.Needs.{needs}
 use Rattle.record.proofs.tables_fit.Statement.{statement}
 use Rattle.record.proofs.tables_fit.Tie as tie
 
-held-fits-requires : tie.Need-held-fits-requires
-held-fits-requires c κs = search needs
-
 returns : tie.Need-returns
 unfolding tablesFit
 returns c =
     let held-fits = c .before .held-fits in
     let if1 = c .if1 in
     rw (← held-fits .ensures, not-true (held-fits .result) (if1 .taken))
-
-is-table-requires : tie.Need-is-table-requires
-is-table-requires c κs = search needs
 
 returns-2 : tie.Need-returns-2
 unfolding tablesFit poolsFit
@@ -25,9 +19,6 @@ returns-2 c =
     let is-table = c .before .is-table in
     let if2 = c .if2 in
     rw (← held-fits .ensures, not-false (held-fits .result) (if1 .left), ← is-table .ensures, not-true (is-table .result) (if2 .taken))
-
-pool-fits-requires : tie.Need-pool-fits-requires
-pool-fits-requires c κs = search needs
 
 returns-3 : tie.Need-returns-3
 unfolding tablesFit poolsFit
@@ -39,9 +30,6 @@ returns-3 c =
     let pool-fits = c .before .pool-fits in
     let if3 = c .if3 in
     rw (← held-fits .ensures, not-false (held-fits .result) (if1 .left), ← is-table .ensures, not-false (is-table .result) (if2 .left), ← pool-fits .ensures, not-true (pool-fits .result) (if3 .taken))
-
-pool-fits-requires-2 : tie.Need-pool-fits-requires-2
-pool-fits-requires-2 c κs = search needs
 
 returns-4 : tie.Need-returns-4
 unfolding tablesFit poolsFit
@@ -59,11 +47,11 @@ pub tables-fit-spec : {M : Type 1} → statement M
 tables-fit-spec =
     tie.close
     (tie.spec
-    held-fits-requires
+    (λ c κs. search needs)
     returns
-    is-table-requires
+    (λ c κs. search needs)
     returns-2
-    pool-fits-requires
+    (λ c κs. search needs)
     returns-3
-    pool-fits-requires-2
+    (λ c κs. search needs)
     returns-4)

@@ -23,9 +23,6 @@ returns-2 c =
     let h : length s < a .at + 2 = omega arith in
     rw (lt-leb (a .at + 2) (length s) h)
 
-number2-requires : tie.Need-number2-requires
-number2-requires c κs = search needs
-
 returns-3 : tie.Need-returns-3
 returns-3 c =
     let a = c .before .before .before .before .before .args in
@@ -45,12 +42,6 @@ returns-4 c =
     let q : 19 < n = omega (arith, c .before .before .number2 .ensures .0) in
     rw (le-leb (a .at + 2) (length s) h, le-ltb n 2 p, lt-ltb 19 n q)
 
-add-if5 : tie.Need-add-if5
-add-if5 c = search needs
-
-sub-if5 : tie.Need-sub-if5
-sub-if5 c = search needs
-
 returns-5 : tie.Need-returns-5
 returns-5 c =
     let a = c .before .before .before .before .before .before .before .args in
@@ -61,18 +52,6 @@ returns-5 c =
     let q : n ≤ 19 = omega (arith, c .before .before .before .number2 .ensures .0) in
     let z : length s - (a .at + 2) < n = omega (arith, c .before .before .before .number2 .ensures .0) in
     rw (le-leb (a .at + 2) (length s) h, le-ltb n 2 p, le-ltb 19 n q, lt-ltb (length s - (a .at + 2)) n z)
-
-add-number2 : tie.Need-add-number2
-add-number2 c = search needs
-
-number2-requires-2 : tie.Need-number2-requires-2
-number2-requires-2 c κs = search needs
-
-add-t9 : tie.Need-add-t9
-add-t9 c = search needs
-
-sub-t8 : tie.Need-sub-t8
-sub-t8 c = search needs
 
 returns-6 : tie.Need-returns-6
 returns-6 c =
@@ -91,14 +70,14 @@ cut-at-spec =
     (tie.spec
     returns
     returns-2
-    number2-requires
+    (λ c κs. search needs)
     returns-3
     returns-4
-    add-if5
-    sub-if5
+    (λ c. search needs)
+    (λ c. search needs)
     returns-5
-    add-number2
-    number2-requires-2
-    add-t9
-    sub-t8
+    (λ c. search needs)
+    (λ c κs. search needs)
+    (λ c. search needs)
+    (λ c. search needs)
     returns-6)

@@ -4,33 +4,6 @@ use borrow.Author.Needs.{needs}
 use Rattle.records.proofs.decode.Statement.{statement}
 use Rattle.records.proofs.decode.Tie as tie
 
-open-body-requires : tie.Need-open-body-requires
-open-body-requires c κs = search needs
-
-number-body-requires : tie.Need-number-body-requires
-number-body-requires c κs = search needs
-
-map-body-requires : tie.Need-map-body-requires
-map-body-requires c κs = search needs
-
-number-body-requires-2 : tie.Need-number-body-requires-2
-number-body-requires-2 c κs = search needs
-
-mark-body-requires : tie.Need-mark-body-requires
-mark-body-requires c κs = search needs
-
-mark-body-requires-2 : tie.Need-mark-body-requires-2
-mark-body-requires-2 c κs = search needs
-
-number-body-requires-3 : tie.Need-number-body-requires-3
-number-body-requires-3 c κs = search needs
-
-pair-body-requires : tie.Need-pair-body-requires
-pair-body-requires c κs = search needs
-
-pair-body-requires-2 : tie.Need-pair-body-requires-2
-pair-body-requires-2 c κs = search needs
-
 returns : tie.Need-returns
 unfolding jobOf
 returns c = rw (c .before .match .keys1, c .open-body .ensures)
@@ -75,15 +48,15 @@ pub decode-spec : {M : Type 1} → statement M
 decode-spec =
     tie.close
     (tie.spec
-    open-body-requires
-    number-body-requires
-    map-body-requires
-    number-body-requires-2
-    mark-body-requires
-    mark-body-requires-2
-    number-body-requires-3
-    pair-body-requires
-    pair-body-requires-2
+    (λ c κs. search needs)
+    (λ c κs. search needs)
+    (λ c κs. search needs)
+    (λ c κs. search needs)
+    (λ c κs. search needs)
+    (λ c κs. search needs)
+    (λ c κs. search needs)
+    (λ c κs. search needs)
+    (λ c κs. search needs)
     returns
     returns-2
     returns-3

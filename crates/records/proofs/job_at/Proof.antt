@@ -3,23 +3,8 @@ use borrow.Author.Needs.{needs}
 use Rattle.records.proofs.job_at.Statement.{statement}
 use Rattle.records.proofs.job_at.Tie as tie
 
-cut-at-requires : tie.Need-cut-at-requires
-cut-at-requires c κs = search needs
-
-enum-known-kind : tie.Need-enum-known-kind
-enum-known-kind c = search needs
-
-body-at-requires : tie.Need-body-at-requires
-body-at-requires c κs = search needs
-
-decode-requires : tie.Need-decode-requires
-decode-requires c κs = search needs
-
 enum-told : tie.Need-enum-told
 enum-told c = search needs
-
-enum-told-2 : tie.Need-enum-told-2
-enum-told-2 c = search needs
 
 returns : tie.Need-returns
 unfolding jobAt
@@ -37,12 +22,12 @@ pub job-at-spec : {M : Type 1} → statement M
 job-at-spec =
     tie.close
     (tie.spec
-    cut-at-requires
-    enum-known-kind
-    body-at-requires
-    decode-requires
+    (λ c κs. search needs)
+    (λ c. search needs)
+    (λ c κs. search needs)
+    (λ c κs. search needs)
     enum-told
-    enum-told-2
+    (λ c. search needs)
     returns
     returns-2
     returns-3)

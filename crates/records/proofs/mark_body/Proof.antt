@@ -3,15 +3,6 @@ use borrow.Author.Needs.{needs}
 use Rattle.records.proofs.mark_body.Statement.{statement}
 use Rattle.records.proofs.mark_body.Tie as tie
 
-number8-requires : tie.Need-number8-requires
-number8-requires c κs = search needs
-
-shared-slice-read-wide : tie.Need-shared-slice-read-wide
-shared-slice-read-wide c = search needs
-
-wide-requires : tie.Need-wide-requires
-wide-requires c κs = search needs
-
 returns : tie.Need-returns
 returns c = rw (eq-eqb _ _ (c .before .before .before .before .if1 .taken), c .before .before .before .number8 .ensures, c .before .wide .ensures .0, eq-eqb _ _ (c .if2 .taken))
 
@@ -22,6 +13,4 @@ returns-3 : tie.Need-returns-3
 returns-3 c = rw (ne-eqb _ _ (c .if1 .left))
 
 pub mark-body-spec : {M : Type 1} → statement M
-mark-body-spec =
-    tie.close
-    (tie.spec number8-requires shared-slice-read-wide wide-requires returns returns-2 returns-3)
+mark-body-spec = tie.close (tie.spec (λ c κs. search needs) (λ c. search needs) (λ c κs. search needs) returns returns-2 returns-3)

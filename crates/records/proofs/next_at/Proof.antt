@@ -7,12 +7,6 @@ use borrow.Author.Needs.{needs}
 use Rattle.records.proofs.next_at.Statement.{statement}
 use Rattle.records.proofs.next_at.Tie as tie
 
-cut-at-requires : tie.Need-cut-at-requires
-cut-at-requires c κs = search needs
-
-enum-known-kind : tie.Need-enum-known-kind
-enum-known-kind c = search needs
-
 add-result : tie.Need-add-result
 add-result c =
     let a = c .before .before .before .before .before .args in
@@ -20,9 +14,6 @@ add-result c =
 
 enum-told : tie.Need-enum-told
 enum-told c = search needs
-
-enum-told-2 : tie.Need-enum-told-2
-enum-told-2 c = search needs
 
 returns : tie.Need-returns
 returns c = ap (nextOf (c .before .before .before .before .before .args .at)) (sym (c .before .kind .given .1) ∙ c .before .before .before .cut-at .ensures)
@@ -34,14 +25,4 @@ returns-3 : tie.Need-returns-3
 returns-3 c = ap (nextOf (c .before .before .before .before .args .at)) (sym (c .enum-told2 .given .1) ∙ c .before .before .cut-at .ensures)
 
 pub next-at-spec : {M : Type 1} → statement M
-next-at-spec =
-    tie.close
-    (tie.spec
-    cut-at-requires
-    enum-known-kind
-    add-result
-    enum-told
-    enum-told-2
-    returns
-    returns-2
-    returns-3)
+next-at-spec = tie.close (tie.spec (λ c κs. search needs) (λ c. search needs) add-result enum-told (λ c. search needs) returns returns-2 returns-3)

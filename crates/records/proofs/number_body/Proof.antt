@@ -3,9 +3,6 @@ use borrow.Author.Needs.{needs}
 use Rattle.records.proofs.number_body.Statement.{statement}
 use Rattle.records.proofs.number_body.Tie as tie
 
-number8-requires : tie.Need-number8-requires
-number8-requires c κs = search needs
-
 returns : tie.Need-returns
 returns c = rw (eq-eqb _ _ (c .before .before .if1 .taken), c .before .number8 .ensures, c .match .keys1)
 
@@ -19,4 +16,4 @@ returns-4 : tie.Need-returns-4
 returns-4 c = rw (ne-eqb _ _ (c .if1 .left))
 
 pub number-body-spec : {M : Type 1} → statement M
-number-body-spec = tie.close (tie.spec number8-requires returns returns-2 returns-3 returns-4)
+number-body-spec = tie.close (tie.spec (λ c κs. search needs) returns returns-2 returns-3 returns-4)

@@ -3,12 +3,6 @@ use borrow.Author.Needs.{needs}
 use Rattle.records.proofs.open_body.Statement.{statement}
 use Rattle.records.proofs.open_body.Tie as tie
 
-number2-requires : tie.Need-number2-requires
-number2-requires c κs = search needs
-
-number2-requires-2 : tie.Need-number2-requires-2
-number2-requires-2 c κs = search needs
-
 returns : tie.Need-returns
 returns c = rw (eq-eqb _ _ (c .before .before .if1 .taken), c .before .number2 .ensures .0, c .number22 .ensures .0)
 
@@ -16,4 +10,4 @@ returns-2 : tie.Need-returns-2
 returns-2 c = rw (ne-eqb _ _ (c .if1 .left))
 
 pub open-body-spec : {M : Type 1} → statement M
-open-body-spec = tie.close (tie.spec number2-requires number2-requires-2 returns returns-2)
+open-body-spec = tie.close (tie.spec (λ c κs. search needs) (λ c κs. search needs) returns returns-2)

@@ -3,12 +3,6 @@ use borrow.Author.Needs.{needs}
 use Rattle.records.proofs.pair_body.Statement.{statement}
 use Rattle.records.proofs.pair_body.Tie as tie
 
-number8-requires : tie.Need-number8-requires
-number8-requires c κs = search needs
-
-number8-requires-2 : tie.Need-number8-requires-2
-number8-requires-2 c κs = search needs
-
 returns : tie.Need-returns
 returns c = rw (eq-eqb _ _ (c .before .before .before .if1 .taken), c .before .before .number8 .ensures, c .before .number82 .ensures, eq-eqb _ _ (c .if2 .taken))
 
@@ -19,5 +13,4 @@ returns-3 : tie.Need-returns-3
 returns-3 c = rw (ne-eqb _ _ (c .if1 .left))
 
 pub pair-body-spec : {M : Type 1} → statement M
-pair-body-spec =
-    tie.close (tie.spec number8-requires number8-requires-2 returns returns-2 returns-3)
+pair-body-spec = tie.close (tie.spec (λ c κs. search needs) (λ c κs. search needs) returns returns-2 returns-3)

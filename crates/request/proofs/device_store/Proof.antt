@@ -8,12 +8,6 @@ use borrow.Author.Needs.{needs}
 use Rattle.request.proofs.device_store.Statement.{statement}
 use Rattle.request.proofs.device_store.Tie as tie
 
-to-page-requires : tie.Need-to-page-requires
-to-page-requires c κs = search needs
-
-enum-known-walked : tie.Need-enum-known-walked
-enum-known-walked c = search needs
-
 written-requires : tie.Need-written-requires
 written-requires c κs =
     let args = c .before .before .before .before .before .before .before .args in
@@ -23,20 +17,8 @@ written-requires c κs =
     let at = rw (← to-page .ensures, walked .given .1) at (device-in (config (args .s .layout)) (args .s .top) (args .mem .now) (args .a / 4096)) in
     (pre .0, pre .1, omega (arith, at .1, pre .0), omega arith)
 
-enum-known-walked-2 : tie.Need-enum-known-walked-2
-enum-known-walked-2 c = search needs
-
-exit-of-requires : tie.Need-exit-of-requires
-exit-of-requires c κs = search needs
-
 enum-told : tie.Need-enum-told
 enum-told c = search needs
-
-refused-requires : tie.Need-refused-requires
-refused-requires c κs = search needs
-
-same-length : tie.Need-same-length
-same-length c = search needs
 
 returns : tie.Need-returns
 unfolding deviceOf pageOf
@@ -46,9 +28,6 @@ returns c =
     let written = c .before .before .written in
     rw (← to-page .ensures, walked .given .1) (written .ensures)
 
-same-length-2 : tie.Need-same-length-2
-same-length-2 c = search needs
-
 returns-2 : tie.Need-returns-2
 unfolding deviceOf pageOf
 returns-2 c =
@@ -56,9 +35,6 @@ returns-2 c =
     let walked2 = c .before .before .walked2 in
     let exit-of = c .exit-of in
     rw (← to-page .ensures, exit-of .ensures, walked2 .given .1)
-
-same-length-3 : tie.Need-same-length-3
-same-length-3 c = search needs
 
 returns-3 : tie.Need-returns-3
 unfolding deviceOf pageOf
@@ -72,16 +48,16 @@ pub device-store-spec : {M : Type 1} → statement M
 device-store-spec =
     tie.close
     (tie.spec
-    to-page-requires
-    enum-known-walked
+    (λ c κs. search needs)
+    (λ c. search needs)
     written-requires
-    enum-known-walked-2
-    exit-of-requires
+    (λ c. search needs)
+    (λ c κs. search needs)
     enum-told
-    refused-requires
-    same-length
+    (λ c κs. search needs)
+    (λ c. search needs)
     returns
-    same-length-2
+    (λ c. search needs)
     returns-2
-    same-length-3
+    (λ c. search needs)
     returns-3)

@@ -21,15 +21,6 @@ returns c =
     let all : args .s .layout .levels - args .q .depth ≡ args .s .layout .levels = omega arith in
     sym (loop-end (config (args .s .layout)) (args .s .top) (args .mem .now) (args .s .layout .levels - args .q .depth) (args .q .store) 0 (args .q .depth) (args .page .0) (pageOf (args .q .address .0)) (args .writable) none ∙ ap (walked.Arrived (args .page) (args .writable)) all)
 
-page-requires : tie.Need-page-requires
-page-requires c κs = search needs
-
-sub-walk-tables : tie.Need-sub-walk-tables
-sub-walk-tables c = search needs
-
-walk-tables-requires : tie.Need-walk-tables-requires
-walk-tables-requires c κs = search needs
-
 returns-2 : tie.Need-returns-2
 unfolding directOf trailFrom
 returns-2 c =
@@ -38,5 +29,4 @@ returns-2 c =
     rw (walk-tables .ensures, page .ensures)
 
 pub direct-spec : {M : Type 1} → statement M
-direct-spec =
-    tie.close (tie.spec returns page-requires sub-walk-tables walk-tables-requires returns-2)
+direct-spec = tie.close (tie.spec returns (λ c κs. search needs) (λ c. search needs) (λ c κs. search needs) returns-2)

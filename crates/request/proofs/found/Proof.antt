@@ -4,15 +4,6 @@ use borrow.Author.Needs.{needs}
 use Rattle.request.proofs.found.Statement.{statement}
 use Rattle.request.proofs.found.Tie as tie
 
-path-of-requires : tie.Need-path-of-requires
-path-of-requires c κs = search needs
-
-sub-held : tie.Need-sub-held
-sub-held c = search needs
-
-held-requires : tie.Need-held-requires
-held-requires c κs = search needs
-
 returns : tie.Need-returns
 unfolding foundOf
 returns c =
@@ -36,5 +27,4 @@ returns-3 c =
     rw (le-ltb _ _ (if1 .left), ne-eqb _ _ (if2 .left))
 
 pub found-spec : {M : Type 1} → statement M
-found-spec =
-    tie.close (tie.spec path-of-requires sub-held held-requires returns returns-2 returns-3)
+found-spec = tie.close (tie.spec (λ c κs. search needs) (λ c. search needs) (λ c κs. search needs) returns returns-2 returns-3)

@@ -23,26 +23,14 @@ translate-requires c κs =
     let args = c .before .before .args in
     (pre .0, held-small (config (args .s .layout)) (args .held) (pre .1) (pre .0 .3))
 
-enum-known-walked : tie.Need-enum-known-walked
-enum-known-walked c = search needs
-
 read-word-requires : tie.Need-read-word-requires
 read-word-requires c κs =
     let pre = c .before .before .before .before .before .before .before .before .before .before .pre in
     let walked = c .before .before .walked in
     let at = rw (walked .given .1) at (left (c .before .before .before .before .before .before .before) .arrived) in omega (arith, at .1, pre .0)
 
-enum-known-walked-2 : tie.Need-enum-known-walked-2
-enum-known-walked-2 c = search needs
-
 enum-told : tie.Need-enum-told
 enum-told c = search needs
-
-refused-requires : tie.Need-refused-requires
-refused-requires c κs = search needs
-
-same-length : tie.Need-same-length
-same-length c = search needs
 
 returns : tie.Need-returns
 unfolding loadOf
@@ -52,18 +40,12 @@ returns c =
     let read-word = c .read-word in
     rw (← translate .ensures, walked .given .1, read-word .ensures)
 
-same-length-2 : tie.Need-same-length-2
-same-length-2 c = search needs
-
 returns-2 : tie.Need-returns-2
 unfolding loadOf
 returns-2 c =
     let translate = c .before .before .before .before .before .before .translate in
     let walked2 = c .before .walked2 in
     rw (← translate .ensures, walked2 .given .1)
-
-same-length-3 : tie.Need-same-length-3
-same-length-3 c = search needs
 
 returns-3 : tie.Need-returns-3
 unfolding loadOf
@@ -78,14 +60,14 @@ load-spec =
     tie.close
     (tie.spec
     translate-requires
-    enum-known-walked
+    (λ c. search needs)
     read-word-requires
-    enum-known-walked-2
+    (λ c. search needs)
     enum-told
-    refused-requires
-    same-length
+    (λ c κs. search needs)
+    (λ c. search needs)
     returns
-    same-length-2
+    (λ c. search needs)
     returns-2
-    same-length-3
+    (λ c. search needs)
     returns-3)

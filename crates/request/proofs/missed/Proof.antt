@@ -17,18 +17,6 @@ came : (c : tie.After-walk-root) → walkedOf (config (c .before .before .before
 unfolding trailFrom
 came c = sym (ap (λ (t : Trail). t .walked) (c .walk-root .ensures))
 
-path-of-requires : tie.Need-path-of-requires
-path-of-requires c κs = search needs
-
-sub-walk-root : tie.Need-sub-walk-root
-sub-walk-root c = search needs
-
-walk-root-requires : tie.Need-walk-root-requires
-walk-root-requires c κs = search needs
-
-enum-known-walked : tie.Need-enum-known-walked
-enum-known-walked c = search needs
-
 filled-requires : tie.Need-filled-requires
 filled-requires c κs =
     let args = c .before .before .before .before .before .before .before .before .before .before .before .before .args in
@@ -38,17 +26,8 @@ filled-requires c κs =
     let at = rw (came (c .before .before .before .before .before .before), walked .given .1) at (walk-in (config (args .s .layout)) (args .s .top) (args .mem .now) (args .q .store) 0 (args .root .0) (indexes (args .s .layout .levels - args .q .depth) (path-of .result))) in
     (pre .0, pre .1, omega (arith, at .1, pre .0))
 
-enum-known-walked-2 : tie.Need-enum-known-walked-2
-enum-known-walked-2 c = search needs
-
 enum-told : tie.Need-enum-told
 enum-told c = search needs
-
-damaged-requires : tie.Need-damaged-requires
-damaged-requires c κs = search needs
-
-same-length : tie.Need-same-length
-same-length c = search needs
 
 returns : tie.Need-returns
 unfolding missedOf
@@ -59,9 +38,6 @@ returns c =
     let filled = c .before .before .filled in
     rw (← path-of .ensures, ← walk-root .ensures, walked .given .1) (filled .ensures)
 
-same-length-2 : tie.Need-same-length-2
-same-length-2 c = search needs
-
 returns-2 : tie.Need-returns-2
 unfolding missedOf
 returns-2 c =
@@ -69,9 +45,6 @@ returns-2 c =
     let walk-root = c .before .before .before .walk-root in
     let walked2 = c .before .walked2 in
     rw (← path-of .ensures, ← walk-root .ensures, walked2 .given .1)
-
-same-length-3 : tie.Need-same-length-3
-same-length-3 c = search needs
 
 returns-3 : tie.Need-returns-3
 unfolding missedOf
@@ -86,17 +59,17 @@ pub missed-spec : {M : Type 1} → statement M
 missed-spec =
     tie.close
     (tie.spec
-    path-of-requires
-    sub-walk-root
-    walk-root-requires
-    enum-known-walked
+    (λ c κs. search needs)
+    (λ c. search needs)
+    (λ c κs. search needs)
+    (λ c. search needs)
     filled-requires
-    enum-known-walked-2
+    (λ c. search needs)
     enum-told
-    damaged-requires
-    same-length
+    (λ c κs. search needs)
+    (λ c. search needs)
     returns
-    same-length-2
+    (λ c. search needs)
     returns-2
-    same-length-3
+    (λ c. search needs)
     returns-3)

@@ -4,9 +4,6 @@ use borrow.Author.Needs.{needs}
 use Rattle.request.proofs.serves.Statement.{statement}
 use Rattle.request.proofs.serves.Tie as tie
 
-granted-requires : tie.Need-granted-requires
-granted-requires c κs = search needs
-
 returns : tie.Need-returns
 unfolding servesOf
 returns c =
@@ -19,4 +16,4 @@ unfolding servesOf
 returns-2 c = rw (ne-eqb _ _ (c .if1 .left))
 
 pub serves-spec : {M : Type 1} → statement M
-serves-spec = tie.close (tie.spec granted-requires returns returns-2)
+serves-spec = tie.close (tie.spec (λ c κs. search needs) returns returns-2)

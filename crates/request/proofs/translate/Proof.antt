@@ -8,27 +8,12 @@ use borrow.Author.Needs.{needs}
 use Rattle.request.proofs.translate.Statement.{statement}
 use Rattle.request.proofs.translate.Tie as tie
 
-plain-requires : tie.Need-plain-requires
-plain-requires c κs = search needs
-
-same-length : tie.Need-same-length
-same-length c = search needs
-
 returns : tie.Need-returns
 unfolding translateOf
 returns c =
     let if1 = c .before .before .if1 in
     let plain = c .plain in
     rw (lt-ltb _ _ (if1 .taken), plain .ensures)
-
-found-requires : tie.Need-found-requires
-found-requires c κs = search needs
-
-enum-known-page : tie.Need-enum-known-page
-enum-known-page c = search needs
-
-serves-requires : tie.Need-serves-requires
-serves-requires c κs = search needs
 
 serve-requires : tie.Need-serve-requires
 serve-requires c κs =
@@ -39,9 +24,6 @@ serve-requires c κs =
     let page = c .before .before .before .before .page in
     let at = rw (← found .ensures, page .given .1) at (found-is (config (args .s .layout)) (λ f. f < 1099511627776) (λ f g. omega (arith, g .1, pre .0)) (args .mem .now) (args .held) (args .q .address .0) (args .q .depth) (λ z. pre .1)) in
     (pre .0, if1 .left, at, omega arith)
-
-same-length-2 : tie.Need-same-length-2
-same-length-2 c = search needs
 
 returns-2 : tie.Need-returns-2
 unfolding translateOf
@@ -54,23 +36,8 @@ returns-2 c =
     let serve = c .serve in
     rw (le-ltb _ _ (if1 .left), ← found .ensures, page .given .1, ← serves .ensures, if2 .taken, serve .ensures)
 
-missed-requires : tie.Need-missed-requires
-missed-requires c κs = search needs
-
-enum-known-reads : tie.Need-enum-known-reads
-enum-known-reads c = search needs
-
-missed-requires-2 : tie.Need-missed-requires-2
-missed-requires-2 c κs = search needs
-
 enum-told : tie.Need-enum-told
 enum-told c = search needs
-
-damaged-requires : tie.Need-damaged-requires
-damaged-requires c κs = search needs
-
-same-length-3 : tie.Need-same-length-3
-same-length-3 c = search needs
 
 returns-3 : tie.Need-returns-3
 unfolding translateOf
@@ -83,9 +50,6 @@ returns-3 c =
     let missed = c .before .before .missed in
     rw (le-ltb _ _ (if1 .left), ← found .ensures, page .given .1, ← serves .ensures, if2 .left) (missed .ensures)
 
-same-length-4 : tie.Need-same-length-4
-same-length-4 c = search needs
-
 returns-4 : tie.Need-returns-4
 unfolding translateOf
 returns-4 c =
@@ -94,9 +58,6 @@ returns-4 c =
     let reads = c .before .before .before .before .before .reads in
     let missed2 = c .before .before .missed2 in
     rw (le-ltb _ _ (if1 .left), ← found .ensures, reads .given .1) (missed2 .ensures)
-
-same-length-5 : tie.Need-same-length-5
-same-length-5 c = search needs
 
 returns-5 : tie.Need-returns-5
 unfolding translateOf
@@ -111,23 +72,23 @@ pub translate-spec : {M : Type 1} → statement M
 translate-spec =
     tie.close
     (tie.spec
-    plain-requires
-    same-length
+    (λ c κs. search needs)
+    (λ c. search needs)
     returns
-    found-requires
-    enum-known-page
-    serves-requires
+    (λ c κs. search needs)
+    (λ c. search needs)
+    (λ c κs. search needs)
     serve-requires
-    same-length-2
+    (λ c. search needs)
     returns-2
-    missed-requires
-    enum-known-reads
-    missed-requires-2
+    (λ c κs. search needs)
+    (λ c. search needs)
+    (λ c κs. search needs)
     enum-told
-    damaged-requires
-    same-length-3
+    (λ c κs. search needs)
+    (λ c. search needs)
     returns-3
-    same-length-4
+    (λ c. search needs)
     returns-4
-    same-length-5
+    (λ c. search needs)
     returns-5)

@@ -6,9 +6,6 @@ use borrow.Author.Needs.{needs}
 use Rattle.request.proofs.written.Statement.{statement}
 use Rattle.request.proofs.written.Tie as tie
 
-put-word-requires : tie.Need-put-word-requires
-put-word-requires c κs = search needs
-
 add-t17 : tie.Need-add-t17
 add-t17 c =
     let args = c .before .before .before .before .before .before .before .before .before .args in
@@ -17,20 +14,11 @@ add-t17 c =
     let l = rw (← put-word .ensures) at (put-leaves (config (args .l)) (args .mem .now) (args .held .pool) (args .page .0) (wordOf (args .a)) (args .v) (pre .1)) in
     omega (arith, l .exits, pre)
 
-same-length : tie.Need-same-length
-same-length c = search needs
-
 returns : tie.Need-returns
 returns c =
     let put-word = c .before .before .before .before .before .before .put-word in
     let if1 = c .before .if1 in
     rw (← put-word .ensures, if1 .taken)
-
-refused-requires : tie.Need-refused-requires
-refused-requires c κs = search needs
-
-same-length-2 : tie.Need-same-length-2
-same-length-2 c = search needs
 
 returns-2 : tie.Need-returns-2
 returns-2 c =
@@ -40,13 +28,4 @@ returns-2 c =
     rw (← put-word .ensures, if1 .left, refused .ensures)
 
 pub written-spec : {M : Type 1} → statement M
-written-spec =
-    tie.close
-    (tie.spec
-    put-word-requires
-    add-t17
-    same-length
-    returns
-    refused-requires
-    same-length-2
-    returns-2)
+written-spec = tie.close (tie.spec (λ c κs. search needs) add-t17 (λ c. search needs) returns (λ c κs. search needs) (λ c. search needs) returns-2)

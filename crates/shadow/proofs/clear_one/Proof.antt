@@ -3,60 +3,24 @@ use borrow.Author.Needs.{needs}
 use Rattle.shadow.proofs.clear_one.Statement.{statement}
 use Rattle.shadow.proofs.clear_one.Tie as tie
 
-entry-at-requires : tie.Need-entry-at-requires
-entry-at-requires c κs = search needs
-
-kind-of-requires : tie.Need-kind-of-requires
-kind-of-requires c κs = search needs
-
 enum-told : tie.Need-enum-told
 enum-told c = search needs
-
-enum-told-2 : tie.Need-enum-told-2
-enum-told-2 c = search needs
-
-goes-requires : tie.Need-goes-requires
-goes-requires c κs = search needs
-
-put-entry-requires : tie.Need-put-entry-requires
-put-entry-requires c κs = search needs
-
-enum-known-t : tie.Need-enum-known-t
-enum-known-t c = search needs
-
-enum-told-3 : tie.Need-enum-told-3
-enum-told-3 c = search needs
-
-same-length : tie.Need-same-length
-same-length c = search needs
 
 returns : tie.Need-returns
 unfolding clearOne
 returns c = rw (← c .before .before .before .entry-at .ensures, ← c .before .before .kind-of .ensures, c .enum-told .given .1)
 
-same-length-2 : tie.Need-same-length-2
-same-length-2 c = search needs
-
 returns-2 : tie.Need-returns-2
 unfolding clearOne
 returns-2 c = rw (← c .before .before .before .before .before .before .before .before .before .before .entry-at .ensures, ← c .before .before .before .before .before .before .before .before .before .kind-of .ensures, c .before .before .before .before .before .before .before .enum-told2 .given .1, ← c .before .before .before .before .before .goes .ensures, c .before .before .before .before .if1 .taken, c .before .before .put-entry .ensures)
-
-same-length-3 : tie.Need-same-length-3
-same-length-3 c = search needs
 
 returns-3 : tie.Need-returns-3
 unfolding clearOne
 returns-3 c = rw (← c .before .before .before .before .before .before .entry-at .ensures, ← c .before .before .before .before .before .kind-of .ensures, c .before .before .before .enum-told2 .given .1, ← c .before .goes .ensures, c .if1 .left)
 
-same-length-4 : tie.Need-same-length-4
-same-length-4 c = search needs
-
 returns-4 : tie.Need-returns-4
 unfolding clearOne
 returns-4 c = rw (← c .before .before .before .before .entry-at .ensures, ← c .before .before .before .kind-of .ensures, c .before .t .given .1)
-
-same-length-5 : tie.Need-same-length-5
-same-length-5 c = search needs
 
 returns-5 : tie.Need-returns-5
 unfolding clearOne
@@ -66,21 +30,21 @@ pub clear-one-spec : {M : Type 1} → statement M
 clear-one-spec =
     tie.close
     (tie.spec
-    entry-at-requires
-    kind-of-requires
+    (λ c κs. search needs)
+    (λ c κs. search needs)
     enum-told
-    enum-told-2
-    goes-requires
-    put-entry-requires
-    enum-known-t
-    enum-told-3
-    same-length
+    (λ c. search needs)
+    (λ c κs. search needs)
+    (λ c κs. search needs)
+    (λ c. search needs)
+    (λ c. search needs)
+    (λ c. search needs)
     returns
-    same-length-2
+    (λ c. search needs)
     returns-2
-    same-length-3
+    (λ c. search needs)
     returns-3
-    same-length-4
+    (λ c. search needs)
     returns-4
-    same-length-5
+    (λ c. search needs)
     returns-5)

@@ -5,26 +5,8 @@ use borrow.Author.Needs.{needs}
 use Rattle.shadow.proofs.cut_at.Statement.{statement}
 use Rattle.shadow.proofs.cut_at.Tie as tie
 
-enum-known-cut : tie.Need-enum-known-cut
-enum-known-cut c = search needs
-
-guest-requires : tie.Need-guest-requires
-guest-requires c κs = search needs
-
-enum-known-cut-2 : tie.Need-enum-known-cut-2
-enum-known-cut-2 c = search needs
-
-guest-requires-2 : tie.Need-guest-requires-2
-guest-requires-2 c κs = search needs
-
 word-in-requires : tie.Need-word-in-requires
 word-in-requires c κs = let g = guest-small (c .before .before .before .before .before .args .mem .now) (c .before .before .before .before .before .args .f) in (omega (arith, c .guest2 .ensures), c .before .before .before .before .before .pre .1)
-
-frame-of-requires : tie.Need-frame-of-requires
-frame-of-requires c κs = search needs
-
-enum-known-cut-3 : tie.Need-enum-known-cut-3
-enum-known-cut-3 c = search needs
 
 returns : tie.Need-returns
 returns c = rw (c .before .before .before .before .cut .given .1, eq-eqb _ _ (c .before .before .if1 .taken), c .before .guest .ensures)
@@ -45,13 +27,13 @@ pub cut-at-spec : {M : Type 1} → statement M
 cut-at-spec =
     tie.close
     (tie.spec
-    enum-known-cut
-    guest-requires
-    enum-known-cut-2
-    guest-requires-2
+    (λ c. search needs)
+    (λ c κs. search needs)
+    (λ c. search needs)
+    (λ c κs. search needs)
     word-in-requires
-    frame-of-requires
-    enum-known-cut-3
+    (λ c κs. search needs)
+    (λ c. search needs)
     returns
     returns-2
     returns-3

@@ -6,35 +6,14 @@ use Rattle.shadow.proofs.Laws.{prefix-step, prefix-none}
 use Rattle.shadow.proofs.drop_prefix.Statement.{statement}
 use Rattle.shadow.proofs.drop_prefix.Tie as tie
 
-no-tables-requires : tie.Need-no-tables-requires
-no-tables-requires c κs = search needs
-
 returns : tie.Need-returns
 returns c =
     let args = c .before .before .before .args in
     let no-tables = c .no-tables in
     let z : args .k ≡ 0 = omega arith in rw (z, prefix-none, no-tables .ensures)
 
-holder-requires : tie.Need-holder-requires
-holder-requires c κs = search needs
-
-enum-known-f : tie.Need-enum-known-f
-enum-known-f c = search needs
-
-index-at-requires : tie.Need-index-at-requires
-index-at-requires c κs = search needs
-
-scan-requires : tie.Need-scan-requires
-scan-requires c κs = search needs
-
 enum-told : tie.Need-enum-told
 enum-told c = search needs
-
-enum-told-2 : tie.Need-enum-told-2
-enum-told-2 c = search needs
-
-same-length : tie.Need-same-length
-same-length c = search needs
 
 returns-2 : tie.Need-returns-2
 returns-2 c =
@@ -45,18 +24,12 @@ returns-2 c =
     let scan = c .before .before .scan in
     rw (prefix-step (config (args .l)) (args .p) (args .mem .now) (args .path) (args .k) (omega arith), ← holder .ensures, f .given .1, ← index-at .ensures) (scan .ensures)
 
-same-length-2 : tie.Need-same-length-2
-same-length-2 c = search needs
-
 returns-3 : tie.Need-returns-3
 returns-3 c =
     let args = c .before .before .before .before .before .before .args in
     let holder = c .before .before .holder in
     let enum-told = c .enum-told in
     rw (prefix-step (config (args .l)) (args .p) (args .mem .now) (args .path) (args .k) (omega arith), ← holder .ensures, enum-told .given .1)
-
-same-length-3 : tie.Need-same-length-3
-same-length-3 c = search needs
 
 returns-4 : tie.Need-returns-4
 returns-4 c =
@@ -69,17 +42,17 @@ pub drop-prefix-spec : {M : Type 1} → statement M
 drop-prefix-spec =
     tie.close
     (tie.spec
-    no-tables-requires
+    (λ c κs. search needs)
     returns
-    holder-requires
-    enum-known-f
-    index-at-requires
-    scan-requires
+    (λ c κs. search needs)
+    (λ c. search needs)
+    (λ c κs. search needs)
+    (λ c κs. search needs)
     enum-told
-    enum-told-2
-    same-length
+    (λ c. search needs)
+    (λ c. search needs)
     returns-2
-    same-length-2
+    (λ c. search needs)
     returns-3
-    same-length-3
+    (λ c. search needs)
     returns-4)

@@ -5,17 +5,8 @@ use borrow.Author.Needs.{needs}
 use Rattle.shadow.proofs.entry_for.Statement.{statement}
 use Rattle.shadow.proofs.entry_for.Tie as tie
 
-mul-result : tie.Need-mul-result
-mul-result c = search needs
-
-bit-if-requires : tie.Need-bit-if-requires
-bit-if-requires c κs = search needs
-
 add-result : tie.Need-add-result
 add-result c = let s = bit-small (c .before .before .args .switch) 512 in omega (arith, c .bit-if .ensures, c .before .before .pre)
-
-bit-if-requires-2 : tie.Need-bit-if-requires-2
-bit-if-requires-2 c κs = search needs
 
 add-result-2 : tie.Need-add-result-2
 add-result-2 c = let s = bit-small (c .before .before .before .args .switch) 512 in let w = bit-small (c .before .before .before .args .writable) 2 in omega (arith, c .before .bit-if .ensures, c .bit-if2 .ensures, c .before .before .before .pre)
@@ -28,13 +19,4 @@ unfolding entryFor
 returns c = rw (← c .before .bit-if .ensures, ← c .bit-if2 .ensures)
 
 pub entry-for-spec : {M : Type 1} → statement M
-entry-for-spec =
-    tie.close
-    (tie.spec
-    mul-result
-    bit-if-requires
-    add-result
-    bit-if-requires-2
-    add-result-2
-    add-result-3
-    returns)
+entry-for-spec = tie.close (tie.spec (λ c. search needs) (λ c κs. search needs) add-result (λ c κs. search needs) add-result-2 add-result-3 returns)

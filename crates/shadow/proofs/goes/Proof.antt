@@ -3,9 +3,6 @@ use borrow.Author.Needs.{needs}
 use Rattle.shadow.proofs.goes.Statement.{statement}
 use Rattle.shadow.proofs.goes.Tie as tie
 
-cut-at-requires : tie.Need-cut-at-requires
-cut-at-requires c κs = search needs
-
 returns : tie.Need-returns
 unfolding goesOf
 returns c = rw (c .if1 .taken)
@@ -15,4 +12,4 @@ unfolding goesOf
 returns-2 c = rw (c .before .if1 .left) (c .cut-at .ensures)
 
 pub goes-spec : {M : Type 1} → statement M
-goes-spec = tie.close (tie.spec cut-at-requires returns returns-2)
+goes-spec = tie.close (tie.spec (λ c κs. search needs) returns returns-2)

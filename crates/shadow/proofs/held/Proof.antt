@@ -3,15 +3,6 @@ use borrow.Author.Needs.{needs}
 use Rattle.shadow.proofs.held.Statement.{statement}
 use Rattle.shadow.proofs.held.Tie as tie
 
-lookup-requires : tie.Need-lookup-requires
-lookup-requires c κs = search needs
-
-enum-known-entry : tie.Need-enum-known-entry
-enum-known-entry c = search needs
-
-leaf-requires : tie.Need-leaf-requires
-leaf-requires c κs = search needs
-
 enum-told : tie.Need-enum-told
 enum-told c = search needs
 
@@ -31,5 +22,4 @@ returns-2 c =
     rw (← lookup .ensures, enum-told .given .1)
 
 pub held-spec : {M : Type 1} → statement M
-held-spec =
-    tie.close (tie.spec lookup-requires enum-known-entry leaf-requires enum-told returns returns-2)
+held-spec = tie.close (tie.spec (λ c κs. search needs) (λ c. search needs) (λ c κs. search needs) enum-told returns returns-2)

@@ -3,9 +3,6 @@ use borrow.Author.Needs.{needs}
 use Rattle.shadow.proofs.is_leaf.Statement.{statement}
 use Rattle.shadow.proofs.is_leaf.Tie as tie
 
-switch-requires : tie.Need-switch-requires
-switch-requires c κs = search needs
-
 returns : tie.Need-returns
 unfolding isLeaf
 returns c = rw (c .if1 .taken)
@@ -15,4 +12,4 @@ unfolding isLeaf
 returns-2 c = rw (c .before .if1 .left) (c .switch .ensures)
 
 pub is-leaf-spec : {M : Type 1} → statement M
-is-leaf-spec = tie.close (tie.spec switch-requires returns returns-2)
+is-leaf-spec = tie.close (tie.spec (λ c κs. search needs) returns returns-2)

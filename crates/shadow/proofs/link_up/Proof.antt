@@ -5,15 +5,6 @@ use borrow.Author.Needs.{needs}
 use Rattle.shadow.proofs.link_up.Statement.{statement}
 use Rattle.shadow.proofs.link_up.Tie as tie
 
-parent-requires : tie.Need-parent-requires
-parent-requires c κs = search needs
-
-inside-requires : tie.Need-inside-requires
-inside-requires c κs = search needs
-
-slot-requires : tie.Need-slot-requires
-slot-requires c κs = search needs
-
 cut-at-requires : tie.Need-cut-at-requires
 cut-at-requires c κs = let p = parent-small (c .before .before .before .before .before .args .mem .now) (c .before .before .before .before .before .args .f) in let s = slot-small (c .before .before .before .before .before .args .mem .now) (c .before .before .before .before .before .args .f) in (omega (arith, c .before .before .before .parent .ensures), omega (arith, c .slot .ensures))
 
@@ -30,13 +21,4 @@ unfolding aboveOf
 returns-3 c = rw (← c .before .before .parent .ensures, ← c .before .inside .ensures, c .if1 .left)
 
 pub link-up-spec : {M : Type 1} → statement M
-link-up-spec =
-    tie.close
-    (tie.spec
-    parent-requires
-    inside-requires
-    slot-requires
-    cut-at-requires
-    returns
-    returns-2
-    returns-3)
+link-up-spec = tie.close (tie.spec (λ c κs. search needs) (λ c κs. search needs) (λ c κs. search needs) cut-at-requires returns returns-2 returns-3)

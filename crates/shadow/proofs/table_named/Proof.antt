@@ -3,20 +3,8 @@ use borrow.Author.Needs.{needs}
 use Rattle.shadow.proofs.table_named.Statement.{statement}
 use Rattle.shadow.proofs.table_named.Tie as tie
 
-kind-of-requires : tie.Need-kind-of-requires
-kind-of-requires c κs = search needs
-
 enum-told : tie.Need-enum-told
 enum-told c = search needs
-
-enum-told-2 : tie.Need-enum-told-2
-enum-told-2 c = search needs
-
-enum-known-f : tie.Need-enum-known-f
-enum-known-f c = search needs
-
-enum-told-3 : tie.Need-enum-told-3
-enum-told-3 c = search needs
 
 returns : tie.Need-returns
 unfolding tableNamed
@@ -38,11 +26,11 @@ pub table-named-spec : {M : Type 1} → statement M
 table-named-spec =
     tie.close
     (tie.spec
-    kind-of-requires
+    (λ c κs. search needs)
     enum-told
-    enum-told-2
-    enum-known-f
-    enum-told-3
+    (λ c. search needs)
+    (λ c. search needs)
+    (λ c. search needs)
     returns
     returns-2
     returns-3

@@ -6,69 +6,27 @@ use borrow.Author.Needs.{needs}
 use Rattle.shadow.proofs.visit.Statement.{statement}
 use Rattle.shadow.proofs.visit.Tie as tie
 
-level-requires : tie.Need-level-requires
-level-requires c κs = search needs
-
-same-length : tie.Need-same-length
-same-length c = search needs
-
 returns : tie.Need-returns
 unfolding visitOf
 returns c = rw (← c .before .level .ensures, eq-eqb _ _ (c .if1 .taken))
 
-links-requires : tie.Need-links-requires
-links-requires c κs = search needs
-
-links-up-requires : tie.Need-links-up-requires
-links-up-requires c κs = search needs
-
 enum-told : tie.Need-enum-told
 enum-told c = search needs
 
-sweep-requires : tie.Need-sweep-requires
-sweep-requires c κs = search needs
-
-enum-known-t : tie.Need-enum-known-t
-enum-known-t c = search needs
-
-touches-requires : tie.Need-touches-requires
-touches-requires c κs = search needs
-
-low-requires : tie.Need-low-requires
-low-requires c κs = search needs
-
-end-requires : tie.Need-end-requires
-end-requires c κs = search needs
-
 sweep-requires-2 : tie.Need-sweep-requires-2
 sweep-requires-2 c κs = let r = range-fits (c .before .before .before .before .before .before .before .before .before .before .before .before .before .before .before .before .args .cut) in (c .before .before .before .before .before .before .before .before .before .before .before .before .before .before .before .before .pre .0, c .before .before .before .before .before .before .before .before .before .before .before .before .before .before .before .before .pre .1, omega (arith, r .1, c .end .ensures), omega (arith, r .0, c .before .low .ensures, c .end .ensures))
-
-enum-told-2 : tie.Need-enum-told-2
-enum-told-2 c = search needs
-
-same-length-2 : tie.Need-same-length-2
-same-length-2 c = search needs
 
 returns-2 : tie.Need-returns-2
 unfolding visitOf
 returns-2 c = rw (← c .before .before .before .before .before .before .before .before .before .before .level .ensures, ne-eqb _ _ (c .before .before .before .before .before .before .before .before .before .if1 .left), ← c .before .before .before .before .before .before .before .links .ensures, ← c .before .before .before .before .before .before .links-up .ensures, c .before .before .before .before .enum-told .given .1) (c .before .before .sweep .ensures)
 
-same-length-3 : tie.Need-same-length-3
-same-length-3 c = search needs
-
 returns-3 : tie.Need-returns-3
 unfolding visitOf
 returns-3 c = rw (← c .before .before .before .before .before .before .before .before .before .before .before .before .before .before .before .before .level .ensures, ne-eqb _ _ (c .before .before .before .before .before .before .before .before .before .before .before .before .before .before .before .if1 .left), ← c .before .before .before .before .before .before .before .before .before .before .before .before .before .links .ensures, ← c .before .before .before .before .before .before .before .before .before .before .before .before .links-up .ensures, c .before .before .before .before .before .before .before .before .before .before .t .given .1, ← c .before .before .before .before .before .before .before .touches .ensures, c .before .before .before .before .before .before .if2 .taken, ← c .before .before .before .before .low .ensures, ← c .before .before .before .end .ensures) (c .before .before .sweep2 .ensures)
 
-same-length-4 : tie.Need-same-length-4
-same-length-4 c = search needs
-
 returns-4 : tie.Need-returns-4
 unfolding visitOf
 returns-4 c = rw (← c .before .before .before .before .before .before .before .before .before .before .level .ensures, ne-eqb _ _ (c .before .before .before .before .before .before .before .before .before .if1 .left), ← c .before .before .before .before .before .before .before .links .ensures, ← c .before .before .before .before .before .before .links-up .ensures, c .before .before .before .before .t .given .1, ← c .before .touches .ensures, c .if2 .left)
-
-same-length-5 : tie.Need-same-length-5
-same-length-5 c = search needs
 
 returns-5 : tie.Need-returns-5
 unfolding visitOf
@@ -78,24 +36,24 @@ pub visit-spec : {M : Type 1} → statement M
 visit-spec =
     tie.close
     (tie.spec
-    level-requires
-    same-length
+    (λ c κs. search needs)
+    (λ c. search needs)
     returns
-    links-requires
-    links-up-requires
+    (λ c κs. search needs)
+    (λ c κs. search needs)
     enum-told
-    sweep-requires
-    enum-known-t
-    touches-requires
-    low-requires
-    end-requires
+    (λ c κs. search needs)
+    (λ c. search needs)
+    (λ c κs. search needs)
+    (λ c κs. search needs)
+    (λ c κs. search needs)
     sweep-requires-2
-    enum-told-2
-    same-length-2
+    (λ c. search needs)
+    (λ c. search needs)
     returns-2
-    same-length-3
+    (λ c. search needs)
     returns-3
-    same-length-4
+    (λ c. search needs)
     returns-4
-    same-length-5
+    (λ c. search needs)
     returns-5)

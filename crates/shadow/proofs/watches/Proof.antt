@@ -4,12 +4,6 @@ use borrow.Author.Needs.{needs}
 use Rattle.shadow.proofs.watches.Statement.{statement}
 use Rattle.shadow.proofs.watches.Tie as tie
 
-level-requires : tie.Need-level-requires
-level-requires c κs = search needs
-
-guest-requires : tie.Need-guest-requires
-guest-requires c κs = search needs
-
 returns : tie.Need-returns
 unfolding watchesOf
 returns c = rw (← c .before .level .ensures, eq-eqb _ _ (c .if1 .taken))
@@ -19,4 +13,4 @@ unfolding watchesOf
 returns-2 c = rw (← c .before .before .level .ensures, ne-eqb _ _ (c .before .if1 .left), ← c .guest .ensures)
 
 pub watches-spec : {M : Type 1} → statement M
-watches-spec = tie.close (tie.spec level-requires guest-requires returns returns-2)
+watches-spec = tie.close (tie.spec (λ c κs. search needs) (λ c κs. search needs) returns returns-2)

@@ -11,11 +11,5 @@ slice-aggregate-result c =
     let e : a .len ≡ length (take (a .len) (a .buf .now)) = omega (arith, length-take (a .len) (a .buf .now)) in
     e
 
-returns : tie.Need-returns
-returns c = search needs
-
-returns-2 : tie.Need-returns-2
-returns-2 c = search needs
-
 pub part-spec : {M : Type 1} → statement M
-part-spec = tie.close (tie.spec slice-aggregate-result returns returns-2)
+part-spec = tie.close (tie.spec slice-aggregate-result (λ c. search needs) (λ c. search needs))

@@ -2,9 +2,6 @@ use borrow.Author.Needs.{needs}
 use Rattle.unit.proofs.address_ok.Statement.{statement}
 use Rattle.unit.proofs.address_ok.Tie as tie
 
-fits-requires : tie.Need-fits-requires
-fits-requires c κs = search needs
-
 returns : tie.Need-returns
 returns c =
     let fits2 = c .before .before .fits2 in
@@ -18,4 +15,4 @@ returns-2 c =
     rw (← fits2 .ensures, if1 .left)
 
 pub address-ok-spec : {M : Type 1} → statement M
-address-ok-spec = tie.close (tie.spec fits-requires returns returns-2)
+address-ok-spec = tie.close (tie.spec (λ c κs. search needs) returns returns-2)

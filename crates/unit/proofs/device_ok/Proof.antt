@@ -7,15 +7,6 @@ use borrow.Author.Needs.{needs}
 use Rattle.unit.proofs.device_ok.Statement.{statement}
 use Rattle.unit.proofs.device_ok.Tie as tie
 
-frame-bits-requires : tie.Need-frame-bits-requires
-frame-bits-requires c κs = search needs
-
-add-if1 : tie.Need-add-if1
-add-if1 c = search needs
-
-shr-if1 : tie.Need-shr-if1
-shr-if1 c = search needs
-
 returns : tie.Need-returns
 returns c =
     let args = c .before .before .args in
@@ -31,4 +22,4 @@ returns-2 c =
     rw (← shift-out (args .a) (12 + frameBits (ofLevels (args .levels))), ne-eqb _ _ (rw (frame-bits .ensures) at (if1 .left)))
 
 pub device-ok-spec : {M : Type 1} → statement M
-device-ok-spec = tie.close (tie.spec frame-bits-requires add-if1 shr-if1 returns returns-2)
+device-ok-spec = tie.close (tie.spec (λ c κs. search needs) (λ c. search needs) (λ c. search needs) returns returns-2)

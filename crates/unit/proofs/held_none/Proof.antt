@@ -2,11 +2,8 @@ use borrow.Author.Needs.{needs}
 use Rattle.unit.proofs.held_none.Statement.{statement}
 use Rattle.unit.proofs.held_none.Tie as tie
 
-no-tables-requires : tie.Need-no-tables-requires
-no-tables-requires c κs = search needs
-
 returns : tie.Need-returns
 returns c = rw (c .no-tables .ensures)
 
 pub held-none-spec : {M : Type 1} → statement M
-held-none-spec = tie.close (tie.spec no-tables-requires returns)
+held-none-spec = tie.close (tie.spec (λ c κs. search needs) returns)

@@ -2,18 +2,6 @@ use borrow.Author.Needs.{needs}
 use Rattle.unit.proofs.load_root.Statement.{statement}
 use Rattle.unit.proofs.load_root.Tie as tie
 
-head-requires : tie.Need-head-requires
-head-requires c κs = search needs
-
-root-at-requires : tie.Need-root-at-requires
-root-at-requires c κs = search needs
-
-turned-requires : tie.Need-turned-requires
-turned-requires c κs = search needs
-
-same-length : tie.Need-same-length
-same-length c = search needs
-
 returns : tie.Need-returns
 returns c =
     let head = c .before .before .before .before .before .head in
@@ -22,5 +10,4 @@ returns c =
     rw (turned .ensures) (rw (head .ensures) at (root-at .ensures))
 
 pub load-root-spec : {M : Type 1} → statement M
-load-root-spec =
-    tie.close (tie.spec head-requires root-at-requires turned-requires same-length returns)
+load-root-spec = tie.close (tie.spec (λ c κs. search needs) (λ c κs. search needs) (λ c κs. search needs) (λ c. search needs) returns)

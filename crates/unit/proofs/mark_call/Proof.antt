@@ -6,12 +6,6 @@ use borrow.Author.Needs.{needs}
 use Rattle.unit.proofs.mark_call.Statement.{statement}
 use Rattle.unit.proofs.mark_call.Tie as tie
 
-fits-requires : tie.Need-fits-requires
-fits-requires c κs = search needs
-
-refused-requires : tie.Need-refused-requires
-refused-requires c κs = search needs
-
 returns : tie.Need-returns
 returns c =
     let args = c .before .before .before .before .args in
@@ -26,9 +20,6 @@ mark-refusal-requires c κs =
     let fits2 = c .before .before .before .fits2 in
     let if1 = c .before .before .if1 in
     fits-levels (args .t1) _ (sym (fits2 .ensures) ∙ not-false (fits2 .result) (if1 .left))
-
-refused-requires-2 : tie.Need-refused-requires-2
-refused-requires-2 c κs = search needs
 
 returns-2 : tie.Need-returns-2
 returns-2 c =
@@ -48,9 +39,6 @@ key-of-requires c κs =
     let if2 = c .before .if2 in
     mark-level (args .t1) (args .a) (args .level) (fits-levels (args .t1) _ (sym (fits2 .ensures) ∙ not-false (fits2 .result) (if1 .left))) (args .setting) (sym (mark-refusal .ensures) ∙ if2 .left)
 
-marks-after-requires : tie.Need-marks-after-requires
-marks-after-requires c κs = search needs
-
 marked-requires : tie.Need-marked-requires
 marked-requires c κs =
     let args = c .before .before .before .before .before .before .before .before .before .before .before .args in
@@ -59,9 +47,6 @@ marked-requires c κs =
     let mark-refusal = c .before .before .before .before .before .mark-refusal in
     let if2 = c .before .before .before .before .if2 in
     (fits-sound (args .t1) _ (sym (fits2 .ensures) ∙ not-false (fits2 .result) (if1 .left)), mark-level (args .t1) (args .a) (args .level) (fits-levels (args .t1) _ (sym (fits2 .ensures) ∙ not-false (fits2 .result) (if1 .left))) (args .setting) (sym (mark-refusal .ensures) ∙ if2 .left))
-
-same-length : tie.Need-same-length
-same-length c = search needs
 
 returns-3 : tie.Need-returns-3
 returns-3 c =
@@ -78,14 +63,14 @@ pub mark-call-spec : {M : Type 1} → statement M
 mark-call-spec =
     tie.close
     (tie.spec
-    fits-requires
-    refused-requires
+    (λ c κs. search needs)
+    (λ c κs. search needs)
     returns
     mark-refusal-requires
-    refused-requires-2
+    (λ c κs. search needs)
     returns-2
     key-of-requires
-    marks-after-requires
+    (λ c κs. search needs)
     marked-requires
-    same-length
+    (λ c. search needs)
     returns-3)

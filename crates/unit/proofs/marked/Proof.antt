@@ -5,29 +5,11 @@ use borrow.Author.Needs.{needs}
 use Rattle.unit.proofs.marked.Statement.{statement}
 use Rattle.unit.proofs.marked.Tie as tie
 
-links-requires : tie.Need-links-requires
-links-requires c κs = search needs
-
-page-requires : tie.Need-page-requires
-page-requires c κs = search needs
-
-mul-drop-prefix : tie.Need-mul-drop-prefix
-mul-drop-prefix c = search needs
-
-shr-drop-prefix : tie.Need-shr-drop-prefix
-shr-drop-prefix c = search needs
-
 drop-prefix-requires : tie.Need-drop-prefix-requires
 drop-prefix-requires c κs =
     let pre = c .before .before .before .before .before .pre in
     let links = c .before .before .links in
     (pre .0 .0, pre .0 .1, rw (links .ensures) (omega arith))
-
-refused-requires : tie.Need-refused-requires
-refused-requires c κs = search needs
-
-same-length : tie.Need-same-length
-same-length c = search needs
 
 returns : tie.Need-returns
 unfolding markedOf
@@ -38,15 +20,6 @@ returns c =
     let if1 = c .before .if1 in
     let refused = c .refused in
     rw (← (rw (page .ensures, links .ensures) at (drop-prefix .ensures)), not-true (drop-prefix .result .ok) (if1 .taken), refused .ensures)
-
-held-after-requires : tie.Need-held-after-requires
-held-after-requires c κs = search needs
-
-with-marks-requires : tie.Need-with-marks-requires
-with-marks-requires c κs = search needs
-
-same-length-2 : tie.Need-same-length-2
-same-length-2 c = search needs
 
 returns-2 : tie.Need-returns-2
 unfolding markedOf
@@ -63,15 +36,15 @@ pub marked-spec : {M : Type 1} → statement M
 marked-spec =
     tie.close
     (tie.spec
-    links-requires
-    page-requires
-    mul-drop-prefix
-    shr-drop-prefix
+    (λ c κs. search needs)
+    (λ c κs. search needs)
+    (λ c. search needs)
+    (λ c. search needs)
     drop-prefix-requires
-    refused-requires
-    same-length
+    (λ c κs. search needs)
+    (λ c. search needs)
     returns
-    held-after-requires
-    with-marks-requires
-    same-length-2
+    (λ c κs. search needs)
+    (λ c κs. search needs)
+    (λ c. search needs)
     returns-2)

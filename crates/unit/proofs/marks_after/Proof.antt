@@ -2,12 +2,6 @@ use borrow.Author.Needs.{needs}
 use Rattle.unit.proofs.marks_after.Statement.{statement}
 use Rattle.unit.proofs.marks_after.Tie as tie
 
-with-key-requires : tie.Need-with-key-requires
-with-key-requires c κs = search needs
-
-without-key-requires : tie.Need-without-key-requires
-without-key-requires c κs = search needs
-
 returns : tie.Need-returns
 returns c =
     let if1 = c .before .if1 in
@@ -21,4 +15,4 @@ returns-2 c =
     rw (if1 .left) (without-key .ensures)
 
 pub marks-after-spec : {M : Type 1} → statement M
-marks-after-spec = tie.close (tie.spec with-key-requires without-key-requires returns returns-2)
+marks-after-spec = tie.close (tie.spec (λ c κs. search needs) (λ c κs. search needs) returns returns-2)

@@ -4,15 +4,6 @@ use borrow.Author.Needs.{needs}
 use Rattle.unit.proofs.remapped.Statement.{statement}
 use Rattle.unit.proofs.remapped.Tie as tie
 
-with-host-requires : tie.Need-with-host-requires
-with-host-requires c κs = search needs
-
-held-none-requires : tie.Need-held-none-requires
-held-none-requires c κs = search needs
-
-with-held-requires : tie.Need-with-held-requires
-with-held-requires c κs = search needs
-
 returns : tie.Need-returns
 unfolding unmappedOf
 returns c =
@@ -25,12 +16,6 @@ returns c =
 drop-mapping-requires : tie.Need-drop-mapping-requires
 drop-mapping-requires c κs = c .before .before .before .before .before .before .pre
 
-refused-in-requires : tie.Need-refused-in-requires
-refused-in-requires c κs = search needs
-
-same-length : tie.Need-same-length
-same-length c = search needs
-
 returns-2 : tie.Need-returns-2
 unfolding unmappedOf
 returns-2 c =
@@ -39,12 +24,6 @@ returns-2 c =
     let if2 = c .before .if2 in
     let refused-in = c .refused-in in
     rw (ne-eqb _ _ (if1 .left), ← drop-mapping .ensures, not-true (drop-mapping .result .ok) (if2 .taken), refused-in .ensures)
-
-with-held-requires-2 : tie.Need-with-held-requires-2
-with-held-requires-2 c κs = search needs
-
-same-length-2 : tie.Need-same-length-2
-same-length-2 c = search needs
 
 returns-3 : tie.Need-returns-3
 unfolding unmappedOf
@@ -60,14 +39,14 @@ pub remapped-spec : {M : Type 1} → statement M
 remapped-spec =
     tie.close
     (tie.spec
-    with-host-requires
-    held-none-requires
-    with-held-requires
+    (λ c κs. search needs)
+    (λ c κs. search needs)
+    (λ c κs. search needs)
     returns
     drop-mapping-requires
-    refused-in-requires
-    same-length
+    (λ c κs. search needs)
+    (λ c. search needs)
     returns-2
-    with-held-requires-2
-    same-length-2
+    (λ c κs. search needs)
+    (λ c. search needs)
     returns-3)

@@ -8,12 +8,6 @@ use borrow.Author.Needs.{needs}
 use Rattle.unit.proofs.root_at.Statement.{statement}
 use Rattle.unit.proofs.root_at.Tie as tie
 
-fits-requires : tie.Need-fits-requires
-fits-requires c κs = search needs
-
-refused-in-requires : tie.Need-refused-in-requires
-refused-in-requires c κs = search needs
-
 returns : tie.Need-returns
 unfolding rootCall
 returns c =
@@ -30,9 +24,6 @@ frame-fits-requires c κs =
     let if1 = c .if1 in
     fits-sound (recordBy (args .head) (args .place .now)) _ (sym (fits2 .ensures) ∙ not-false (fits2 .result) (if1 .left)) .0
 
-refused-in-requires-2 : tie.Need-refused-in-requires-2
-refused-in-requires-2 c κs = search needs
-
 returns-2 : tie.Need-returns-2
 unfolding rootCall
 returns-2 c =
@@ -43,15 +34,6 @@ returns-2 c =
     let if2 = c .before .if2 in
     let refused-in2 = c .refused-in2 in
     rw (refused-in2 .ensures) (failed (recordBy (args .head) (args .place .now)) (args .mem .now) _ _ _ (sym (fits2 .ensures) ∙ not-false (fits2 .result) (if1 .left)) (sym (frame-fits .ensures) ∙ not-true (frame-fits .result) (if2 .taken)))
-
-held-none-requires : tie.Need-held-none-requires
-held-none-requires c κs = search needs
-
-with-held-requires : tie.Need-with-held-requires
-with-held-requires c κs = search needs
-
-with-root-requires : tie.Need-with-root-requires
-with-root-requires c κs = search needs
 
 returns-3 : tie.Need-returns-3
 unfolding rootCall
@@ -70,13 +52,13 @@ pub root-at-spec : {M : Type 1} → statement M
 root-at-spec =
     tie.close
     (tie.spec
-    fits-requires
-    refused-in-requires
+    (λ c κs. search needs)
+    (λ c κs. search needs)
     returns
     frame-fits-requires
-    refused-in-requires-2
+    (λ c κs. search needs)
     returns-2
-    held-none-requires
-    with-held-requires
-    with-root-requires
+    (λ c κs. search needs)
+    (λ c κs. search needs)
+    (λ c κs. search needs)
     returns-3)

@@ -2,15 +2,6 @@ use borrow.Author.Needs.{needs}
 use Rattle.unit.proofs.served.Statement.{statement}
 use Rattle.unit.proofs.served.Tie as tie
 
-head-requires : tie.Need-head-requires
-head-requires c κs = search needs
-
-with-held-requires : tie.Need-with-held-requires
-with-held-requires c κs = search needs
-
-with-head-requires : tie.Need-with-head-requires
-with-head-requires c κs = search needs
-
 returns : tie.Need-returns
 returns c =
     let head = c .before .before .head in
@@ -19,4 +10,4 @@ returns c =
     rw (with-head .ensures, with-held .ensures, head .ensures)
 
 pub served-spec : {M : Type 1} → statement M
-served-spec = tie.close (tie.spec head-requires with-held-requires with-head-requires returns)
+served-spec = tie.close (tie.spec (λ c κs. search needs) (λ c κs. search needs) (λ c κs. search needs) returns)

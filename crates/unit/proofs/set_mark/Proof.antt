@@ -3,15 +3,9 @@ use borrow.Author.Needs.{needs}
 use Rattle.unit.proofs.set_mark.Statement.{statement}
 use Rattle.unit.proofs.set_mark.Tie as tie
 
-mark-call-requires : tie.Need-mark-call-requires
-mark-call-requires c κs = search needs
-
-same-length : tie.Need-same-length
-same-length c = search needs
-
 returns : tie.Need-returns
 unfolding setMarkCall
 returns c = c .before .before .mark-call .ensures
 
 pub set-mark-spec : {M : Type 1} → statement M
-set-mark-spec = tie.close (tie.spec mark-call-requires same-length returns)
+set-mark-spec = tie.close (tie.spec (λ c κs. search needs) (λ c. search needs) returns)

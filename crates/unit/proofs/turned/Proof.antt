@@ -2,11 +2,8 @@ use borrow.Author.Needs.{needs}
 use Rattle.unit.proofs.turned.Statement.{statement}
 use Rattle.unit.proofs.turned.Tie as tie
 
-with-head-requires : tie.Need-with-head-requires
-with-head-requires c κs = search needs
-
 returns : tie.Need-returns
 returns c = rw (c .with-head .ensures)
 
 pub turned-spec : {M : Type 1} → statement M
-turned-spec = tie.close (tie.spec with-head-requires returns)
+turned-spec = tie.close (tie.spec (λ c κs. search needs) returns)

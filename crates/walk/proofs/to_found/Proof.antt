@@ -3,12 +3,6 @@ use borrow.Author.Needs.{needs}
 use Rattle.walk.proofs.to_found.Statement.{statement}
 use Rattle.walk.proofs.to_found.Tie as tie
 
-granted-requires : tie.Need-granted-requires
-granted-requires c κs = search needs
-
-both-requires : tie.Need-both-requires
-both-requires c κs = search needs
-
 returns : tie.Need-returns
 unfolding foundOf
 returns c = rw (← c .before .before .granted .ensures, c .before .if1 .taken, ← c .both .ensures)
@@ -18,4 +12,4 @@ unfolding foundOf
 returns-2 c = rw (← c .before .granted .ensures, c .if1 .left)
 
 pub to-found-spec : {M : Type 1} → statement M
-to-found-spec = tie.close (tie.spec granted-requires both-requires returns returns-2)
+to-found-spec = tie.close (tie.spec (λ c κs. search needs) (λ c κs. search needs) returns returns-2)

@@ -4,12 +4,6 @@ use borrow.Author.Needs.{needs}
 use Rattle.walk.proofs.to_frame.Statement.{statement}
 use Rattle.walk.proofs.to_frame.Tie as tie
 
-to-page-requires : tie.Need-to-page-requires
-to-page-requires c κs = search needs
-
-to-table-requires : tie.Need-to-table-requires
-to-table-requires c κs = search needs
-
 returns : tie.Need-returns
 returns c = rw (eq-eqb _ _ (c .before .if1 .taken)) (c .to-page .ensures)
 
@@ -18,4 +12,4 @@ unfolding next
 returns-2 c = rw (ne-eqb _ _ (c .before .if1 .left)) (c .to-table .ensures)
 
 pub to-frame-spec : {M : Type 1} → statement M
-to-frame-spec = tie.close (tie.spec to-page-requires to-table-requires returns returns-2)
+to-frame-spec = tie.close (tie.spec (λ c κs. search needs) (λ c κs. search needs) returns returns-2)

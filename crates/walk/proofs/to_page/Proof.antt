@@ -6,24 +6,6 @@ use borrow.Author.Needs.{needs}
 use Rattle.walk.proofs.to_page.Statement.{statement}
 use Rattle.walk.proofs.to_page.Tie as tie
 
-granted-requires : tie.Need-granted-requires
-granted-requires c κs = search needs
-
-host-walk-requires : tie.Need-host-walk-requires
-host-walk-requires c κs = search needs
-
-enum-known-page : tie.Need-enum-known-page
-enum-known-page c = search needs
-
-add-to-found : tie.Need-add-to-found
-add-to-found c = search needs
-
-to-found-requires : tie.Need-to-found-requires
-to-found-requires c κs = search needs
-
-enum-known-reads : tie.Need-enum-known-reads
-enum-known-reads c = search needs
-
 add-t16 : tie.Need-add-t16
 add-t16 c =
     let good = rw (← c .before .before .before .host-walk .ensures, c .before .reads .given .1) at (host-fits (config (c .before .before .before .before .before .before .before .args .s .layout)) (c .before .before .before .before .before .before .before .args .s .top) (c .before .before .before .before .before .before .before .args .mem .now) (c .before .before .before .before .before .before .before .args .g .0)) in
@@ -48,12 +30,12 @@ pub to-page-spec : {M : Type 1} → statement M
 to-page-spec =
     tie.close
     (tie.spec
-    granted-requires
-    host-walk-requires
-    enum-known-page
-    add-to-found
-    to-found-requires
-    enum-known-reads
+    (λ c κs. search needs)
+    (λ c κs. search needs)
+    (λ c. search needs)
+    (λ c. search needs)
+    (λ c κs. search needs)
+    (λ c. search needs)
     add-t16
     enum-told
     returns

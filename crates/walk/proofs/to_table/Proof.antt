@@ -7,18 +7,6 @@ use borrow.Author.Needs.{needs}
 use Rattle.walk.proofs.to_table.Statement.{statement}
 use Rattle.walk.proofs.to_table.Tie as tie
 
-host-walk-requires : tie.Need-host-walk-requires
-host-walk-requires c κs = search needs
-
-enum-known-page : tie.Need-enum-known-page
-enum-known-page c = search needs
-
-add-t11 : tie.Need-add-t11
-add-t11 c = search needs
-
-enum-known-reads : tie.Need-enum-known-reads
-enum-known-reads c = search needs
-
 add-t13 : tie.Need-add-t13
 add-t13 c =
     let good = rw (← c .before .before .before .host-walk .ensures, c .before .reads .given .1) at (host-fits (config (c .before .before .before .before .before .args .s .layout)) (c .before .before .before .before .before .args .s .top) (c .before .before .before .before .before .args .mem .now) (c .before .before .before .before .before .args .g .0)) in
@@ -40,10 +28,10 @@ pub to-table-spec : {M : Type 1} → statement M
 to-table-spec =
     tie.close
     (tie.spec
-    host-walk-requires
-    enum-known-page
-    add-t11
-    enum-known-reads
+    (λ c κs. search needs)
+    (λ c. search needs)
+    (λ c. search needs)
+    (λ c. search needs)
     add-t13
     enum-told
     returns

@@ -13,12 +13,6 @@ use borrow.Author.Needs.{needs}
 use Rattle.walk.proofs.walk_root.Statement.{statement}
 use Rattle.walk.proofs.walk_root.Tie as tie
 
-to-table-requires : tie.Need-to-table-requires
-to-table-requires c κs = search needs
-
-enum-known-page : tie.Need-enum-known-page
-enum-known-page c = search needs
-
 walk-tables-requires : tie.Need-walk-tables-requires
 walk-tables-requires c κs =
     let args = c .before .before .before .before .before .args in
@@ -27,9 +21,6 @@ walk-tables-requires c κs =
     let page = c .before .page in
     let fits = rw (← to-table .ensures, page .given .1) at (table-fits (config (args .s .layout)) (args .s .top) (args .mem .now) 0 false (args .root .0) true) in
     (pre .0, omega (arith, pre), omega (arith, fits .1, pre), omega (arith, fits .0 .1, pre))
-
-enum-known-fault : tie.Need-enum-known-fault
-enum-known-fault c = search needs
 
 enum-told : tie.Need-enum-told
 enum-told c = search needs
@@ -63,10 +54,10 @@ pub walk-root-spec : {M : Type 1} → statement M
 walk-root-spec =
     tie.close
     (tie.spec
-    to-table-requires
-    enum-known-page
+    (λ c κs. search needs)
+    (λ c. search needs)
     walk-tables-requires
-    enum-known-fault
+    (λ c. search needs)
     enum-told
     returns
     returns-2

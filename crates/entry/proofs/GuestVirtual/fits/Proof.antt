@@ -5,17 +5,8 @@ use borrow.Author.Needs.{needs}
 use Rattle.entry.proofs.GuestVirtual.fits.Statement.{statement}
 use Rattle.entry.proofs.GuestVirtual.fits.Tie as tie
 
-mul-result : tie.Need-mul-result
-mul-result c = search needs
-
-add-result : tie.Need-add-result
-add-result c = search needs
-
-shr-result : tie.Need-shr-result
-shr-result c = search needs
-
 returns : tie.Need-returns
 returns c = shift-out (c .before .args .self .0) (12 + 9 * c .before .args .levels)
 
 pub fits-spec : {M : Type 1} → statement M
-fits-spec = tie.close (tie.spec mul-result add-result shr-result returns)
+fits-spec = tie.close (tie.spec (λ c. search needs) (λ c. search needs) (λ c. search needs) returns)

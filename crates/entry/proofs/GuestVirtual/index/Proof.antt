@@ -4,12 +4,9 @@ use borrow.Author.Needs.{needs}
 use Rattle.entry.proofs.GuestVirtual.index.Statement.{statement}
 use Rattle.entry.proofs.GuestVirtual.index.Tie as tie
 
-index-of-requires : tie.Need-index-of-requires
-index-of-requires c κs = search needs
-
 returns : tie.Need-returns
 unfolding pageOf
 returns c = c .index-of .ensures
 
 pub index-spec : {M : Type 1} → statement M
-index-spec = tie.close (tie.spec index-of-requires returns)
+index-spec = tie.close (tie.spec (λ c κs. search needs) returns)

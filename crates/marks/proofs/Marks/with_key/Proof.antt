@@ -5,12 +5,6 @@ use borrow.Author.Needs.{needs}
 use Rattle.marks.proofs.Marks.with_key.Statement.{statement}
 use Rattle.marks.proofs.Marks.with_key.Tie as tie
 
-count-requires : tie.Need-count-requires
-count-requires c κs = search needs
-
-inserted-requires : tie.Need-inserted-requires
-inserted-requires c κs = search needs
-
 returns : tie.Need-returns
 unfolding withKey
 returns c = rw (← c .before .before .count .ensures, lt-ltb _ 64 (c .before .if1 .taken)) (c .inserted .ensures)
@@ -20,4 +14,4 @@ unfolding withKey
 returns-2 c = rw (← c .before .count .ensures, le-ltb _ 64 (c .if1 .left))
 
 pub with-key-spec : {M : Type 1} → statement M
-with-key-spec = tie.close (tie.spec count-requires inserted-requires returns returns-2)
+with-key-spec = tie.close (tie.spec (λ c κs. search needs) (λ c κs. search needs) returns returns-2)

@@ -9,12 +9,6 @@ use borrow.Author.Needs.{needs}
 use Rattle.marks.proofs.Marks.without_key.Statement.{statement}
 use Rattle.marks.proofs.Marks.without_key.Tie as tie
 
-place-of-requires : tie.Need-place-of-requires
-place-of-requires c κs = search needs
-
-power-requires : tie.Need-power-requires
-power-requires c κs = search needs
-
 sub-self : tie.Need-sub-self
 sub-self c =
     let found = place-found (c .before .before .before .before .before .args .t1 .place) (c .before .before .before .before .before .args .key) (c .before .before .before .before .before .args .t1 .set) (rw (c .before .before .place-of .ensures) at (c .before .if1 .taken)) in
@@ -30,4 +24,4 @@ unfolding withoutKey
 returns-2 c = rw (← c .before .place-of .ensures, le-ltb _ 64 (c .if1 .left))
 
 pub without-key-spec : {M : Type 1} → statement M
-without-key-spec = tie.close (tie.spec place-of-requires power-requires sub-self returns returns-2)
+without-key-spec = tie.close (tie.spec (λ c κs. search needs) (λ c κs. search needs) sub-self returns returns-2)

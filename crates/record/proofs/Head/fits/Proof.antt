@@ -10,9 +10,6 @@ use Rattle.record.proofs.Head.fits.Tie as tie
 returns : tie.Need-returns
 returns c = sym (fits-levels _ _ (ne-eqb _ _ (c .if1 .taken)))
 
-sizes-fit-requires : tie.Need-sizes-fit-requires
-sizes-fit-requires c κs = search needs
-
 returns-2 : tie.Need-returns-2
 returns-2 c =
     let args = c .before .before .before .before .before .args in
@@ -42,9 +39,6 @@ returns-3 c =
     let if3 = c .if3 in
     let four : args .self .layout .levels ≡ 4 = if1 .left in
     fits-by _ _ _ (omega (arith, good)) (omega arith) (rw (eq-eqb _ _ four, ← sizes-fit .ensures, not-false (sizes-fit .result) (if2 .left), ← frame-fits .ensures, not-true (frame-fits .result) (if3 .taken)))
-
-fits-requires : tie.Need-fits-requires
-fits-requires c κs = search needs
 
 returns-4 : tie.Need-returns-4
 returns-4 c =
@@ -88,11 +82,11 @@ fits-spec =
     tie.close
     (tie.spec
     returns
-    sizes-fit-requires
+    (λ c κs. search needs)
     returns-2
     frame-fits-requires
     returns-3
-    fits-requires
+    (λ c κs. search needs)
     returns-4
     tables-fit-requires
     returns-5)
