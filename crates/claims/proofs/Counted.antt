@@ -48,16 +48,15 @@ use Rattle.request.specs.Translate.{exitBy, servesOf, foundOf}
 use Rattle.request.specs.declared.Held.{Held as Holding}
 use Rattle.request.specs.Access as put
 use Rattle.request.specs.Access.{loadOf, putOf, storeOf}
-use Rattle.record.specs.Record.{headTables}
 use Rattle.request.proofs.Fits.{ArrivedIn}
 use Rattle.request.proofs.Leaves.{translate-leaves, put-leaves}
-use Rattle.unit.specs.Calls.{hostTop, heldOf, rootOf, headHeld, ended, refused, withHeld, depthAt, addressOk, translatedOf, loadCall, storeCall, openCall}
+use Rattle.unit.specs.Calls.{hostTop, heldOf, rootOf, ended, refused, depthAt, addressOk, translatedOf, loadCall, storeCall, openCall}
 use Rattle.claims.specs.Run.{guestArea, unitAfter}
 use Rattle.claims.specs.Counted.{SameWords, SameStore, countedOf, touchedBy, touchedOf, HeldOrPlain, References, Touches, Refuses, SameTables}
 use Rattle.claims.proofs.Invariant.{longer, frames, Inv}
 use Rattle.claims.proofs.Moves.{shadow-drop}
 use Rattle.claims.proofs.Puts.{area-store}
-use Rattle.claims.proofs.Paths.{path-upper, loadedBy, storedBy, writtenIn}
+use Rattle.claims.proofs.Paths.{path-upper, held-same, loadedBy, storedBy, writtenIn}
 use Rattle.claims.proofs.Found as found
 use Rattle.claims.proofs.Translates.{serves-is}
 use Rattle.claims.proofs.Demands.{after-run}
@@ -117,15 +116,11 @@ module _ (s : State) (r : Record) (m : List ℕ) (inv : Inv s r m) (a : ℕ) whe
 
   -- ---- load
 
-  same-unit : withHeld r (heldOf r) ≡ r
-  unfolding headHeld headTables
-  same-unit = refl
-
   -- what a load says through such a translation
   load-says : (n : List ℕ) (x : Walked) → SameWords m n (touchedBy a x) → loadedBy r a (read.left r false a x n) x ≡ ended r (loadedBy r a (read.left r false a x m) x .result .answer) n
-  load-says n (walked.Arrived t w k) h = ap₂ (λ u v. ended u (answer.Value v k 0) n) same-unit (h .0)
-  load-says n (walked.Faulted y k) h = ap (λ u. ended u (answer.Faulted y k (exitBy (walked.Faulted y k))) n) same-unit
-  load-says n walked.Damaged h = ap (λ u. ended u (answer.Refused 11) n) same-unit
+  load-says n (walked.Arrived t w k) h = ap₂ (λ u v. ended u (answer.Value v k 0) n) (held-same r) (h .0)
+  load-says n (walked.Faulted y k) h = ap (λ u. ended u (answer.Faulted y k (exitBy (walked.Faulted y k))) n) (held-same r)
+  load-says n walked.Damaged h = ap (λ u. ended u (answer.Refused 11) n) (held-same r)
 
   -- a memory of the same length is not refused with 3
   load-fits : (n : List ℕ) → length n ≡ length m
@@ -221,7 +216,7 @@ module _ (s : State) (r : Record) (m : List ℕ) (inv : Inv s r m) (a : ℕ) whe
       refuses : (n : List ℕ) → putOn n .result .ok ≡ false → Refuses r n (leftOn n)
       refuses n q = record {
         says = ap (λ b. writtenIn r (heldOf r) k 0 (putOn n) b .result .answer) q;
-        unit = ap (λ b. writtenIn r (heldOf r) k 0 (putOn n) b .result .unit) q ∙ same-unit;
+        unit = ap (λ b. writtenIn r (heldOf r) k 0 (putOn n) b .result .unit) q ∙ (held-same r);
         area = put-area n false q;
       }
 

@@ -29,9 +29,9 @@ use Rattle.spec.specs.declared.Answer.the-variants as answer
 use Rattle.walk.specs.declared.Walked.{Walked}
 use Rattle.words.specs.After.{After}
 use Rattle.record.specs.declared.Record.{Record}
-use Rattle.record.specs.Record.{configOf}
+use Rattle.record.specs.Record.{configOf, headTables}
 use Rattle.unit.specs.declared.Reply.{Reply}
-use Rattle.unit.specs.Calls.{heldOf, servedBy}
+use Rattle.unit.specs.Calls.{heldOf, headHeld, withHeld, servedBy}
 
 -- the path of an address at depth d, and the indexes below it
 pub path-upper : (c : Config) (d a : ℕ) → d ≤ c .levels → upper c d (addressIndexes c a) ≡ pathIndexes c d a
@@ -78,6 +78,11 @@ exit-is (failed (fault.HostAbsent g)) n = refl
 exit-is (failed (fault.HostReadOnly g)) n = refl
 
 -- ---- the replies of requests, by their translation
+
+-- a request that leaves what was held leaves the record
+pub held-same : (r : Record) → withHeld r (heldOf r) ≡ r
+unfolding headHeld headTables
+held-same r = refl
 
 abbrev pub loadedBy : Record → ℕ → After Translated → Walked → After Reply
 loadedBy r a o w = servedBy r (loadBy (heldOf r) a o w)

@@ -68,7 +68,7 @@ use Rattle.unit.specs.Calls.{hostTop, heldOf, rootOf, headHeld, headHost, nothi
 use Rattle.unit.proofs.Ranges.{fits-held}
 use Rattle.claims.specs.Run.{guestArea}
 use Rattle.claims.proofs.Puts.{area-store}
-use Rattle.claims.proofs.Paths.{loadedBy, storedBy, writtenIn}
+use Rattle.claims.proofs.Paths.{held-same, loadedBy, storedBy, writtenIn}
 use Rattle.claims.proofs.Opens.{granted-call, refused-call}
 use Rattle.words.specs.After.{After, yields}
 use Rattle.area.specs.declared.Went.{Went}
@@ -143,11 +143,6 @@ guest-kept {r} {m = m} {n = n} e x = record { layout = e; long = x .long; area =
 held-layout : (r : Record) (h : Holding) → configOf (withHeld r h) ≡ configOf r
 unfolding headHeld headTables
 held-layout r h = refl
-
--- a request that leaves what was held leaves the record
-held-same : (r : Record) → withHeld r (heldOf r) ≡ r
-unfolding headHeld headTables
-held-same r = refl
 
 host-layout : (r : Record) (p : Pool) → configOf (withHost r p) ≡ configOf r
 unfolding headHost headTables
