@@ -5,42 +5,42 @@ use mathlib.Core.Bool.{Bool, cond}
 use mathlib.Core.List.{List, [], _∷_}
 use lib.ListN.{length}
 use Rattle.spec.specs.Entry.{present}
-use Rattle.area.specs.declared.Area.{Area}
-use Rattle.area.specs.declared.Pool.{Pool}
-use Rattle.area.specs.declared.Way.{Way}
-use Rattle.area.specs.declared.Way.the-variants.{To, Not, Bad}
-use Rattle.area.specs.Header.{entryIn, putOf, parentOf, slotOf, insideOf, bareOf}
-use Rattle.area.specs.Pool.{hopOf, onWay, end, withTop, giveOf, backOf}
+use Rattle.pool.specs.declared.Area.{Area}
+use Rattle.pool.specs.declared.Pool.{Pool}
+use Rattle.pool.specs.declared.Way.{Way}
+use Rattle.pool.specs.declared.Way.the-variants.{To, Not, Damaged}
+use Rattle.pool.specs.Header.{entryIn, putOf, parentOf, slotOf, insideOf, bareOf}
+use Rattle.pool.specs.Pool.{followOf, onWay, end, withTop, withFreed, freeWords}
 use Rattle.words.specs.After.{After}
-use Rattle.area.specs.declared.Went.{Went}
+use Rattle.pool.specs.declared.Went.{Went}
 
 -- an empty table is taken off the table above and given back: To names the table above; Not, the table is not empty
-unfoldable pub unhangOf : Area → Pool → List ℕ → ℕ → After Went
-unhangOf a p m f =
+unfoldable pub detachOf : Area → Pool → List ℕ → ℕ → After Went
+detachOf a p m f =
     cond (bareOf m f 512)
     (cond (insideOf (a .base) (a .size) (parentOf m f))
-    (end (giveOf p f) (To (parentOf m f)) (backOf (putOf m (parentOf m f) (slotOf m f) 0) f (p .free)))
-    (end p Bad m))
+    (end (withFreed p f) (To (parentOf m f)) (freeWords (putOf m (parentOf m f) (slotOf m f) 0) f (p .free)))
+    (end p Damaged m))
     (end p Not m)
 
 -- the top table f goes too if it is empty, unless it stays
-unfoldable pub shutOf : Bool → Pool → List ℕ → ℕ → After Went
-shutOf stays p m f =
+unfoldable pub releaseTop : Bool → Pool → List ℕ → ℕ → After Went
+releaseTop stays p m f =
     cond stays (end p (To f) m)
-    (cond (bareOf m f 512) (end (giveOf (withTop p 0) f) (To f) (backOf m f (p .free))) (end p (To f) m))
+    (cond (bareOf m f 512) (end (withFreed (withTop p 0) f) (To f) (freeWords m f (p .free))) (end p (To f) m))
 
 -- table f and those above it, k of them below the top one, as far as they are empty
 unfoldable pub releaseOf : Area → Bool → Pool → List ℕ → ℕ → ℕ → After Went
-releaseOf a stays p m zero f = shutOf stays p m f
+releaseOf a stays p m zero f = releaseTop stays p m f
 releaseOf a stays p m (suc k) f =
-    let t = unhangOf a p m f in
-    onWay (t .result .way) (end (t .result .pool) (To f) (t .memory)) (end (t .result .pool) Bad (t .memory))
+    let t = detachOf a p m f in
+    onWay (t .result .way) (end (t .result .pool) (To f) (t .memory)) (end (t .result .pool) Damaged (t .memory))
     (λ h. releaseOf a stays (t .result .pool) (t .memory) k h)
 
 -- the table that holds the last entry of the path i ∷ is, on from the entry e
 unfoldable pub lastOf : ℕ → ℕ → List ℕ → ℕ → ℕ → List ℕ → Way
-lastOf b s m e i [] = hopOf b s e
-lastOf b s m e i (j ∷ is) = onWay (hopOf b s e) Not Bad (λ f. lastOf b s m (entryIn m f i) j is)
+lastOf b s m e i [] = followOf b s e
+lastOf b s m e i (j ∷ is) = onWay (followOf b s e) Not Damaged (λ f. lastOf b s m (entryIn m f i) j is)
 
 -- the last index of the path i ∷ is
 unfoldable pub lastIndex : ℕ → List ℕ → ℕ
@@ -55,5 +55,5 @@ clearOf a stays p m k f i = cond (present (entryIn m f i)) (releaseOf a stays p 
 unfoldable pub removeOf : Area → Bool → Pool → List ℕ → List ℕ → After Went
 removeOf a stays p m [] = end p Not m
 removeOf a stays p m (i ∷ is) =
-    onWay (lastOf (a .base) (a .size) m (p .top) i is) (end p Not m) (end p Bad m)
+    onWay (lastOf (a .base) (a .size) m (p .top) i is) (end p Not m) (end p Damaged m)
     (λ f. clearOf a stays p m (length is) f (lastIndex i is))

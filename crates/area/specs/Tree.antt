@@ -5,25 +5,26 @@ use mathlib.Core.Bool.{cond}
 use mathlib.Core.List.{List, [], _∷_}
 use lib.ListN.{getD, length}
 use lib.Dec.{leb}
-use Rattle.area.specs.declared.Area.{Area}
-use Rattle.area.specs.declared.Pool.{Pool}
-use Rattle.area.specs.declared.Way.{Way}
-use Rattle.area.specs.declared.Way.the-variants.{To, Not, Bad}
+use Rattle.pool.specs.declared.Area.{Area}
+use Rattle.pool.specs.declared.Pool.{Pool}
+use Rattle.pool.specs.declared.Way.{Way}
+use Rattle.pool.specs.declared.Way.the-variants.{To, Not, Damaged}
 use Rattle.area.specs.declared.Look.{Look}
-use Rattle.area.specs.declared.Look.the-variants.{Seen, Broken}
-use Rattle.area.specs.Header.{entryIn, putOf, headOf}
-use Rattle.area.specs.Pool.{link, hopOf, onWay, end, withTop, takeOf}
+use Rattle.area.specs.declared.Look.the-variants.{Seen}
+use Rattle.area.specs.declared.Look.the-variants as look
+use Rattle.pool.specs.Header.{entryIn, putOf, headOf}
+use Rattle.pool.specs.Pool.{link, followOf, onWay, end, withTop, takeOf}
 use Rattle.words.specs.After.{After, yields}
-use Rattle.area.specs.declared.Went.{Went}
+use Rattle.pool.specs.declared.Went.{Went}
 
 -- on from the entry e, n words read so far
 unfoldable pub lookOf : ℕ → ℕ → List ℕ → ℕ → List ℕ → ℕ → Look
 lookOf b s m e [] n = Seen e n
-lookOf b s m e (i ∷ is) n = onWay (hopOf b s e) (Seen 0 n) Broken (λ f. lookOf b s m (entryIn m f i) is (n + 1))
+lookOf b s m e (i ∷ is) n = onWay (followOf b s e) (Seen 0 n) look.Damaged (λ f. lookOf b s m (entryIn m f i) is (n + 1))
 
 abbrev pub roomBy : Area → Pool → ℕ → Look → Way
 roomBy a p k (Seen e n) = cond (leb (p .used + (k - n)) (a .size)) (To (k - n)) Not
-roomBy a p k Broken = Bad
+roomBy a p k look.Damaged = Damaged
 
 -- how many tables a path lacks; Not if the area has no room for them
 unfoldable pub roomOf : Area → Pool → List ℕ → List ℕ → Way
@@ -33,7 +34,7 @@ roomOf a p m is = roomBy a p (length is) (lookOf (a .base) (a .size) m (p .top) 
 abbrev pub headed : After Went → Way → ℕ → ℕ → ℕ → ℕ → After Went
 headed t (To f) guest level parent slot = yields (t .result) (headOf (t .memory) f guest level parent slot)
 headed t Not guest level parent slot = t
-headed t Bad guest level parent slot = t
+headed t Damaged guest level parent slot = t
 
 -- a table is handed out, with its header
 unfoldable pub tableOf : Area → Pool → List ℕ → ℕ → ℕ → ℕ → ℕ → After Went
@@ -44,7 +45,7 @@ tableOf a p m guest level parent slot =
 abbrev pub topped : After Went → Way → After Went
 topped t (To f) = end (withTop (t .result .pool) (link f)) (To f) (t .memory)
 topped t Not = t
-topped t Bad = t
+topped t Damaged = t
 
 -- a table is handed out and becomes the top one
 unfoldable pub topOf : Area → Pool → List ℕ → ℕ → After Went
@@ -54,28 +55,28 @@ topOf a p m guest =
 
 -- the top table, handed out if there is none
 unfoldable pub enterOf : Area → Pool → List ℕ → ℕ → After Went
-enterOf a p m guest = onWay (hopOf (a .base) (a .size) (p .top)) (topOf a p m guest) (end p Bad m) (λ f. end p (To f) m)
+enterOf a p m guest = onWay (followOf (a .base) (a .size) (p .top)) (topOf a p m guest) (end p Damaged m) (λ f. end p (To f) m)
 
-abbrev pub hung : After Went → Way → ℕ → ℕ → After Went
-hung t (To h) f i = yields (t .result) (putOf (t .memory) f i (link h))
-hung t Not f i = t
-hung t Bad f i = t
+abbrev pub attached : After Went → Way → ℕ → ℕ → After Went
+attached t (To h) f i = yields (t .result) (putOf (t .memory) f i (link h))
+attached t Not f i = t
+attached t Damaged f i = t
 
 -- a table is handed out and its entry put at index i of table f
-unfoldable pub hangOf : Area → Pool → List ℕ → ℕ → ℕ → ℕ → ℕ → After Went
-hangOf a p m guest level f i =
+unfoldable pub attachOf : Area → Pool → List ℕ → ℕ → ℕ → ℕ → ℕ → After Went
+attachOf a p m guest level f i =
     let t = tableOf a p m guest level f i in
-    hung t (t .result .way) f i
+    attached t (t .result .way) f i
 
 -- the table below, hung there if there is none
 unfoldable pub descendOf : Area → Pool → List ℕ → ℕ → ℕ → ℕ → ℕ → After Went
 descendOf a p m guest level f i =
-    onWay (hopOf (a .base) (a .size) (entryIn m f i)) (hangOf a p m guest level f i) (end p Bad m) (λ h. end p (To h) m)
+    onWay (followOf (a .base) (a .size) (entryIn m f i)) (attachOf a p m guest level f i) (end p Damaged m) (λ h. end p (To h) m)
 
 -- on with the table that a step leads to; where there is none, though there was room for all, the memory is damaged
 abbrev pub onward : After Went → (Pool → List ℕ → ℕ → After Went) → After Went
 onward t next =
-    onWay (t .result .way) (end (t .result .pool) Bad (t .memory)) (end (t .result .pool) Bad (t .memory)) (next (t .result .pool) (t .memory))
+    onWay (t .result .way) (end (t .result .pool) Damaged (t .memory)) (end (t .result .pool) Damaged (t .memory)) (next (t .result .pool) (t .memory))
 
 -- in table f of depth d at index i, and then by the indexes that are left; guests are the host frames by depth
 unfoldable pub downOf : Area → List ℕ → Pool → List ℕ → ℕ → ℕ → ℕ → List ℕ → ℕ → After Went
@@ -90,4 +91,4 @@ placeOf a guests p m i is e = onward (enterOf a p m (getD guests 0 0)) (λ q n f
 -- the entry of a path is set; Not, and nothing changed, if its tables find no room
 unfoldable pub insertOf : Area → List ℕ → Pool → List ℕ → List ℕ → ℕ → After Went
 insertOf a guests p m [] e = end p Not m
-insertOf a guests p m (i ∷ is) e = onWay (roomOf a p m (i ∷ is)) (end p Not m) (end p Bad m) (λ n. placeOf a guests p m i is e)
+insertOf a guests p m (i ∷ is) e = onWay (roomOf a p m (i ∷ is)) (end p Not m) (end p Damaged m) (λ n. placeOf a guests p m i is e)

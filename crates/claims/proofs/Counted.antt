@@ -20,37 +20,37 @@ use Rattle.spec.specs.Call.{addressIndexes}
 use Rattle.spec.specs.Count.{serves, one}
 use Rattle.spec.specs.Refusal.{addressFits, wordAligned}
 use Rattle.spec.specs.Run.{State, after, opened}
-use Rattle.laws.proofs.Lists.{all-any, and-left, is-true}
+use Rattle.spec_laws.proofs.Lists.{all-any, and-left, is-true}
 use Rattle.entry.proofs.Entries.{word-fits}
 use Rattle.words.specs.Words.{setIn}
-use Rattle.area.specs.Outside.{SameOutside}
-use Rattle.tree.proofs.Paths.{onto}
-use Rattle.tree.proofs.Stores.{Beside}
-use Rattle.tree.proofs.Whole.{Holds, holds-memory}
-use Rattle.host.specs.Walk.{page}
-use Rattle.host.proofs.Laws.{InGuestArea}
+use Rattle.pool.specs.Outside.{SameOutside}
+use Rattle.area_laws.proofs.Paths.{onto}
+use Rattle.area_laws.proofs.Stores.{Beside}
+use Rattle.area_laws.proofs.Whole.{Holds, holds-memory}
+use Rattle.layout.specs.Layout.{page}
+use Rattle.layout.proofs.Laws.{InGuestArea}
 use Rattle.walk.specs.declared.Walked.{Walked}
 use Rattle.walk.specs.declared.Walked.the-variants as walked
 use Rattle.marks.proofs.Book.{depth-book}
 use Rattle.record.specs.declared.Record.{Record}
 use Rattle.record.specs.Record.{configOf, configBy, fitsOf}
 use Rattle.record.specs.Open.{refusalOf}
-use Rattle.shadow.specs.declared.Cut.the-variants.{Word}
+use Rattle.drops.specs.declared.Cut.the-variants.{Word}
 use Rattle.shadow.specs.Held.{shadowArea}
-use Rattle.shadow.specs.Cut.{watchedOf}
-use Rattle.shadow.specs.Drop.{scanOf}
-use Rattle.drops.proofs.Scan.{Dropped}
-use Rattle.drops.proofs.Held.{leafAt}
-use Rattle.drops.proofs.Watch.{watched-is}
-use Rattle.drops.proofs.Drops.{drop-word}
-use Rattle.drops.proofs.Valid.{entryOf}
+use Rattle.shadow.specs.Watch.{watchedOf}
+use Rattle.drops.specs.Drop.{scanOf}
+use Rattle.drops_laws.proofs.Scan.{Dropped}
+use Rattle.drops_laws.proofs.Held.{leafAt}
+use Rattle.drops_laws.proofs.Watch.{watched-is}
+use Rattle.drops_laws.proofs.Drops.{drop-word}
+use Rattle.drops_laws.proofs.Valid.{entryOf}
 use Rattle.request.specs.Translate.{exitBy, servesOf, foundOf}
 use Rattle.request.specs.declared.Held.{Held as Holding}
 use Rattle.request.specs.Access as put
 use Rattle.request.specs.Access.{loadOf, putOf, storeOf}
 use Rattle.request.proofs.Fits.{ArrivedIn}
 use Rattle.request.proofs.Leaves.{translate-leaves, put-leaves}
-use Rattle.unit.specs.Calls.{hostTop, heldOf, rootOf, ended, refused, depthAt, addressOk, translatedOf, loadCall, storeCall, openCall}
+use Rattle.calls.specs.Calls.{hostTop, heldOf, rootOf, ended, refused, depthAt, addressOk, translatedOf, loadCall, storeCall, openCall}
 use Rattle.claims.specs.Run.{guestArea, unitAfter}
 use Rattle.claims.specs.Counted.{SameWords, SameStore, countedOf, touchedBy, touchedOf, HeldOrPlain, References, Touches, Refuses, SameTables}
 use Rattle.claims.proofs.Invariant.{longer, frames, Inv}
@@ -64,9 +64,9 @@ use Rattle.claims.proofs.WordsRead as read
 use Rattle.claims.proofs.WordsRead.{Reaches, held, plain, alike, Reads}
 use Rattle.words.specs.After.{After}
 use Rattle.request.specs.declared.Translated.{Translated}
-use Rattle.unit.specs.declared.Reply.{Reply}
+use Rattle.calls.specs.declared.Reply.{Reply}
 use Rattle.request.specs.declared.Put.{Put}
-use Rattle.shadow.specs.declared.Left.{Left}
+use Rattle.drops.specs.declared.Left.{Left}
 
 written-counts : (r : Record) (h : Holding) (n e : ℕ) (x : After Put) (k : ℕ) → n ≡ k → References k (writtenIn r h n e x (x .result .ok) .result .answer)
 written-counts r h n e x k q = go (x .result .ok)

@@ -12,7 +12,7 @@ use Rattle.spec.specs.Run.{State, step, run, after, opened}
 use Rattle.record.specs.declared.Record.{Record}
 use Rattle.record.specs.Record.{configOf, configBy}
 use Rattle.record.specs.Open.{refusalOf, firstOf, grantedOf}
-use Rattle.unit.specs.Calls.{openCall, callOf}
+use Rattle.calls.specs.Calls.{openCall, callOf}
 use Rattle.claims.specs.Run.{unitRun, unitAfter, machineRun}
 use Rattle.claims.proofs.Invariant.{Inv, Follows, at}
 use Rattle.claims.proofs.Opens.{opened-inv, granted-call}
@@ -20,7 +20,7 @@ use Rattle.claims.proofs.Remaps.{root-follows, map-follows, unmap-follo
 use Rattle.claims.proofs.Marks.{set-mark-follows, clear-mark-follows}
 use Rattle.claims.proofs.Requests.{load-follows, store-follows, device-follows}
 use Rattle.words.specs.After.{After}
-use Rattle.unit.specs.declared.Reply.{Reply}
+use Rattle.calls.specs.declared.Reply.{Reply}
 
 -- every call follows the specification's step
 pub follows : (x : Call) (s : State) (r : Record) (m : List ℕ) → Inv s r m → Follows x s r (callOf x r m)

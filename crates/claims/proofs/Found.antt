@@ -19,20 +19,20 @@ use Rattle.spec.specs.Machine.{Machine, world}
 use Rattle.spec.specs.Book.{Held, find, depth}
 use Rattle.spec.specs.Call.{addressIndexes}
 use Rattle.spec.specs.Run.{State}
-use Rattle.laws.proofs.Lists.{all-map, all-keep, same-is}
-use Rattle.laws.proofs.Local.{Seen, seen}
-use Rattle.laws.proofs.Granted.{granted-is, through}
-use Rattle.laws.proofs.Indexes.{indexes-length}
-use Rattle.laws.proofs.Depth.{PathFits, no-proper-prefix, fill-fits}
-use Rattle.laws.proofs.Keeps.{Valid, again}
-use Rattle.tree.proofs.Paths.{onto}
-use Rattle.tree.proofs.Find.{steps}
-use Rattle.tree.proofs.Hosts.{indexes-small}
-use Rattle.tree.proofs.Whole as tree
-use Rattle.host.specs.declared.HostWalk.{HostWalk}
-use Rattle.host.specs.declared.HostWalk.the-variants as host
-use Rattle.host.specs.Walk.{page}
-use Rattle.host.proofs.Laws.{InGuestArea}
+use Rattle.spec_laws.proofs.Lists.{all-map, all-keep, same-is}
+use Rattle.spec_laws.proofs.Local.{Seen, seen}
+use Rattle.spec_laws.proofs.Granted.{granted-is, through}
+use Rattle.spec_laws.proofs.Indexes.{indexes-length}
+use Rattle.spec_laws.proofs.Depth.{PathFits, no-proper-prefix, fill-fits}
+use Rattle.spec_laws.proofs.Keeps.{Valid, again}
+use Rattle.area_laws.proofs.Paths.{onto}
+use Rattle.area_laws.proofs.Find.{steps}
+use Rattle.area_laws.proofs.Hosts.{indexes-small}
+use Rattle.area_laws.proofs.Whole as tree
+use Rattle.layout.specs.declared.HostWalk.{HostWalk}
+use Rattle.layout.specs.declared.HostWalk.the-variants as host
+use Rattle.layout.specs.Layout.{page}
+use Rattle.layout.proofs.Laws.{InGuestArea}
 use Rattle.walk.proofs.Stands.{Stands}
 use Rattle.record.specs.declared.Record.{Record}
 use Rattle.record.specs.Record.{configOf}
@@ -40,13 +40,13 @@ use Rattle.record.proofs.Rules.{Fits, fits-layout}
 use Rattle.shadow.specs.Held as shadow
 use Rattle.shadow.specs.Held.{shadowArea}
 use Rattle.shadow.proofs.Parts.{entry-frame, entry-writable}
-use Rattle.drops.proofs.Held.{leafAt, HeldEntries}
-use Rattle.drops.proofs.Find.{answerFound, held-is, find-all, Apart, path-fits}
-use Rattle.drops.proofs.Drops.{namedIn}
-use Rattle.drops.proofs.Fill.{frame-small}
-use Rattle.drops.proofs.Valid.{framesAt, entryOf, valid-entries, valid-frame, inside-area}
+use Rattle.drops_laws.proofs.Held.{leafAt, HeldEntries}
+use Rattle.drops_laws.proofs.Find.{answerFound, held-is, find-all, Apart, path-fits}
+use Rattle.drops_laws.proofs.Drops.{namedIn}
+use Rattle.drops_laws.proofs.Fill.{frame-small}
+use Rattle.drops_laws.proofs.Valid.{framesAt, entryOf, valid-entries, valid-frame, inside-area}
 use Rattle.request.specs.Translate.{pathIndexes, foundOf}
-use Rattle.unit.specs.Calls.{hostTop, heldOf}
+use Rattle.calls.specs.Calls.{hostTop, heldOf}
 use Rattle.claims.proofs.Invariant.{longer, topBy, frames, Inv, stands}
 use Rattle.claims.proofs.Paths.{path-upper}
 

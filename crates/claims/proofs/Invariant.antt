@@ -15,13 +15,13 @@ use Rattle.spec.specs.Machine.{Machine, lookup}
 use Rattle.spec.specs.Book.{Held, find}
 use Rattle.spec.specs.declared.Call.{Call}
 use Rattle.spec.specs.Run.{State, step}
-use Rattle.laws.proofs.Lists.{All}
-use Rattle.laws.proofs.Asks.{AnswerIn}
-use Rattle.laws.proofs.Keeps.{Valid}
-use Rattle.laws.proofs.Runs.{BookFits}
-use Rattle.area.specs.declared.Pool.{Pool}
-use Rattle.tree.proofs.Whole.{Holds}
-use Rattle.host.proofs.Laws.{InGuestArea}
+use Rattle.spec_laws.proofs.Lists.{All}
+use Rattle.spec_laws.proofs.Asks.{AnswerIn}
+use Rattle.spec_laws.proofs.Keeps.{Valid}
+use Rattle.spec_laws.proofs.Runs.{BookFits}
+use Rattle.pool.specs.declared.Pool.{Pool}
+use Rattle.area_laws.proofs.Whole.{Holds}
+use Rattle.layout.proofs.Laws.{InGuestArea}
 use Rattle.host.proofs.Mapping.{Maps, walk-is, lookup-inside}
 use Rattle.walk.proofs.Stands.{Stands}
 use Rattle.marks.specs.Reading.{marksOf}
@@ -29,11 +29,11 @@ use Rattle.marks.proofs.Order.{SameMembers}
 use Rattle.record.specs.declared.Record.{Record}
 use Rattle.record.specs.Record.{configOf, fitsOf}
 use Rattle.shadow.specs.Held.{shadowArea}
-use Rattle.drops.proofs.Held.{leafAt}
-use Rattle.drops.proofs.Valid.{framesAt, entryOf}
+use Rattle.drops_laws.proofs.Held.{leafAt}
+use Rattle.drops_laws.proofs.Valid.{framesAt, entryOf}
 use Rattle.words.specs.After.{After}
-use Rattle.unit.specs.declared.Reply.{Reply}
-use Rattle.unit.specs.Calls.{hostTop}
+use Rattle.calls.specs.declared.Reply.{Reply}
+use Rattle.calls.specs.Calls.{hostTop}
 
 -- the held paths that stand in the shadow tables: those with an index; the one of no index stands in the record
 abbrev pub longer : List Held → List Held

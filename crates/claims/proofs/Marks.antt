@@ -24,13 +24,13 @@ use Rattle.spec.specs.Call.{addressIndexes, machineStep}
 use Rattle.spec.specs.Count.{bookStep}
 use Rattle.spec.specs.Refusal.{allOf, markFits, tests, refusal}
 use Rattle.spec.specs.Run.{State}
-use Rattle.laws.proofs.Lists.{All, all-map, all-any}
-use Rattle.laws.proofs.Keeps.{Valid}
-use Rattle.laws.proofs.Runs.{BookFits}
+use Rattle.spec_laws.proofs.Lists.{All, all-map, all-any}
+use Rattle.spec_laws.proofs.Keeps.{Valid}
+use Rattle.spec_laws.proofs.Runs.{BookFits}
 use Rattle.entry.specs.Levels.{ofLevels}
-use Rattle.laws.proofs.Indexes.{indexes-length, indexes-take}
-use Rattle.tree.proofs.Hosts.{indexes-small}
-use Rattle.host.proofs.Laws.{InGuestArea}
+use Rattle.spec_laws.proofs.Indexes.{indexes-length, indexes-take}
+use Rattle.area_laws.proofs.Hosts.{indexes-small}
+use Rattle.layout.proofs.Laws.{InGuestArea}
 use Rattle.walk.proofs.Stands.{Stands}
 use Rattle.marks.specs.declared.Marks.{Marks}
 use Rattle.marks.specs.Key.{keyOf, keyFits, keysFit}
@@ -46,17 +46,17 @@ use Rattle.marks.proofs.Reading.{key-fits}
 use Rattle.marks.proofs.Book.{keysOf, page-small, marks-fit, may-set, may-clear, set-refused, clear-refused, set-granted, clear-granted}
 use Rattle.record.specs.declared.Record.{Record}
 use Rattle.entry.specs.declared.HostPhysical.{HostPhysical}
-use Rattle.host.specs.Walk.{page}
+use Rattle.layout.specs.Layout.{page}
 use Rattle.record.specs.Record.{configOf, headTables, withMarks}
 use Rattle.record.proofs.Rules.{Fits, fits-marks, fits-keys, holds-pool}
-use Rattle.shadow.specs.Drop.{dropPrefixOf}
-use Rattle.drops.proofs.Scan.{Dropped}
-use Rattle.drops.proofs.Held.{leafAt}
-use Rattle.drops.proofs.Drops.{prefix-all, drop-prefix}
-use Rattle.drops.proofs.Valid.{framesAt, entryOf, valid-entries, stays-same}
-use Rattle.unit.specs.Calls.{hostTop, headHeld, heldAfter, refused, withHeld, judged, markedOf, setMarkCall, clearMarkCall}
+use Rattle.drops.specs.Drop.{dropPrefixOf}
+use Rattle.drops_laws.proofs.Scan.{Dropped}
+use Rattle.drops_laws.proofs.Held.{leafAt}
+use Rattle.drops_laws.proofs.Drops.{prefix-all, drop-prefix}
+use Rattle.drops_laws.proofs.Valid.{framesAt, entryOf, valid-entries, stays-same}
+use Rattle.calls.specs.Calls.{hostTop, headHeld, heldAfter, refused, withHeld, judged, markedOf, setMarkCall, clearMarkCall}
 use Rattle.claims.proofs.Invariant.{longer, topBy, Inv, Follows, stands}
-use Rattle.shadow.specs.declared.Left.{Left}
+use Rattle.drops.specs.declared.Left.{Left}
 use Rattle.claims.proofs.Moves.{Moved, dropped-left, after, follows-no, follows-ok, after-fits, first-positive, invariant, inv-fits, inv-stands, inv-root, inv-shadow, inv-top, fits-held, maps-beside, shadow-drop, shadow-on, top-on, longer-keep, all-longer, all-kept, find-keep}
 use Rattle.words.specs.After.{After}
 

@@ -23,16 +23,16 @@ use Rattle.spec.specs.Call.{machineStep}
 use Rattle.spec.specs.Count.{bookStep}
 use Rattle.spec.specs.Refusal.{firstFailed, refusal}
 use Rattle.spec.specs.Run.{State, step}
-use Rattle.laws.proofs.Lists.{All, all-map, all-keep}
-use Rattle.laws.proofs.Trail.{frameIn, frameAt}
-use Rattle.laws.proofs.Keeps.{Valid}
-use Rattle.laws.proofs.Runs.{BookFits, step-fits}
-use Rattle.area.specs.declared.Pool.{Pool}
-use Rattle.area.specs.Pool.{noneOf}
-use Rattle.tree.proofs.Stores.{Beside, beside-drop}
-use Rattle.tree.proofs.Whole.{Holds, holds-none, holds-leaves, holds-beside}
+use Rattle.spec_laws.proofs.Lists.{All, all-map, all-keep}
+use Rattle.spec_laws.proofs.Trail.{frameIn, frameAt}
+use Rattle.spec_laws.proofs.Keeps.{Valid}
+use Rattle.spec_laws.proofs.Runs.{BookFits, step-fits}
+use Rattle.pool.specs.declared.Pool.{Pool}
+use Rattle.pool.specs.Pool.{noneOf}
+use Rattle.area_laws.proofs.Stores.{Beside, beside-drop}
+use Rattle.area_laws.proofs.Whole.{Holds, holds-none, holds-leaves, holds-beside}
 use Rattle.host.specs.Map.{hostArea}
-use Rattle.host.proofs.Laws.{InGuestArea}
+use Rattle.layout.proofs.Laws.{InGuestArea}
 use Rattle.host.proofs.Mapping.{Maps, answerBy}
 use Rattle.walk.specs.Memory.{placeOf, memoryWorld}
 use Rattle.walk.proofs.Stands.{Stands}
@@ -44,14 +44,14 @@ use Rattle.record.specs.Record.{configOf, headTables}
 use Rattle.request.specs.declared.Held.{Held as Holding}
 use Rattle.record.proofs.Rules.{Table, Fits, PoolFits, fits-layout, fits-true}
 use Rattle.shadow.specs.Held.{shadowArea}
-use Rattle.shadow.specs.declared.Left.{Left}
-use Rattle.drops.proofs.Scan.{Dropped}
-use Rattle.drops.proofs.Held.{leafAt, leaf-none}
-use Rattle.drops.proofs.Valid.{framesAt, entryOf, valid-entry, Stays, holds-on}
-use Rattle.unit.specs.Calls.{hostTop, headHeld, headHost, withHeld, withHost, refused, droppedBy}
+use Rattle.drops.specs.declared.Left.{Left}
+use Rattle.drops_laws.proofs.Scan.{Dropped}
+use Rattle.drops_laws.proofs.Held.{leafAt, leaf-none}
+use Rattle.drops_laws.proofs.Valid.{framesAt, entryOf, valid-entry, Stays, holds-on}
+use Rattle.calls.specs.Calls.{hostTop, headHeld, headHost, withHeld, withHost, refused, droppedBy}
 use Rattle.claims.proofs.Invariant.{longer, topBy, frames, Inv, Follows, stands, at}
 use Rattle.words.specs.After.{After}
-use Rattle.unit.specs.declared.Reply.{Reply}
+use Rattle.calls.specs.declared.Reply.{Reply}
 
 -- ---- the record
 module _ {r : Record} {len : ℕ} (f : Fits r len) where

@@ -19,10 +19,10 @@ use Rattle.spec.specs.Call.{Outcome, ok, done, value, fault, machineStep}
 use Rattle.spec.specs.Count.{bookStep}
 use Rattle.spec.specs.Refusal.{tests, refusal}
 use Rattle.spec.specs.Run.{State, lineOf, answered, step, run, opened}
-use Rattle.laws.proofs.Lists.{All, and-left, and-right, not-eqb}
+use Rattle.spec_laws.proofs.Lists.{All, and-left, and-right, not-eqb}
 use Rattle.record.specs.Record.{configBy}
 use Rattle.record.specs.Open.{refusalOf}
-use Rattle.unit.specs.Calls.{openCall}
+use Rattle.calls.specs.Calls.{openCall}
 use Rattle.claims.specs.Run.{unitRun, machineRun}
 use Rattle.claims.proofs.Demands.{demand-3}
 use Rattle.claims.proofs.Safety.{failed-in}

@@ -11,10 +11,10 @@ use lib.ListN.{length}
 use Rattle.spec.specs.declared.Answer.the-variants as answer
 use Rattle.spec.specs.Answer.{line}
 use Rattle.spec.specs.Run.{opened, opening}
-use Rattle.laws.proofs.Runs.{opened-fits}
-use Rattle.tree.specs.Host.{hostMap}
-use Rattle.tree.proofs.Claim.{leaves}
-use Rattle.tree.proofs.Whole.{holds-leaves}
+use Rattle.spec_laws.proofs.Runs.{opened-fits}
+use Rattle.area_laws.specs.Host.{hostMap}
+use Rattle.area_laws.proofs.Claim.{leaves}
+use Rattle.area_laws.proofs.Whole.{holds-leaves}
 use Rattle.host.proofs.Mapping.{Maps, no-leaves}
 use Rattle.marks.specs.Table.{tableOf}
 use Rattle.marks.proofs.Order.{SameMembers}
@@ -23,9 +23,9 @@ use Rattle.record.specs.Record.{levels, configBy, zeros}
 use Rattle.record.specs.Open.{refusalOf, firstOf, grantedOf}
 use Rattle.record.proofs.Rules.{granted-sized}
 use Rattle.record.proofs.Opening.{refused-opening, refused-open, granted-opening, granted-open, granted-fits, granted-guest, granted-host, granted-shadow}
-use Rattle.drops.proofs.Held.{leafAt, leaf-none}
-use Rattle.drops.proofs.Valid.{framesAt, entryOf}
-use Rattle.unit.specs.Calls.{hostTop, ended, refused, openCall}
+use Rattle.drops_laws.proofs.Held.{leafAt, leaf-none}
+use Rattle.drops_laws.proofs.Valid.{framesAt, entryOf}
+use Rattle.calls.specs.Calls.{hostTop, ended, refused, openCall}
 use Rattle.claims.proofs.Invariant.{Inv}
 
 -- "a refused one returns one of zeros"

@@ -17,8 +17,8 @@ use Rattle.spec.specs.Walk.{Result, granted, failed, _>>=_}
 use Rattle.spec.specs.Plain.{Place, entry, next, levels, walk, hosted, upper}
 use Rattle.spec.specs.Call.{addressIndexes}
 use Rattle.spec.specs.Count.{hostExit}
-use Rattle.laws.proofs.Bind.{bind-cong}
-use Rattle.laws.proofs.Indexes.{indexes-length, indexes-split, indexes-take}
+use Rattle.spec_laws.proofs.Bind.{bind-cong}
+use Rattle.spec_laws.proofs.Indexes.{indexes-length, indexes-split, indexes-take}
 use Rattle.walk.proofs.Stands.{plainWalked}
 use Rattle.request.specs.Translate.{exitBy, pathIndexes}
 use Rattle.request.specs.Access.{loadBy, storeBy, serving, refused}
@@ -30,8 +30,8 @@ use Rattle.walk.specs.declared.Walked.{Walked}
 use Rattle.words.specs.After.{After}
 use Rattle.record.specs.declared.Record.{Record}
 use Rattle.record.specs.Record.{configOf, headTables}
-use Rattle.unit.specs.declared.Reply.{Reply}
-use Rattle.unit.specs.Calls.{heldOf, headHeld, withHeld, servedBy}
+use Rattle.calls.specs.declared.Reply.{Reply}
+use Rattle.calls.specs.Calls.{heldOf, headHeld, withHeld, servedBy}
 
 -- the path of an address at depth d, and the indexes below it
 pub path-upper : (c : Config) (d a : ℕ) → d ≤ c .levels → upper c d (addressIndexes c a) ≡ pathIndexes c d a

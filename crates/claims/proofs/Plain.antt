@@ -25,8 +25,8 @@ use Rattle.spec.specs.declared.Call.the-variants.{Load as load, Store as store}
 use Rattle.spec.specs.Call.{addressIndexes, plain, access}
 use Rattle.spec.specs.Count.{Counted, request, storing}
 use Rattle.spec.specs.Run.{State, lineOf, step, after, opened}
-use Rattle.laws.proofs.Counts.{request-count}
-use Rattle.laws.proofs.Depth.{depth-bound}
+use Rattle.spec_laws.proofs.Counts.{request-count}
+use Rattle.spec_laws.proofs.Depth.{depth-bound}
 use Rattle.words.specs.Words as words
 use Rattle.walk.specs.declared.Walked.{Walked}
 use Rattle.walk.specs.declared.Walked.the-variants as walked
@@ -36,15 +36,15 @@ use Rattle.marks.proofs.Book.{depth-book}
 use Rattle.record.specs.declared.Record.{Record}
 use Rattle.record.specs.Record.{configOf, configBy}
 use Rattle.record.specs.Open.{refusalOf}
-use Rattle.unit.specs.Calls.{hostTop, rootOf, refused, addressOk, depthAt, loadCall, storeCall, callOf}
+use Rattle.calls.specs.Calls.{hostTop, rootOf, refused, addressOk, depthAt, loadCall, storeCall, callOf}
 use Rattle.claims.specs.Run.{guestArea, runOf}
 use Rattle.claims.proofs.Invariant.{Inv, at}
-use Rattle.laws.proofs.Indexes.{indexes-all}
+use Rattle.spec_laws.proofs.Indexes.{indexes-all}
 use Rattle.claims.proofs.Found.{rules, memory-stands, root-small}
 use Rattle.claims.proofs.Requests.{page-in, fits-of, load-step, store-step}
 use Rattle.claims.proofs.Demands.{follows, after-run}
 use Rattle.words.specs.After.{After}
-use Rattle.unit.specs.declared.Reply.{Reply}
+use Rattle.calls.specs.declared.Reply.{Reply}
 
 -- ---- a load, or a store of a value
 abbrev pub isStore : Option ℕ → Bool

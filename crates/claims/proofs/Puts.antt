@@ -17,35 +17,35 @@ use Rattle.spec.specs.Machine.{Machine, Mapping, place, stored}
 use Rattle.spec.specs.Book.{Held, find, holding, dropWord, watched, readsFrame, readsWord}
 use Rattle.spec.specs.Count.{one}
 use Rattle.spec.specs.Run.{State}
-use Rattle.laws.proofs.Lists.{All, all-map, all-keep}
-use Rattle.laws.proofs.Trail.{readsFrom}
-use Rattle.laws.proofs.Keeps.{Valid}
-use Rattle.laws.proofs.Runs.{kept-fits}
+use Rattle.spec_laws.proofs.Lists.{All, all-map, all-keep}
+use Rattle.spec_laws.proofs.Trail.{readsFrom}
+use Rattle.spec_laws.proofs.Keeps.{Valid}
+use Rattle.spec_laws.proofs.Runs.{kept-fits}
 use Rattle.words.specs.Words.{setIn}
-use Rattle.area.specs.declared.Pool.{Pool}
-use Rattle.tree.proofs.Stores.{Beside, beside-refl}
-use Rattle.tree.proofs.Whole.{Holds, holds-store}
-use Rattle.host.specs.Walk.{page}
-use Rattle.host.proofs.Laws.{InGuestArea}
+use Rattle.pool.specs.declared.Pool.{Pool}
+use Rattle.area_laws.proofs.Stores.{Beside, beside-refl}
+use Rattle.area_laws.proofs.Whole.{Holds, holds-store}
+use Rattle.layout.specs.Layout.{page}
+use Rattle.layout.proofs.Laws.{InGuestArea}
 use Rattle.host.proofs.Mapping.{Maps}
 use Rattle.walk.proofs.Stands.{Stands}
 use Rattle.record.specs.declared.Record.{Record}
 use Rattle.record.specs.Record.{configOf}
 use Rattle.record.proofs.Rules.{Fits}
-use Rattle.shadow.specs.declared.Cut.the-variants.{Word}
+use Rattle.drops.specs.declared.Cut.the-variants.{Word}
 use Rattle.shadow.specs.Held.{shadowArea}
-use Rattle.shadow.specs.Cut.{watchedOf}
-use Rattle.shadow.specs.Drop.{scanOf}
-use Rattle.drops.proofs.Scan.{Dropped}
-use Rattle.drops.proofs.Held.{leafAt}
-use Rattle.drops.proofs.Watch.{watched-is}
-use Rattle.drops.proofs.Drops.{drop-word, empty-word, empty-frame}
-use Rattle.drops.proofs.Valid.{framesAt, entryOf, valid-entry, Stays, stays-store}
+use Rattle.shadow.specs.Watch.{watchedOf}
+use Rattle.drops.specs.Drop.{scanOf}
+use Rattle.drops_laws.proofs.Scan.{Dropped}
+use Rattle.drops_laws.proofs.Held.{leafAt}
+use Rattle.drops_laws.proofs.Watch.{watched-is}
+use Rattle.drops_laws.proofs.Drops.{drop-word, empty-word, empty-frame}
+use Rattle.drops_laws.proofs.Valid.{framesAt, entryOf, valid-entry, Stays, stays-store}
 use Rattle.request.specs.Access as put
 use Rattle.request.specs.Access.{putOf, putBy}
 use Rattle.record.specs.Record.{headTables}
 use Rattle.record.proofs.Rules.{holds-pool}
-use Rattle.unit.specs.Calls.{hostTop, headHeld, withHeld}
+use Rattle.calls.specs.Calls.{hostTop, headHeld, withHeld}
 use Rattle.claims.proofs.Invariant.{longer, topBy, frames, Inv, stands}
 use Rattle.claims.proofs.Moves.{fits-held, maps-beside, shadow-drop, invariant, shadow-on, longer-keep, find-keep, inv-top, frame-root}
 use Rattle.claims.proofs.Found as found

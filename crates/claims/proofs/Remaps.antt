@@ -25,44 +25,44 @@ use Rattle.spec.specs.Call.{machineStep}
 use Rattle.spec.specs.Count.{bookStep}
 use Rattle.spec.specs.Refusal.{firstFailed, frameFits, inGuestArea, tests, refusal}
 use Rattle.spec.specs.Run.{State}
-use Rattle.laws.proofs.Lists.{All, all-map, all-keep, is-true}
-use Rattle.laws.proofs.Granted.{through, then-trace, hosted-granted, level-granted}
-use Rattle.laws.proofs.Trail.{readsFrom, usesFrom}
-use Rattle.laws.proofs.Local.{Seen, seen}
-use Rattle.laws.proofs.Keeps.{Valid, again, lookup-with, lookup-without}
-use Rattle.laws.proofs.Runs.{BookFits, all-passed}
+use Rattle.spec_laws.proofs.Lists.{All, all-map, all-keep, is-true}
+use Rattle.spec_laws.proofs.Granted.{through, then-trace, hosted-granted, level-granted}
+use Rattle.spec_laws.proofs.Trail.{readsFrom, usesFrom}
+use Rattle.spec_laws.proofs.Local.{Seen, seen}
+use Rattle.spec_laws.proofs.Keeps.{Valid, again, lookup-with, lookup-without}
+use Rattle.spec_laws.proofs.Runs.{BookFits, all-passed}
 use Rattle.words.specs.Words.{at}
-use Rattle.area.specs.declared.Pool.{Pool}
-use Rattle.area.specs.Pool.{noneOf}
+use Rattle.pool.specs.declared.Pool.{Pool}
+use Rattle.pool.specs.Pool.{noneOf}
 use Rattle.area.specs.Tree.{insertOf}
 use Rattle.area.specs.Remove.{removeOf}
-use Rattle.tree.specs.Host.{hostEntry}
-use Rattle.tree.proofs.Change.{some-inj, not-some}
-use Rattle.tree.proofs.Stores.{Beside, beside-refl, beside-place}
-use Rattle.tree.proofs.Whole.{Holds, holds-beside}
-use Rattle.tree.proofs.Hosts.{host-full, host-absent}
+use Rattle.area_laws.specs.Host.{hostEntry}
+use Rattle.area_laws.proofs.Change.{some-inj, not-some}
+use Rattle.area_laws.proofs.Stores.{Beside, beside-refl, beside-place}
+use Rattle.area_laws.proofs.Whole.{Holds, holds-beside}
+use Rattle.area_laws.proofs.Hosts.{host-full, host-absent}
 use Rattle.host.specs.Walk.{hostWalkOf}
 use Rattle.host.specs.Map.{hostArea, changed, changedBy, mapOf, unmapOf, maps, unmaps, mappingOnly, noBook, numberBy, mappingBy}
-use Rattle.host.proofs.Laws.{InGuestArea}
+use Rattle.layout.proofs.Laws.{InGuestArea}
 use Rattle.host.proofs.Mapping.{Maps, Step, answerBy, answerOf, walk-is, map-is, unmap-is, unmapped-lookup}
 use Rattle.walk.proofs.Stands.{Stands}
 use Rattle.record.specs.declared.Record.{Record}
 use Rattle.record.specs.Record.{configOf, headOf, headRoot, headTables, withHead}
 use Rattle.record.proofs.Rules.{Fits, fits-root, holds-pool, holds-top}
 use Rattle.request.specs.declared.Held.{Held as Holding}
-use Rattle.shadow.specs.declared.Cut.the-variants.{Names}
+use Rattle.drops.specs.declared.Cut.the-variants.{Names}
 use Rattle.shadow.specs.Held.{shadowArea}
-use Rattle.shadow.specs.Drop.{scanOf}
-use Rattle.drops.proofs.Scan.{Dropped}
-use Rattle.drops.proofs.Held.{leafAt, HeldEntry, HeldEntries}
-use Rattle.drops.proofs.Drops.{namedIn, guestFrame, mapping-all, drop-mapping, empty-mapping}
-use Rattle.drops.proofs.Valid.{framesAt, entryOf, valid-entries, Stays, stays-mapping}
-use Rattle.unit.specs.Calls.{hostTop, headHeld, headHost, nothing, ended, refused, withHeld, withHost, droppedBy, unmappedOf, mappedBy, rootCall, mapCall, unmapCall}
+use Rattle.drops.specs.Drop.{scanOf}
+use Rattle.drops_laws.proofs.Scan.{Dropped}
+use Rattle.drops_laws.proofs.Held.{leafAt, HeldEntry, HeldEntries}
+use Rattle.drops_laws.proofs.Drops.{namedIn, guestFrame, mapping-all, drop-mapping, empty-mapping}
+use Rattle.drops_laws.proofs.Valid.{framesAt, entryOf, valid-entries, Stays, stays-mapping}
+use Rattle.calls.specs.Calls.{hostTop, headHeld, headHost, nothing, ended, refused, withHeld, withHost, droppedBy, unmappedOf, mappedBy, rootCall, mapCall, unmapCall}
 use Rattle.claims.proofs.Invariant.{longer, topBy, Inv, Follows, stands}
-use Rattle.shadow.specs.declared.Left.{Left}
+use Rattle.drops.specs.declared.Left.{Left}
 use Rattle.claims.proofs.Moves.{Moved, dropped-left, after, follows-no, follows-ok, after-fits, first-positive, invariant, inv-fits, inv-stands, inv-root, inv-shadow, inv-top, fits-held, fits-host, maps-beside, shadow-drop, host-drop, shadow-none, shadow-on, top-on, keep-all, longer-keep, all-longer, find-keep}
 use Rattle.words.specs.After.{After}
-use Rattle.unit.specs.declared.Reply.{Reply}
+use Rattle.calls.specs.declared.Reply.{Reply}
 use Rattle.host.specs.declared.Change.{Change}
 
 no-place : {r : Place} → none ≡ some r → ⊥

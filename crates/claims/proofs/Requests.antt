@@ -26,12 +26,12 @@ use Rattle.spec.specs.Call.{addressIndexes, plain, deviceWalk, access, machineS
 use Rattle.spec.specs.Count.{Counted, one, hostExit, request, storing, unshadowed, bookStep}
 use Rattle.spec.specs.Refusal.{firstFailed, addressFits, deviceFits, wordAligned, tests, refusal}
 use Rattle.spec.specs.Run.{State, lineOf, answered, step}
-use Rattle.laws.proofs.Lists.{and-left, is-true}
-use Rattle.laws.proofs.Keeps.{shadow-asked}
-use Rattle.laws.proofs.Asks.{asks-trace, AnswerIn, FaultFits, Guest, asks-bind, hosted-asks}
+use Rattle.spec_laws.proofs.Lists.{and-left, is-true}
+use Rattle.spec_laws.proofs.Keeps.{shadow-asked}
+use Rattle.spec_laws.proofs.Asks.{asks-trace, AnswerIn, FaultFits, Guest, asks-bind, hosted-asks}
 use Rattle.words.specs.Words as words
 use Rattle.entry.proofs.Entries.{word-fits}
-use Rattle.host.proofs.Laws.{InGuestArea}
+use Rattle.layout.proofs.Laws.{InGuestArea}
 use Rattle.walk.specs.Memory.{walkedOf}
 use Rattle.walk.proofs.Stands.{Stands, plainWalked, same-word, stands-walked}
 use Rattle.record.specs.declared.Record.{Record}
@@ -40,17 +40,17 @@ use Rattle.request.specs.Translate.{translation, exitBy}
 use Rattle.request.proofs.Device.{deviceScript, device-script}
 use Rattle.record.specs.Record.{headTables}
 use Rattle.request.specs.Access.{loadBy, loadOf, writtenBy, storeBy, storeOf, deviceBy, deviceOf}
-use Rattle.unit.specs.Calls.{hostTop, heldOf, headHeld, ended, refused, judged, withHeld, servedBy, addressOk, deviceOk, translatedOf, loadCall, storeCall, deviceCall}
+use Rattle.calls.specs.Calls.{hostTop, heldOf, headHeld, ended, refused, judged, withHeld, servedBy, addressOk, deviceOk, translatedOf, loadCall, storeCall, deviceCall}
 use Rattle.claims.proofs.Invariant.{Inv, Follows, stands, at}
 use Rattle.claims.proofs.Paths.{exit-is}
-use Rattle.laws.proofs.Indexes.{indexes-all}
+use Rattle.spec_laws.proofs.Indexes.{indexes-all}
 use Rattle.claims.proofs.Found as found
 use Rattle.claims.proofs.Moves.{at-inv}
 use Rattle.claims.proofs.Translates.{Translates, translates}
 use Rattle.claims.proofs.Puts.{puts}
 use Rattle.words.specs.After.{After, yields}
 use Rattle.request.specs.declared.Translated.{Translated}
-use Rattle.unit.specs.declared.Reply.{Reply}
+use Rattle.calls.specs.declared.Reply.{Reply}
 
 -- a call that says l and leaves the record q, the memory n and the state t
 pub follows-by : (x : Call) (s t : State) (r q : Record) (a : Answer) (l : Line) (n : List ℕ) → step x (at (configOf r) s) ≡ (l, t) → configOf q ≡ t .config → line a ≡ l

@@ -23,26 +23,27 @@ use Rattle.spec.specs.Machine.{place}
 use Rattle.spec.specs.declared.Call.{Call}
 use Rattle.spec.specs.declared.Call.the-variants.{Root as root, Map as map, Unmap as unmap, SetMark as setMark, ClearMark as clearMark, Load as load, Store as store, Device as device}
 use Rattle.spec.specs.Refusal.{firstFailed, frameFits, inGuestArea, wordsFit, areasFit, openRefusal}
-use Rattle.laws.proofs.Lists.{All}
+use Rattle.spec_laws.proofs.Lists.{All}
 use Rattle.entry.proofs.Entries.{word-fits}
-use Rattle.area.specs.declared.Area.{Area}
-use Rattle.area.specs.declared.Pool.{Pool}
-use Rattle.area.specs.declared.Way.{Way}
-use Rattle.area.specs.declared.Way.the-variants.{To, Not, Bad}
+use Rattle.pool.specs.declared.Area.{Area}
+use Rattle.pool.specs.declared.Pool.{Pool}
+use Rattle.pool.specs.declared.Way.{Way}
+use Rattle.pool.specs.declared.Way.the-variants.{To, Not, Damaged}
 use Rattle.words.specs.Words.{at, setIn}
-use Rattle.area.specs.Header.{entryIn, putOf as entryPut, bareOf}
-use Rattle.area.specs.Pool.{onWay, end, withTop, giveOf, backOf}
+use Rattle.pool.specs.Header.{entryIn, putOf as entryPut, bareOf}
+use Rattle.pool.specs.Pool.{onWay, end, withTop, withFreed, freeWords}
 use Rattle.area.specs.Tree.{roomOf, enterOf, descendOf, downOf, placeOf, insertOf}
-use Rattle.area.specs.Remove.{unhangOf, shutOf, releaseOf, lastOf, lastIndex, clearOf, removeOf}
-use Rattle.area.specs.Outside.{SameOutside}
-use Rattle.area.proofs.Outside.{indexes-narrow, out-refl, out-trans, insert-out, remove-out}
-use Rattle.tree.specs.Host.{hostEntry}
-use Rattle.tree.proofs.Change.{some-inj, not-some}
-use Rattle.host.specs.declared.HostWalk.{HostWalk}
-use Rattle.host.specs.declared.HostWalk.the-variants as host
+use Rattle.area.specs.Remove.{detachOf, releaseTop, releaseOf, lastOf, lastIndex, clearOf, removeOf}
+use Rattle.pool.specs.Outside.{SameOutside}
+use Rattle.pool.proofs.Outside.{out-refl, out-trans}
+use Rattle.area.proofs.Outside.{indexes-narrow, insert-out, remove-out}
+use Rattle.area_laws.specs.Host.{hostEntry}
+use Rattle.area_laws.proofs.Change.{some-inj, not-some}
+use Rattle.layout.specs.declared.HostWalk.{HostWalk}
+use Rattle.layout.specs.declared.HostWalk.the-variants as host
 use Rattle.host.specs.Walk.{hostWalkOf}
 use Rattle.host.specs.Map.{hostArea, changed, changeBy, changedBy, mapOf, unmapOf}
-use Rattle.host.proofs.Laws.{InGuestArea}
+use Rattle.layout.proofs.Laws.{InGuestArea}
 use Rattle.walk.specs.declared.Walked.{Walked}
 use Rattle.walk.specs.declared.Walked.the-variants as walked
 use Rattle.walk.specs.Memory.{walkedOf}
@@ -54,9 +55,9 @@ use Rattle.record.specs.Record.{configOf, configBy, fitsOf, guestFrame, headOf,
 use Rattle.record.specs.Open.{refusalOf}
 use Rattle.record.proofs.Rules.{Fits, fits-layout}
 use Rattle.record.proofs.Opening.{granted-long, granted-guest}
-use Rattle.shadow.specs.declared.Cut.the-variants.{Names}
-use Rattle.shadow.specs.Drop.{scanOf, dropPrefixOf}
-use Rattle.shadow.proofs.Outside.{scan-out, prefix-out}
+use Rattle.drops.specs.declared.Cut.the-variants.{Names}
+use Rattle.drops.specs.Drop.{scanOf, dropPrefixOf}
+use Rattle.drops.proofs.Outside.{scan-out, prefix-out}
 use Rattle.entry.specs.declared.HostPhysical.{HostPhysical}
 use Rattle.record.specs.declared.Head.{Head}
 use Rattle.request.specs.declared.Held.{Held as Holding}
@@ -64,17 +65,17 @@ use Rattle.request.specs.Access.{loadOf, putOf, storeOf, deviceBy, deviceOf}
 use Rattle.request.proofs.Fits.{ArrivedIn}
 use Rattle.request.proofs.Leaves.{Leaves, translate-leaves, put-leaves}
 use Rattle.request.proofs.Device.{device-in}
-use Rattle.unit.specs.Calls.{hostTop, heldOf, rootOf, headHeld, headHost, nothing, ended, refused, judged, withHeld, withHost, servedBy, addressOk, deviceOk, depthAt, translatedOf, loadCall, storeCall, deviceCall, rootCall, droppedBy, unmappedOf, mappedBy, mapCall, unmapCall, heldAfter, markedOf, callOf, keysOf, setMarkCall, clearMarkCall, openCall}
-use Rattle.unit.proofs.Ranges.{fits-held}
+use Rattle.calls.specs.Calls.{hostTop, heldOf, rootOf, headHeld, headHost, nothing, ended, refused, judged, withHeld, withHost, servedBy, addressOk, deviceOk, depthAt, translatedOf, loadCall, storeCall, deviceCall, rootCall, droppedBy, unmappedOf, mappedBy, mapCall, unmapCall, heldAfter, markedOf, callOf, keysOf, setMarkCall, clearMarkCall, openCall}
+use Rattle.calls.proofs.Ranges.{fits-held}
 use Rattle.claims.specs.Run.{guestArea}
 use Rattle.claims.proofs.Puts.{area-store}
 use Rattle.claims.proofs.Paths.{held-same, loadedBy, storedBy, writtenIn}
 use Rattle.claims.proofs.Opens.{granted-call, refused-call}
 use Rattle.words.specs.After.{After, yields}
-use Rattle.area.specs.declared.Went.{Went}
-use Rattle.unit.specs.declared.Reply.{Reply}
+use Rattle.pool.specs.declared.Went.{Went}
+use Rattle.calls.specs.declared.Reply.{Reply}
 use Rattle.request.specs.declared.Put.{Put}
-use Rattle.shadow.specs.declared.Left.{Left}
+use Rattle.drops.specs.declared.Left.{Left}
 use Rattle.request.specs.declared.Translated.{Translated}
 use Rattle.host.specs.declared.Change.{Change}
 
@@ -189,12 +190,12 @@ module _ (r : Record) (m : List ℕ) where
 abbrev Sure : Way → Type 0
 Sure (To f) = Unit {0}
 Sure Not = ⊥
-Sure Bad = Unit {0}
+Sure Damaged = Unit {0}
 
 abbrev NotLeaves : List ℕ → List ℕ → Way → Type 0
 NotLeaves m n (To f) = Unit {0}
 NotLeaves m n Not = n ≡ m
-NotLeaves m n Bad = Unit {0}
+NotLeaves m n Damaged = Unit {0}
 
 abbrev Refuses : List ℕ → After Went → Type 0
 Refuses m t = NotLeaves m (t .memory) (t .result .way)
@@ -202,7 +203,7 @@ Refuses m t = NotLeaves m (t .memory) (t .result .way)
 sure-leaves : (m n : List ℕ) (w : Way) → Sure w → NotLeaves m n w
 sure-leaves m n (To f) s = tt
 sure-leaves m n Not s = absurd s
-sure-leaves m n Bad s = tt
+sure-leaves m n Damaged s = tt
 
 module _ (a : Area) where
   -- once a frame is handed out, no room is damage
@@ -215,10 +216,10 @@ module _ (a : Area) where
       t = descendOf a p m (getD guests (d + 1) 0) (a .levels - (d + 1)) f i
 
       go : (w : Way) → ((h : ℕ) → Sure (downOf a guests (t .result .pool) (t .memory) (d + 1) h j is e .result .way))
-          → Sure (onWay w (end (t .result .pool) Bad (t .memory)) (end (t .result .pool) Bad (t .memory)) (λ h. downOf a guests (t .result .pool) (t .memory) (d + 1) h j is e) .result .way)
+          → Sure (onWay w (end (t .result .pool) Damaged (t .memory)) (end (t .result .pool) Damaged (t .memory)) (λ h. downOf a guests (t .result .pool) (t .memory) (d + 1) h j is e) .result .way)
       go (To h) k = k h
       go Not k = tt
-      go Bad k = tt
+      go Damaged k = tt
 
   place-sure : (guests : List ℕ) (p : Pool) (m : List ℕ) (i : ℕ) (is : List ℕ) (e : ℕ) → Sure (placeOf a guests p m i is e .result .way)
   unfolding placeOf
@@ -228,43 +229,43 @@ module _ (a : Area) where
       t = enterOf a p m (getD guests 0 0)
 
       go : (w : Way)
-          → Sure (onWay w (end (t .result .pool) Bad (t .memory)) (end (t .result .pool) Bad (t .memory)) (λ f. downOf a guests (t .result .pool) (t .memory) 0 f i is e) .result .way)
+          → Sure (onWay w (end (t .result .pool) Damaged (t .memory)) (end (t .result .pool) Damaged (t .memory)) (λ f. downOf a guests (t .result .pool) (t .memory) 0 f i is e) .result .way)
       go (To f) = down-sure is guests (t .result .pool) (t .memory) 0 f i e
       go Not = tt
-      go Bad = tt
+      go Damaged = tt
 
   insert-refuses : (guests : List ℕ) (p : Pool) (m is : List ℕ) (e : ℕ) → Refuses m (insertOf a guests p m is e)
   unfolding insertOf
   insert-refuses guests p m [] e = refl
   insert-refuses guests p m (i ∷ is) e = go (roomOf a p m (i ∷ is))
     where
-      go : (w : Way) → Refuses m (onWay w (end p Not m) (end p Bad m) (λ n. placeOf a guests p m i is e))
+      go : (w : Way) → Refuses m (onWay w (end p Not m) (end p Damaged m) (λ n. placeOf a guests p m i is e))
       go (To n) = let t = placeOf a guests p m i is e in sure-leaves m (t .memory) (t .result .way) (place-sure guests p m i is e)
       go Not = refl
-      go Bad = tt
+      go Damaged = tt
 
-  shut-sure : (stays : Bool) (p : Pool) (m : List ℕ) (f : ℕ) → Sure (shutOf stays p m f .result .way)
-  unfolding shutOf
-  shut-sure true p m f = tt
-  shut-sure false p m f = go (bareOf m f 512)
+  release-top-sure : (stays : Bool) (p : Pool) (m : List ℕ) (f : ℕ) → Sure (releaseTop stays p m f .result .way)
+  unfolding releaseTop
+  release-top-sure true p m f = tt
+  release-top-sure false p m f = go (bareOf m f 512)
     where
-      go : (b : Bool) → Sure (cond b (end (giveOf (withTop p 0) f) (To f) (backOf m f (p .free))) (end p (To f) m) .result .way)
+      go : (b : Bool) → Sure (cond b (end (withFreed (withTop p 0) f) (To f) (freeWords m f (p .free))) (end p (To f) m) .result .way)
       go true = tt
       go false = tt
 
   release-sure : (k : ℕ) (stays : Bool) (p : Pool) (m : List ℕ) (f : ℕ) → Sure (releaseOf a stays p m k f .result .way)
   unfolding releaseOf
-  release-sure zero stays p m f = shut-sure stays p m f
+  release-sure zero stays p m f = release-top-sure stays p m f
   release-sure (suc k) stays p m f = go (t .result .way) (λ h. release-sure k stays (t .result .pool) (t .memory) h)
     where
       t : After Went
-      t = unhangOf a p m f
+      t = detachOf a p m f
 
       go : (w : Way) → ((h : ℕ) → Sure (releaseOf a stays (t .result .pool) (t .memory) k h .result .way))
-          → Sure (onWay w (end (t .result .pool) (To f) (t .memory)) (end (t .result .pool) Bad (t .memory)) (λ h. releaseOf a stays (t .result .pool) (t .memory) k h) .result .way)
+          → Sure (onWay w (end (t .result .pool) (To f) (t .memory)) (end (t .result .pool) Damaged (t .memory)) (λ h. releaseOf a stays (t .result .pool) (t .memory) k h) .result .way)
       go (To h) g = g h
       go Not g = tt
-      go Bad g = tt
+      go Damaged g = tt
 
   clear-refuses : (stays : Bool) (p : Pool) (m : List ℕ) (k f i : ℕ) → Refuses m (clearOf a stays p m k f i)
   unfolding clearOf
@@ -281,10 +282,10 @@ module _ (a : Area) where
   remove-refuses stays p m [] = refl
   remove-refuses stays p m (i ∷ is) = go (lastOf (a .base) (a .size) m (p .top) i is)
     where
-      go : (w : Way) → Refuses m (onWay w (end p Not m) (end p Bad m) (λ f. clearOf a stays p m (length is) f (lastIndex i is)))
+      go : (w : Way) → Refuses m (onWay w (end p Not m) (end p Damaged m) (λ f. clearOf a stays p m (length is) f (lastIndex i is)))
       go (To f) = clear-refuses stays p m (length is) f (lastIndex i is)
       go Not = refl
-      go Bad = tt
+      go Damaged = tt
 
 -- ---- a change of the mapping
 record ChangeKept (c : Config) (m : List ℕ) (t : After Change) : Type 0 where
@@ -302,7 +303,7 @@ module _ (c : Config) (p : Pool) (m : List ℕ) where
       go : (w : Way) → NotLeaves m (t .memory) w → ChangeKept c m (yields (changeBy p (t .result .pool) n w) (t .memory))
       go (To g) k = record { same = x; numbered = λ z. absurd (z refl); whole = λ z e. absurd (z refl) }
       go Not k = record { same = x; numbered = λ z. l; whole = λ z e. k }
-      go Bad k = record { same = x; numbered = λ z. (omega arith, omega arith); whole = λ z e. absurd (e refl) }
+      go Damaged k = record { same = x; numbered = λ z. (omega arith, omega arith); whole = λ z e. absurd (e refl) }
 
   map-kept : (g f : ℕ) (w : Bool) → ChangeKept c m (mapOf c p m g f w)
   unfolding mapOf

@@ -23,18 +23,18 @@ use Rattle.spec.specs.Call.{addressIndexes, plain}
 use Rattle.spec.specs.Count.{Counted, serves, heldBy, hostExit, shadowed, unshadowed, request}
 use Rattle.spec.specs.Refusal.{addressFits}
 use Rattle.spec.specs.Run.{State}
-use Rattle.laws.proofs.Lists.{All, all-map, is-true, is-false}
-use Rattle.laws.proofs.Local.{Seen, seen}
-use Rattle.laws.proofs.Granted.{granted-is, walk-same, walk-serves}
-use Rattle.laws.proofs.Parts.{shadow-fault, direct-result}
-use Rattle.laws.proofs.Indexes.{indexes-length, indexes-all}
-use Rattle.laws.proofs.Depth.{PathFits, no-proper-prefix}
-use Rattle.laws.proofs.Keeps.{Valid, again, fill-valid}
-use Rattle.laws.proofs.Runs.{BookFits, fill-keeps}
-use Rattle.tree.proofs.Paths.{onto}
-use Rattle.tree.proofs.Whole.{Holds, Next}
-use Rattle.host.specs.declared.HostWalk.the-variants as host
-use Rattle.host.proofs.Laws.{InGuestArea}
+use Rattle.spec_laws.proofs.Lists.{All, all-map, is-true, is-false}
+use Rattle.spec_laws.proofs.Local.{Seen, seen}
+use Rattle.spec_laws.proofs.Granted.{granted-is, walk-same, walk-serves}
+use Rattle.spec_laws.proofs.Parts.{shadow-fault, direct-result}
+use Rattle.spec_laws.proofs.Indexes.{indexes-length, indexes-all}
+use Rattle.spec_laws.proofs.Depth.{PathFits, no-proper-prefix}
+use Rattle.spec_laws.proofs.Keeps.{Valid, again, fill-valid}
+use Rattle.spec_laws.proofs.Runs.{BookFits, fill-keeps}
+use Rattle.area_laws.proofs.Paths.{onto}
+use Rattle.area_laws.proofs.Whole.{Holds, Next}
+use Rattle.layout.specs.declared.HostWalk.the-variants as host
+use Rattle.layout.proofs.Laws.{InGuestArea}
 use Rattle.walk.specs.declared.Walked.the-variants as walked
 use Rattle.walk.specs.Memory.{walkedOf}
 use Rattle.walk.proofs.Stands.{Stands, stands-trace, plainWalked, root-walked, table-walked}
@@ -45,23 +45,23 @@ use Rattle.record.proofs.Rules.{Fits, fits-true, holds-pool}
 use Rattle.shadow.specs.Held.{shadowArea, entryFor}
 use Rattle.shadow.specs.Fill.{fillOf}
 use Rattle.shadow.proofs.Parts.{entry-present}
-use Rattle.drops.proofs.Held.{leafAt}
-use Rattle.drops.proofs.Find.{find-all}
-use Rattle.drops.proofs.Fill.{trail-is, fill-is}
-use Rattle.drops.proofs.Valid.{framesAt, entryOf, entry-thin, valid-frame, inside-area, Stays, stays-same}
+use Rattle.drops_laws.proofs.Held.{leafAt}
+use Rattle.drops_laws.proofs.Find.{find-all}
+use Rattle.drops_laws.proofs.Fill.{trail-is, fill-is}
+use Rattle.drops_laws.proofs.Valid.{framesAt, entryOf, entry-thin, valid-frame, inside-area, Stays, stays-same}
 use Rattle.request.specs.Translate.{holding as holdingAt, translation, exitBy, directOf, servedOf, servesOf, foundOf, foundBy, missedOf, missedBy, filledOf, fillBy, plainOf, translateOf}
 use Rattle.request.specs.declared.Held.{Held as Holding}
 use Rattle.record.specs.Record.{headTables}
-use Rattle.tree.proofs.Paths.{Guests}
+use Rattle.area_laws.proofs.Paths.{Guests}
 use Rattle.walk.specs.Memory.{memoryWorld, trailFrom, trailOf}
-use Rattle.laws.proofs.Asks.{walk-asks}
-use Rattle.unit.specs.Calls.{hostTop, heldOf, headHeld, withHeld, depthAt, translatedOf}
+use Rattle.spec_laws.proofs.Asks.{walk-asks}
+use Rattle.calls.specs.Calls.{hostTop, heldOf, headHeld, withHeld, depthAt, translatedOf}
 use Rattle.claims.proofs.Invariant.{longer, topBy, frames, Inv, stands}
 use Rattle.claims.proofs.Moves.{fits-held, maps-beside, shadow-drop, invariant, shadow-on, at-inv}
 use Rattle.claims.proofs.Paths.{path-upper, path-lower, walk-above, exit-is}
 use Rattle.claims.proofs.Found as found
 use Rattle.words.specs.After.{After, yields}
-use Rattle.area.specs.declared.Went.{Went}
+use Rattle.pool.specs.declared.Went.{Went}
 use Rattle.request.specs.declared.Translated.{Translated}
 
 -- what a translation on s leaves: the plain walk's result, the book's references and exits, and the book's next state

@@ -18,22 +18,24 @@ use Rattle.spec.specs.Entry.{present, writable, frameOf, malformed, pageOf, ind
 use Rattle.spec.specs.Walk.{Walk, done, fail, host, word, _>>=_, World, Trace, trace}
 use Rattle.spec.specs.Plain.{Place, must, hosted, entry, next, levels, walk}
 use Rattle.spec.specs.Refusal.{inGuestArea}
-use Rattle.laws.proofs.Lists.{All, all-map, is-true, is-false}
-use Rattle.laws.proofs.Indexes.{indexes-length}
+use Rattle.spec_laws.proofs.Lists.{All, all-map, is-true, is-false}
+use Rattle.spec_laws.proofs.Indexes.{indexes-length}
 use Rattle.entry.specs.declared.HostPhysical.{HostPhysical}
 use Rattle.words.specs.Words.{wordIn}
-use Rattle.area.specs.declared.Way.{Way}
-use Rattle.area.specs.declared.Way.the-variants.{To, Not, Bad}
+use Rattle.pool.specs.declared.Way.{Way}
+use Rattle.pool.specs.declared.Way.the-variants.{To, Not, Damaged}
 use Rattle.area.specs.declared.Look.{Look}
-use Rattle.area.specs.declared.Look.the-variants.{Seen, Broken}
-use Rattle.area.specs.Header.{entryIn}
-use Rattle.area.specs.Pool.{hopOf, onWay}
+use Rattle.area.specs.declared.Look.the-variants.{Seen}
+use Rattle.area.specs.declared.Look.the-variants as look
+use Rattle.pool.specs.Header.{entryIn}
+use Rattle.pool.specs.Pool.{followOf, onWay}
 use Rattle.area.specs.Tree.{lookOf}
-use Rattle.tree.proofs.Invariant.{present-zero}
-use Rattle.tree.proofs.Local.{entriesRead, SameEntry, look-local, Counts, look-count}
-use Rattle.host.specs.declared.HostWalk.{HostWalk}
-use Rattle.host.specs.declared.HostWalk.the-variants as hosts
-use Rattle.host.specs.Walk.{page, leafOf, hostBy, hostWalkOf}
+use Rattle.area_laws.proofs.Invariant.{present-zero}
+use Rattle.area_laws.proofs.Local.{entriesRead, SameEntry, look-local, Counts, look-count}
+use Rattle.layout.specs.declared.HostWalk.{HostWalk}
+use Rattle.layout.specs.declared.HostWalk.the-variants as hosts
+use Rattle.layout.specs.Layout.{page, leafOf, namedBy}
+use Rattle.host.specs.Walk.{hostWalkOf}
 use Rattle.walk.specs.declared.Walked.{Walked}
 use Rattle.walk.specs.declared.Walked.the-variants as walked
 use Rattle.walk.specs.Memory.{placeOf, readsOf, memoryWorld, absentBy, walkedBy, walkedOf}
@@ -42,7 +44,7 @@ use Rattle.record.specs.declared.Record.{Record}
 use Rattle.record.specs.Record.{configOf}
 use Rattle.shadow.specs.Held.{heldOf as shadowed}
 use Rattle.request.specs.Translate.{translation, exitBy, pathIndexes, directOf, servedOf, servesOf, foundOf, foundBy, missedOf, plainOf, translateOf}
-use Rattle.unit.specs.Calls.{hostTop, heldOf, rootOf, depthAt, translatedOf}
+use Rattle.calls.specs.Calls.{hostTop, heldOf, rootOf, depthAt, translatedOf}
 use Rattle.claims.specs.Counted.{Word, SameWords, hostWords, walkWords, pathWords, directWords, countedOf}
 use Rattle.words.specs.After.{After, yields}
 use Rattle.request.specs.declared.Translated.{Translated}
@@ -166,7 +168,7 @@ walked-fail c ht m j (HostReadOnly g) h = let z : j + 0 ≡ j = omega arith in a
 
 host-local : (c : Config) (ht : ℕ) (m n : List ℕ) (g : ℕ) → SameWords m n (hostWords c ht m g) → hostWalkOf c ht n g ≡ hostWalkOf c ht m g
 unfolding hostWalkOf
-host-local c ht m n g h = ap (hostBy c) (look-local 0 (c .hosts) m n (indexes (c .levels) g) ht 0 (same-entries m n (hostWords c ht m g) h))
+host-local c ht m n g h = ap (namedBy c) (look-local 0 (c .hosts) m n (indexes (c .levels) g) ht 0 (same-entries m n (hostWords c ht m g) h))
 
 pub walk-local : (c : Config) (ht : ℕ) (m n : List ℕ) (p : Walk Fault Place) (j : ℕ) → Ends p → SameWords m n (walkWords c ht m p) → walkedOf c ht n j p ≡ walkedOf c ht m j p
 unfolding walkWords
@@ -192,22 +194,22 @@ walk-local c ht m n (word t i k) j h s =
 -- an entry that is present was found at the end of the whole path
 abbrev Full : ℕ → Look → Type 0
 Full n (Seen e k) = present e ≡ true → k ≡ n
-Full n Broken = Unit {0}
+Full n look.Damaged = Unit {0}
 
 look-full : (b s : ℕ) (m : List ℕ) (is : List ℕ) (e k : ℕ) → Full (k + length is) (lookOf b s m e is k)
 unfolding lookOf
 look-full b s m [] e k = λ q. omega arith
-look-full b s m (i ∷ is) e k = go (hopOf b s e) (λ f. look-full b s m is (entryIn m f i) (k + 1))
+look-full b s m (i ∷ is) e k = go (followOf b s e) (λ f. look-full b s m is (entryIn m f i) (k + 1))
   where
     more : (x y : ℕ) (l : Look) → x ≡ y → Full x l → Full y l
     more x y (Seen e n) q h = λ p. h p ∙ q
-    more x y Broken q h = tt
+    more x y look.Damaged q h = tt
 
     go : (w : Way) → ((f : ℕ) → Full (k + 1 + length is) (lookOf b s m (entryIn m f i) is (k + 1)))
-        → Full (k + suc (length is)) (onWay w (Seen 0 k) Broken (λ f. lookOf b s m (entryIn m f i) is (k + 1)))
+        → Full (k + suc (length is)) (onWay w (Seen 0 k) look.Damaged (λ f. lookOf b s m (entryIn m f i) is (k + 1)))
     go (To f) ih = more (k + 1 + length is) (k + suc (length is)) (lookOf b s m (entryIn m f i) is (k + 1)) (omega arith) (ih f)
     go Not ih = λ q. let t : _≡_ {A = Bool} false true = sym present-zero ∙ q in let z : _≡_ {A = ℕ} 0 1 = cc in absurd (omega arith)
-    go Bad ih = tt
+    go Damaged ih = tt
 
 -- the words of a lookup: one for each index where it finds an entry, else as many as it tells
 abbrev LookReads : ℕ → ℕ → HostWalk → Type 0
@@ -215,18 +217,18 @@ LookReads x k (hosts.Found p w) = x ≡ k
 LookReads x k (hosts.Absent n) = x ≡ n
 LookReads x k hosts.Damaged = Unit {0}
 
-look-reads : (c : Config) (b s : ℕ) (m : List ℕ) (e : ℕ) (is : List ℕ) → LookReads (length (entriesRead b s m e is)) (length is) (hostBy c (lookOf b s m e is 0))
+look-reads : (c : Config) (b s : ℕ) (m : List ℕ) (e : ℕ) (is : List ℕ) → LookReads (length (entriesRead b s m e is)) (length is) (namedBy c (lookOf b s m e is 0))
 unfolding leafOf
 look-reads c b s m e is = go (lookOf b s m e is 0) (look-count b s m is e 0) (look-full b s m is e 0)
   where
-    go : (l : Look) → Counts (0 + length (entriesRead b s m e is)) l → Full (0 + length is) l → LookReads (length (entriesRead b s m e is)) (length is) (hostBy c l)
+    go : (l : Look) → Counts (0 + length (entriesRead b s m e is)) l → Full (0 + length is) l → LookReads (length (entriesRead b s m e is)) (length is) (namedBy c l)
     go (Seen x n) q f = by (present x) refl (inGuestArea c (frameOf x))
       where
         by : (t : Bool) → present x ≡ t → (i : Bool) → LookReads (length (entriesRead b s m e is)) (length is) (cond t (cond i (hosts.Found (page (frameOf x)) (writable x)) hosts.Damaged) (hosts.Absent n))
         by true z true = let k = f z in omega (arith, k, q)
         by true z false = tt
         by false z i = omega (arith, q)
-    go Broken q f = tt
+    go look.Damaged q f = tt
 
 host-reads : (c : Config) (ht : ℕ) (m : List ℕ) (g : ℕ) → LookReads (length (hostWords c ht m g)) (c .levels) (hostWalkOf c ht m g)
 unfolding hostWalkOf
@@ -299,9 +301,9 @@ module _ (r : Record) (st : Bool) (a : ℕ) where
     where
       go : (b : Bool)
           → SameWords m n (cond b (entriesRead (c .hosts) (c .shadows) m (r .pools .shadow .top) (pathIndexes c d a)) [])
-          → cond b (hostBy c (lookOf (c .hosts) (c .shadows) n (r .pools .shadow .top) (pathIndexes c d a) 0)) (cond (eqb (r .guest .held .0) 0) (hosts.Absent 0) (hosts.Found (r .guest .held) true))
-          ≡ cond b (hostBy c (lookOf (c .hosts) (c .shadows) m (r .pools .shadow .top) (pathIndexes c d a) 0)) (cond (eqb (r .guest .held .0) 0) (hosts.Absent 0) (hosts.Found (r .guest .held) true))
-      go true q = ap (hostBy c) (look-local (c .hosts) (c .shadows) m n (pathIndexes c d a) (r .pools .shadow .top) 0
+          → cond b (namedBy c (lookOf (c .hosts) (c .shadows) n (r .pools .shadow .top) (pathIndexes c d a) 0)) (cond (eqb (r .guest .held .0) 0) (hosts.Absent 0) (hosts.Found (r .guest .held) true))
+          ≡ cond b (namedBy c (lookOf (c .hosts) (c .shadows) m (r .pools .shadow .top) (pathIndexes c d a) 0)) (cond (eqb (r .guest .held .0) 0) (hosts.Absent 0) (hosts.Found (r .guest .held) true))
+      go true q = ap (namedBy c) (look-local (c .hosts) (c .shadows) m n (pathIndexes c d a) (r .pools .shadow .top) 0
           (same-entries m n (entriesRead (c .hosts) (c .shadows) m (r .pools .shadow .top) (pathIndexes c d a)) q))
       go false q = refl
 
@@ -354,7 +356,7 @@ module _ (r : Record) (st : Bool) (a : ℕ) where
       at = r .pools .shadow .top
 
       go : (b : Bool) → ltb d (c .levels) ≡ b
-          → cond b (hostBy c (lookOf (c .hosts) (c .shadows) m at is 0)) (cond (eqb (r .guest .held .0) 0) (hosts.Absent 0) (hosts.Found (r .guest .held) true)) ≡ hosts.Found t w
+          → cond b (namedBy c (lookOf (c .hosts) (c .shadows) m at is 0)) (cond (eqb (r .guest .held .0) 0) (hosts.Absent 0) (hosts.Found (r .guest .held) true)) ≡ hosts.Found t w
           → length (cond b (entriesRead (c .hosts) (c .shadows) m at is) []) ≡ c .levels - d
       go true q e = subst (LookReads (length (entriesRead (c .hosts) (c .shadows) m at is)) (length is)) e (look-reads c (c .hosts) (c .shadows) m at is) ∙ indexes-length (c .levels - d) _
       go false q e = let k = ltb-false d (c .levels) q in omega arith

@@ -18,12 +18,12 @@ use Rattle.spec.specs.Machine.{place}
 use Rattle.spec.specs.Book.{Book, depth, find}
 use Rattle.spec.specs.Call.{addressIndexes}
 use Rattle.spec.specs.Count.{serves}
-use Rattle.laws.proofs.Lists.{All}
+use Rattle.spec_laws.proofs.Lists.{All}
 use Rattle.words.specs.Words.{wordIn}
-use Rattle.tree.proofs.Local.{entriesRead}
-use Rattle.tree.proofs.Stores.{SameFrame}
-use Rattle.host.specs.declared.HostWalk.{HostWalk}
-use Rattle.host.specs.declared.HostWalk.the-variants as hosts
+use Rattle.area_laws.proofs.Local.{entriesRead}
+use Rattle.area_laws.proofs.Stores.{SameFrame}
+use Rattle.layout.specs.declared.HostWalk.{HostWalk}
+use Rattle.layout.specs.declared.HostWalk.the-variants as hosts
 use Rattle.host.specs.Walk.{hostWalkOf}
 use Rattle.walk.specs.declared.Walked.{Walked}
 use Rattle.walk.specs.declared.Walked.the-variants as walked
@@ -31,10 +31,10 @@ use Rattle.walk.specs.Memory.{placeOf}
 use Rattle.record.specs.declared.Record.{Record}
 use Rattle.record.specs.Record.{configOf}
 use Rattle.request.specs.Translate.{pathIndexes, foundOf}
-use Rattle.unit.specs.Calls.{hostTop, heldOf, rootOf, depthAt, translatedOf, storeCall}
+use Rattle.calls.specs.Calls.{hostTop, heldOf, rootOf, depthAt, translatedOf, storeCall}
 use Rattle.claims.specs.Run.{guestArea}
 use Rattle.words.specs.After.{After}
-use Rattle.unit.specs.declared.Reply.{Reply}
+use Rattle.calls.specs.declared.Reply.{Reply}
 
 -- a word: its host frame and its index
 abbrev pub Word : Type 0

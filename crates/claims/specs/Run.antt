@@ -9,9 +9,9 @@ use Rattle.spec.specs.declared.Call.{Call}
 use Rattle.spec.specs.Run.{State}
 use Rattle.record.specs.declared.Record.{Record}
 use Rattle.record.specs.Record.{configOf}
-use Rattle.unit.specs.Calls.{openCall, callOf}
+use Rattle.calls.specs.Calls.{openCall, callOf}
 use Rattle.words.specs.After.{After}
-use Rattle.unit.specs.declared.Reply.{Reply}
+use Rattle.calls.specs.declared.Reply.{Reply}
 
 -- the guest area of a memory
 abbrev pub guestArea : Record → List ℕ → List ℕ

@@ -7,7 +7,7 @@ use native.Mathlib.Omega.{arith}
 use lib.ListN.{length, getD, drop, set}
 use Rattle.record.specs.Record.{headTables}
 use Rattle.request.specs.declared.Held.{Held}
-use Rattle.unit.specs.Calls.{headHeld}
+use Rattle.calls.specs.Calls.{headHeld}
 use Rattle.export.specs.Flat.{headIn, headWords}
 
 -- the first n words of a list, one by one

@@ -7,11 +7,11 @@ use Rattle.spec.specs.declared.Answer.{Answer}
 use Rattle.spec.specs.declared.Answer.the-variants as answer
 use Rattle.spec.specs.Answer.{letter, level, frame}
 use Rattle.words.specs.After.{After, yields}
-use Rattle.area.specs.declared.Pool.{Pool}
+use Rattle.pool.specs.declared.Pool.{Pool}
 use Rattle.record.specs.declared.Head.{Head}
 use Rattle.record.specs.declared.Record.{Record}
 use Rattle.record.specs.Record.{recordBy, headOf}
-use Rattle.unit.specs.declared.Reply.{Reply}
+use Rattle.calls.specs.declared.Reply.{Reply}
 use Rattle.export.specs.declared.FlatAnswer.{FlatAnswer}
 
 -- ---- the head, in 15 words

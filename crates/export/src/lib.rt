@@ -3,20 +3,19 @@
 ghost use mathlib.Core.Path.{_≡_};
 ghost use Rattle.words.specs.After.{yields};
 ghost use Rattle.record.specs.Record.{headOf};
-ghost use Rattle.unit.specs.Calls.{headHeld, openCall, loadCall, storeCall, deviceCall, rootCall, mapCall, unmapCall, setMarkCall, clearMarkCall};
+ghost use Rattle.calls.specs.Calls.{headHeld, openCall, loadCall, storeCall, deviceCall, rootCall, mapCall, unmapCall, setMarkCall, clearMarkCall};
 ghost use Rattle.export.specs.Flat.{headIn, headWords, recordIn, answerOf, flat, leftOf};
-use area::Pool;
 use entry::GuestPhysical;
 use entry::HostPhysical;
-use host::Layout;
+use layout::Layout;
 use marks::Marks;
+use pool::Pool;
 use record::Guest;
 use record::Head;
 use record::Pools;
 use record::Record;
 use request::Held;
 use spec::Answer;
-use spec::Fault;
 
 // An answer (specs/Flat has the kinds). The letter is an ASCII code; what a kind does not have is 0.
 #[repr(C)]
@@ -187,9 +186,9 @@ fn answer_of(a: Answer) -> FlatAnswer
         } => FlatAnswer {
             kind: 3,
             number: 0,
-            letter: fault::letter_of(fault) as u64,
-            level: fault::level_of(fault),
-            frame: fault::frame_of(fault),
+            letter: spec::letter_of(fault) as u64,
+            level: spec::level_of(fault),
+            frame: spec::frame_of(fault),
             references: references,
             exits: exits,
         },
@@ -235,7 +234,7 @@ pub extern "C" fn cangrieb_load(
     ensures { λ r. ⌜ yields (flat (now (head .exit)) (now (place .entry)) r) (now (mem .exit)) ≡ leftOf (loadCall (recordIn (now (head .entry)) (now (place .entry))) (now (mem .entry)) address) ⌝ }
 {
     let h = head_in(head);
-    let s = unit::load_at(h, place, mem, address);
+    let s = calls::load_at(h, place, mem, address);
     let answer = s.answer;
     let held = s.held;
     put_held(head, held);
@@ -254,7 +253,7 @@ pub extern "C" fn cangrieb_store(
     ensures { λ r. ⌜ yields (flat (now (head .exit)) (now (place .entry)) r) (now (mem .exit)) ≡ leftOf (storeCall (recordIn (now (head .entry)) (now (place .entry))) (now (mem .entry)) address value) ⌝ }
 {
     let h = head_in(head);
-    let s = unit::store_at(h, place, mem, address, value);
+    let s = calls::store_at(h, place, mem, address, value);
     let answer = s.answer;
     let held = s.held;
     put_held(head, held);
@@ -273,7 +272,7 @@ pub extern "C" fn cangrieb_device_store(
     ensures { λ r. ⌜ yields (flat (now (head .exit)) (now (place .entry)) r) (now (mem .exit)) ≡ leftOf (deviceCall (recordIn (now (head .entry)) (now (place .entry))) (now (mem .entry)) address value) ⌝ }
 {
     let h = head_in(head);
-    let s = unit::device_store_at(h, place, mem, address, value);
+    let s = calls::device_store_at(h, place, mem, address, value);
     let answer = s.answer;
     let held = s.held;
     put_held(head, held);
@@ -291,7 +290,7 @@ pub extern "C" fn cangrieb_root(
     ensures { λ r. ⌜ yields (flat (now (head .exit)) (now (place .entry)) r) (now (mem .entry)) ≡ leftOf (rootCall (recordIn (now (head .entry)) (now (place .entry))) (now (mem .entry)) guest) ⌝ }
 {
     let h = head_in(head);
-    let t = unit::root_at(h, place, mem, guest);
+    let t = calls::root_at(h, place, mem, guest);
     let answer = t.answer;
     let next = t.head;
     *head = head_words(next);
@@ -311,7 +310,7 @@ pub extern "C" fn cangrieb_map(
     ensures { λ r. ⌜ yields (flat (now (head .exit)) (now (place .entry)) r) (now (mem .exit)) ≡ leftOf (mapCall (recordIn (now (head .entry)) (now (place .entry))) (now (mem .entry)) guest frame writable) ⌝ }
 {
     let h = head_in(head);
-    let t = unit::map_at(h, place, mem, guest, frame, writable);
+    let t = calls::map_at(h, place, mem, guest, frame, writable);
     let answer = t.answer;
     let next = t.head;
     *head = head_words(next);
@@ -329,7 +328,7 @@ pub extern "C" fn cangrieb_unmap(
     ensures { λ r. ⌜ yields (flat (now (head .exit)) (now (place .entry)) r) (now (mem .exit)) ≡ leftOf (unmapCall (recordIn (now (head .entry)) (now (place .entry))) (now (mem .entry)) guest) ⌝ }
 {
     let h = head_in(head);
-    let t = unit::unmap_at(h, place, mem, guest);
+    let t = calls::unmap_at(h, place, mem, guest);
     let answer = t.answer;
     let next = t.head;
     *head = head_words(next);

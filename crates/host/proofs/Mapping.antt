@@ -15,25 +15,26 @@ use Rattle.spec.specs.Entry.{indexes}
 use Rattle.spec.specs.Plain.{Place}
 use Rattle.spec.specs.Machine.{Mapping, lookup, with, without, isMapped, hostTables, hostCost}
 use Rattle.spec.specs.Refusal.{firstFailed, frameFits, inGuestArea, tests, refusal}
-use Rattle.laws.proofs.Lists.{All, is-true, both}
-use Rattle.area.specs.declared.Pool.{Pool}
-use Rattle.area.specs.Pool.{noneOf}
+use Rattle.spec_laws.proofs.Lists.{All, is-true, both}
+use Rattle.pool.specs.declared.Pool.{Pool}
+use Rattle.pool.specs.Pool.{noneOf}
 use Rattle.area.specs.Tree.{enterOf, insertOf}
 use Rattle.area.specs.Remove.{removeOf}
-use Rattle.tree.specs.Host.{hostEntry, entryBy, hostMap}
-use Rattle.tree.proofs.Stores.{Beside, beside-refl, beside-trans, beside-drop}
-use Rattle.tree.proofs.Invariant.{present-zero}
-use Rattle.tree.specs.Run.{get}
-use Rattle.tree.proofs.Whole.{Holds, holds-leaves, holds-top}
-use Rattle.tree.proofs.Claim.{leaves}
-use Rattle.tree.proofs.Hosts.{Frames, entry-present, entry-writable, entry-frame, host-look, host-map, host-full, host-unmap, host-absent}
-use Rattle.host.specs.declared.HostWalk.{HostWalk}
-use Rattle.host.specs.declared.HostWalk.the-variants.{Found, Absent}
-use Rattle.host.specs.Walk.{page, leafOf, hostBy, hostWalkOf}
+use Rattle.area_laws.specs.Host.{hostEntry, entryBy, hostMap}
+use Rattle.area_laws.proofs.Stores.{Beside, beside-refl, beside-trans, beside-drop}
+use Rattle.area_laws.proofs.Invariant.{present-zero}
+use Rattle.area_laws.specs.Run.{get}
+use Rattle.area_laws.proofs.Whole.{Holds, holds-leaves, holds-top}
+use Rattle.area_laws.proofs.Claim.{leaves}
+use Rattle.area_laws.proofs.Hosts.{Frames, entry-present, entry-writable, entry-frame, host-look, host-map, host-full, host-unmap, host-absent}
+use Rattle.layout.specs.declared.HostWalk.{HostWalk}
+use Rattle.layout.specs.declared.HostWalk.the-variants.{Found, Absent}
+use Rattle.layout.specs.Layout.{page, leafOf, namedBy}
+use Rattle.host.specs.Walk.{hostWalkOf}
 use Rattle.host.specs.Map.{hostArea, changed, changedBy, mapOf, unmapOf, Remap, maps, unmaps, remapOf, Remapped, remapsOf, asCall, mappingOnly, noBook, numberBy, mappingBy, Mapped, mapsOf}
-use Rattle.host.proofs.Laws.{InGuestArea, in-guest-area}
+use Rattle.layout.proofs.Laws.{InGuestArea, in-guest-area}
 use Rattle.words.specs.After.{After}
-use Rattle.area.specs.declared.Went.{Went}
+use Rattle.pool.specs.declared.Went.{Went}
 use Rattle.host.specs.declared.Change.{Change}
 
 -- what the mapping says of a guest frame, as the code has it; n: the words read where there is none
@@ -72,7 +73,7 @@ module _ (c : Config) (xs : List Mapping) (p : Pool) (m : List ℕ) (h : Maps c 
   unfolding hostWalkOf leafOf
   walk-is g b =
       let s = frame-small c g b in
-      ap (hostBy c) (host-look c g s xs (h .frames) (h .deep) refl (h .holds))
+      ap (namedBy c) (host-look c g s xs (h .frames) (h .deep) refl (h .holds))
       ∙ go (lookup g xs) refl
     where
       go : (r : Option Place) → lookup g xs ≡ r → leafOf c (entryBy r) (hostCost c xs g) ≡ answerBy (hostCost c xs g) r

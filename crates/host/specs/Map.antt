@@ -11,16 +11,16 @@ use Rattle.spec.specs.Book.{Book}
 use Rattle.spec.specs.declared.Call.{Call}
 use Rattle.spec.specs.declared.Call.the-variants.{Map as map, Unmap as unmap}
 use Rattle.spec.specs.Refusal.{frameFits, inGuestArea, refusal}
-use Rattle.area.specs.declared.Area.{Area}
-use Rattle.area.specs.declared.Pool.{Pool}
-use Rattle.area.specs.declared.Way.{Way}
-use Rattle.area.specs.declared.Way.the-variants.{To, Not, Bad}
+use Rattle.pool.specs.declared.Area.{Area}
+use Rattle.pool.specs.declared.Pool.{Pool}
+use Rattle.pool.specs.declared.Way.{Way}
+use Rattle.pool.specs.declared.Way.the-variants.{To, Not, Damaged}
 use Rattle.area.specs.Tree.{insertOf}
 use Rattle.area.specs.Remove.{removeOf}
-use Rattle.tree.specs.Host.{hostEntry}
+use Rattle.area_laws.specs.Host.{hostEntry}
 use Rattle.host.specs.declared.Change.{Change}
 use Rattle.words.specs.After.{After, yields}
-use Rattle.area.specs.declared.Went.{Went}
+use Rattle.pool.specs.declared.Went.{Went}
 
 -- the host tables: the first H frames
 abbrev pub hostArea : Config → Area
@@ -33,7 +33,7 @@ changed p n m = yields (record { pool = p; refusal = n }) m
 abbrev pub changeBy : Pool → Pool → ℕ → Way → Change
 changeBy before after n (To f) = record { pool = after; refusal = 0 }
 changeBy before after n Not = record { pool = before; refusal = n }
-changeBy before after n Bad = record { pool = before; refusal = 11 }
+changeBy before after n Damaged = record { pool = before; refusal = 11 }
 
 abbrev pub changedBy : Pool → ℕ → After Went → After Change
 changedBy p n t = yields (changeBy p (t .result .pool) n (t .result .way)) (t .memory)

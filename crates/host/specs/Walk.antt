@@ -1,39 +1,13 @@
 -- The host walk over the words of the lent memory, damaged memory too. Document 01, "Host walk".
 -- Assumes nothing.
-use Prim.Native.Nat.{ℕ, _≤_}
-use mathlib.Core.Bool.{cond}
+use Prim.Native.Nat.{ℕ}
 use mathlib.Core.List.{List}
 use Rattle.spec.specs.Config.{Config}
-use Rattle.spec.specs.Entry.{present, writable, frameOf, indexes}
-use Rattle.spec.specs.Refusal.{inGuestArea}
-use Rattle.entry.specs.declared.HostPhysical.{HostPhysical}
-use Rattle.area.specs.declared.Look.{Look}
-use Rattle.area.specs.declared.Look.the-variants.{Seen, Broken}
+use Rattle.spec.specs.Entry.{indexes}
 use Rattle.area.specs.Tree.{lookOf}
-use Rattle.host.specs.declared.Layout.{Layout}
-use Rattle.host.specs.declared.HostWalk.{HostWalk}
-use Rattle.host.specs.declared.HostWalk.the-variants.{Found, Absent, Damaged}
-
--- the specification's configuration; a unit has 64 places for marks
-abbrev pub config : Layout → Config
-config l = record { levels = l .levels; markRoom = 64; hosts = l .hosts; shadows = l .shadows; frames = l .frames }
-
--- ranges that the check of the record gives
-abbrev pub LayoutFits : Layout → Type 0
-LayoutFits l = (l .levels ≤ 5) × (l .hosts ≤ 65536) × (l .shadows ≤ 65536) × (l .frames ≤ 65536)
-
-abbrev pub page : ℕ → HostPhysical
-page f = record { 0 = f }
-
--- the entry e at the end of a path: "11 if a present host or shadow entry .. names a frame outside the area it must lie in
--- (leaf and switch entries: guest area)"
-unfoldable pub leafOf : Config → ℕ → ℕ → HostWalk
-leafOf c e reads = cond (present e) (cond (inGuestArea c (frameOf e)) (Found (page (frameOf e)) (writable e)) Damaged) (Absent reads)
-
-abbrev pub hostBy : Config → Look → HostWalk
-hostBy c (Seen e reads) = leafOf c e reads
-hostBy c Broken = Damaged
+use Rattle.layout.specs.Layout.{namedBy}
+use Rattle.layout.specs.declared.HostWalk.{HostWalk}
 
 -- "Read the host entries from level 4 to level 1", from the entry of the top table on
 unfoldable pub hostWalkOf : Config → ℕ → List ℕ → ℕ → HostWalk
-hostWalkOf c top m g = hostBy c (lookOf 0 (c .hosts) m top (indexes (c .levels) g) 0)
+hostWalkOf c top m g = namedBy c (lookOf 0 (c .hosts) m top (indexes (c .levels) g) 0)

@@ -1,4 +1,4 @@
 // The job program: records from standard input, a line for each.
 fn main() {
-    stream::run();
+    job_stream::run();
 }

@@ -16,11 +16,11 @@ use Rattle.record.specs.Record.{configOf}
 use Rattle.record.specs.Open.{refusalOf}
 use Rattle.record.proofs.Opening.{refused-opening, granted-opening}
 use Rattle.spec.specs.declared.Call.{Call}
-use Rattle.records.specs.declared.Job.{Job}
-use Rattle.records.specs.declared.Job.the-variants as job
-use Rattle.jobs.specs.Run.{runOf}
-use Rattle.lines.specs.Text.{decimal, lineOf}
-use Rattle.unit.specs.Calls.{callOf}
+use Rattle.job_records.specs.declared.Job.{Job}
+use Rattle.job_records.specs.declared.Job.the-variants as job
+use Rattle.job_run.specs.Run.{runOf}
+use Rattle.job_lines.specs.Text.{decimal, lineOf}
+use Rattle.calls.specs.Calls.{callOf}
 use Rattle.claims.proofs.Invariant.{Inv, at}
 use Rattle.claims.proofs.Opens.{opened-inv, granted-call, refused-call}
 use Rattle.claims.proofs.Demands.{follows, at-self, opened-config}

@@ -12,12 +12,12 @@ use Rattle.spec.specs.declared.Call.{Call}
 use Rattle.spec.specs.Run.{State, step, opening}
 use Rattle.record.specs.declared.Record.{Record}
 use Rattle.record.specs.Record.{configBy}
-use Rattle.records.specs.declared.Job.{Job}
-use Rattle.records.specs.declared.Job.the-variants as job
-use Rattle.jobs.specs.Run.{runOf}
-use Rattle.lines.specs.Text.{decimal, hexadecimal, number, pair, okText, valueText, doneText, faultText, noText, lineOf}
+use Rattle.job_records.specs.declared.Job.{Job}
+use Rattle.job_records.specs.declared.Job.the-variants as job
+use Rattle.job_run.specs.Run.{runOf}
+use Rattle.job_lines.specs.Text.{decimal, hexadecimal, number, pair, okText, valueText, doneText, faultText, noText, lineOf}
 use Rattle.words.specs.After.{After}
-use Rattle.jobs.specs.declared.Ran.{Ran}
+use Rattle.job_run.specs.declared.Ran.{Ran}
 
 -- ---- the unit
 

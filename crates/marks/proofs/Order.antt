@@ -10,8 +10,8 @@ use lib.ListN.{length}
 use Rattle.spec.specs.Prefix.{any, keep, begins, same}
 use Rattle.spec.specs.Book.{Mark, sameMark, isSet, depth}
 use Rattle.spec.specs.Refusal.{noTwoAlike}
-use Rattle.laws.proofs.Lists.{is-true, same-refl}
-use Rattle.laws.proofs.Indexes.{eqb-sym}
+use Rattle.spec_laws.proofs.Lists.{is-true, same-refl}
+use Rattle.spec_laws.proofs.Indexes.{eqb-sym}
 use Rattle.marks.proofs.Ascending.{and-left}
 
 abbrev pub SameMembers : {A : Type 0} → List A → List A → Type 0

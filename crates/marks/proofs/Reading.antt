@@ -15,7 +15,7 @@ use Rattle.spec.specs.Entry.{indexes}
 use Rattle.spec.specs.Prefix.{begins, same, any}
 use Rattle.spec.specs.Book.{markAt, sameMark, isSet, depth}
 use Rattle.spec.specs.Refusal.{allOf, markFits, levelFits, noTwoAlike}
-use Rattle.laws.proofs.Indexes.{indexes-length, indexes-small, indexes-take, indexes-same, begins-longer, same-longer, begins-indexes}
+use Rattle.spec_laws.proofs.Indexes.{indexes-length, indexes-small, indexes-take, indexes-same, begins-longer, same-longer, begins-indexes}
 use Rattle.marks.specs.Key.{keyOf, levelAt, depthOf, keyFits, keysFit}
 use Rattle.marks.specs.Reading.{kept, markOf}
 use Rattle.marks.proofs.Ascending.{and-left, and-right}

@@ -14,12 +14,12 @@ use Rattle.spec.specs.Config.{Config, guestBase}
 use Rattle.spec.specs.Refusal.{firstFailed, wordsFit, areasFit, openRefusal}
 use Rattle.spec.specs.Run.{opened, opening}
 use Rattle.words.proofs.Laws.{zeroed-length, zeroed-above}
-use Rattle.area.specs.declared.Area.{Area}
-use Rattle.area.specs.Pool.{noneOf}
-use Rattle.tree.proofs.Stores.{Beside, beside-drop}
-use Rattle.tree.specs.Run.{get}
-use Rattle.tree.specs.Host.{hostMap}
-use Rattle.tree.proofs.Whole.{Holds, holds-leaves, holds-none}
+use Rattle.pool.specs.declared.Area.{Area}
+use Rattle.pool.specs.Pool.{noneOf}
+use Rattle.area_laws.proofs.Stores.{Beside, beside-drop}
+use Rattle.area_laws.specs.Run.{get}
+use Rattle.area_laws.specs.Host.{hostMap}
+use Rattle.area_laws.proofs.Whole.{Holds, holds-leaves, holds-none}
 use Rattle.host.specs.Map.{hostArea}
 use Rattle.host.proofs.Mapping.{Maps, enter-maps}
 use Rattle.marks.specs.Key.{ascending}

@@ -11,16 +11,16 @@ use borrow.Author.Tests.{eqb-true, eqb-false, leb-true, ltb-true, ltb-false, lt-
 use lib.Dec.{eqb, leb, ltb}
 use Rattle.spec.specs.Config.{Config, guestBase, frameBits}
 use Rattle.spec.specs.Refusal.{wordsFit, areasFit, frameFits, marksFit, topFits, recordFits, openRefusal}
-use Rattle.area.specs.declared.Area.{Area}
-use Rattle.area.specs.declared.Pool.{Pool}
-use Rattle.area.specs.Header.{insideOf}
-use Rattle.area.specs.Pool.{link}
-use Rattle.area.proofs.Laws.{inside-true}
-use Rattle.tree.proofs.Invariant.{slot, inside-is}
-use Rattle.tree.proofs.Whole.{Holds}
-use Rattle.host.specs.declared.Layout.{Layout}
-use Rattle.host.specs.Walk.{LayoutFits, config}
-use Rattle.host.proofs.Laws.{InGuestArea}
+use Rattle.pool.specs.declared.Area.{Area}
+use Rattle.pool.specs.declared.Pool.{Pool}
+use Rattle.pool.specs.Header.{insideOf}
+use Rattle.pool.specs.Pool.{link}
+use Rattle.pool.proofs.Laws.{inside-true}
+use Rattle.area_laws.proofs.Invariant.{slot, inside-is}
+use Rattle.area_laws.proofs.Whole.{Holds}
+use Rattle.layout.specs.declared.Layout.{Layout}
+use Rattle.layout.specs.Layout.{LayoutFits, config}
+use Rattle.layout.proofs.Laws.{InGuestArea}
 use Rattle.marks.specs.declared.Marks.{Marks}
 use Rattle.marks.specs.Key.{keysFit}
 use Rattle.marks.specs.Reading.{marksOf}
@@ -190,8 +190,8 @@ fits-held c f o = go (eqb f 0) refl
 words-whole : (f : ℕ) → (wordsFit (f * 512) ≡ (ltb 0 f && leb f 65536)) × (f * 512 / 512 ≡ f)
 words-whole f =
     let none : f * 512 % 512 ≡ 0 = omega arith in
-    let back : f * 512 / 512 ≡ f = omega arith in
-    (rw (eq-eqb _ _ none, back), back)
+    let free-words : f * 512 / 512 ≡ f = omega arith in
+    (rw (eq-eqb _ _ none, free-words), free-words)
 
 tested : (n s g h i p : Bool) → s && true && g && h && i && n && p ≡ (n && s && g && h && (i && p))
 tested true true true true true p = refl

@@ -7,18 +7,18 @@ use lib.Dec.{eqb}
 use lib.ListN.{length}
 use Rattle.spec.specs.Refusal.{openRefusal}
 use Rattle.words.specs.Words.{zeroed}
-use Rattle.area.specs.declared.Pool.{Pool}
-use Rattle.area.specs.Pool.{noneOf}
+use Rattle.pool.specs.declared.Pool.{Pool}
+use Rattle.pool.specs.Pool.{noneOf}
 use Rattle.area.specs.Tree.{enterOf}
 use Rattle.host.specs.Map.{hostArea}
 use Rattle.marks.specs.Table.{tableOf, number}
 use Rattle.record.specs.declared.Record.{Record}
 use Rattle.record.specs.declared.Opened.{Opened}
-use Rattle.host.specs.declared.Layout.{Layout}
-use Rattle.host.specs.Walk.{page}
+use Rattle.layout.specs.declared.Layout.{Layout}
+use Rattle.layout.specs.Layout.{page}
 use Rattle.record.specs.Record.{layoutOf, configBy, guestFrame, zeros}
 use Rattle.words.specs.After.{After, yields}
-use Rattle.area.specs.declared.Went.{Went}
+use Rattle.pool.specs.declared.Went.{Went}
 
 -- the number with which an opening on that many words is refused, or 0
 unfoldable pub refusalOf : ℕ → ℕ → ℕ → ℕ

@@ -11,11 +11,11 @@ use Rattle.spec.specs.Refusal as rule
 use Rattle.spec.specs.Refusal.{areasFit, topFits, recordFits}
 use Rattle.entry.specs.declared.GuestPhysical.{GuestPhysical}
 use Rattle.entry.specs.declared.HostPhysical.{HostPhysical}
-use Rattle.area.specs.declared.Pool.{Pool}
-use Rattle.area.specs.Header.{insideOf}
-use Rattle.area.specs.Pool.{noneOf}
-use Rattle.host.specs.declared.Layout.{Layout}
-use Rattle.host.specs.Walk.{config, page}
+use Rattle.pool.specs.declared.Pool.{Pool}
+use Rattle.pool.specs.Header.{insideOf}
+use Rattle.pool.specs.Pool.{noneOf}
+use Rattle.layout.specs.declared.Layout.{Layout}
+use Rattle.layout.specs.Layout.{config, page}
 use Rattle.marks.specs.declared.Marks.{Marks}
 use Rattle.marks.specs.Reading.{marksOf}
 use Rattle.record.specs.declared.Pools.{Pools}

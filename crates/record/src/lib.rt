@@ -1,16 +1,16 @@
 // The unit's record, by value; whether it breaks a rule (3); the opening.
-use area::Pool;
 use entry::GuestPhysical;
 use entry::GuestVirtual;
 use entry::HostPhysical;
-use host::Layout;
+use layout::Layout;
 use marks::Marks;
+use pool::Pool;
 ghost use mathlib.Core.Path.{_≡_};
 ghost use Prim.Native.Nat.{_+_, _≤_};
 ghost use Rattle.spec.specs.Entry.{pageOf};
 ghost use Rattle.spec.specs.Refusal.{wordsFit, areasFit, topFits};
 ghost use Rattle.words.specs.After.{yields};
-ghost use Rattle.host.specs.Walk.{LayoutFits, config};
+ghost use Rattle.layout.specs.Layout.{LayoutFits, config};
 ghost use Rattle.marks.specs.Key.{depthOf};
 ghost use Rattle.marks.specs.Table.{keys};
 ghost use Rattle.record.specs.Record.{layoutOf, heldTop, isTable, poolFits, sizesFit, tablesFit, recordBy, headOf, fitsOf, zeros, headRoot, headTables, withHead, withMarks};
@@ -102,7 +102,7 @@ fn is_table(base: u64, size: u64, e: u64) -> bool
     if e % 4096 != 1 {
         return false;
     }
-    area::inside(base, size, e / 4096)
+    pool::inside(base, size, e / 4096)
 }
 
 // Is what an area keeps in its range?
@@ -129,7 +129,7 @@ fn held_fits(l: Layout, held: HostPhysical) -> bool
     if held.0 == 0 {
         return true;
     }
-    host::in_guest_area(l, held.0)
+    layout::in_guest_area(l, held.0)
 }
 
 // The held frame and what the areas keep. The top host table stands always.
@@ -161,7 +161,7 @@ impl Head {
         if !sizes_fit(l, len) {
             return false;
         }
-        if !host::frame_fits(l, self.root) {
+        if !layout::frame_fits(l, self.root) {
             return false;
         }
         if !marks::fits(place, self.set, l.levels) {
@@ -201,8 +201,8 @@ impl Record {
                 frames: 0,
             },
             pools: Pools {
-                host: area::no_tables(),
-                shadow: area::no_tables(),
+                host: pool::no_tables(),
+                shadow: pool::no_tables(),
             },
             guest: Guest {
                 root: GuestPhysical(0),
@@ -335,7 +335,7 @@ fn first(l: Layout, host: Pool) -> Record
         layout: l,
         pools: Pools {
             host: host,
-            shadow: area::no_tables(),
+            shadow: pool::no_tables(),
         },
         guest: Guest {
             root: GuestPhysical(0),
@@ -352,7 +352,7 @@ fn open_granted(mem: &mut [u64], hosts: u64, shadows: u64) -> Record
 {
     let l = layout(mem.len() as u64, hosts, shadows);
     clear_frames(mem, hosts + shadows);
-    let went = area::enter(host::tables(l), area::no_tables(), mem, 0);
+    let went = area::enter(host::tables(l), pool::no_tables(), mem, 0);
     let pool = went.pool;
     first(l, pool)
 }

@@ -13,12 +13,12 @@ use Rattle.spec.specs.Entry.{present, writable, frameOf, indexes, pageOf}
 use Rattle.spec.specs.Refusal.{inGuestArea}
 use Rattle.spec.specs.Plain.{next, levels, walk}
 use Rattle.area.specs.declared.Look.{Look}
-use Rattle.area.specs.declared.Look.the-variants.{Seen, Broken}
+use Rattle.area.specs.declared.Look.the-variants.{Seen, Damaged}
 use Rattle.area.specs.Tree.{lookOf}
-use Rattle.host.specs.declared.HostWalk.{HostWalk}
-use Rattle.host.specs.declared.HostWalk.the-variants as host
-use Rattle.host.specs.Walk.{page, leafOf, hostBy}
-use Rattle.host.proofs.Laws.{InGuestArea, in-guest-area}
+use Rattle.layout.specs.declared.HostWalk.{HostWalk}
+use Rattle.layout.specs.declared.HostWalk.the-variants as host
+use Rattle.layout.specs.Layout.{page, leafOf, namedBy}
+use Rattle.layout.proofs.Laws.{InGuestArea, in-guest-area}
 use Rattle.walk.specs.declared.Walked.{Walked}
 use Rattle.walk.specs.declared.Walked.the-variants as walked
 use Rattle.walk.specs.Memory.{walkedOf, turn}
@@ -90,9 +90,9 @@ module _ (c : Config) (P : ℕ → Type 0) (all : (f : ℕ) → InGuestArea c f 
   unfolding heldOf
   held-is m top is = go (lookOf (c .hosts) (c .shadows) m top is 0)
     where
-      go : (r : Look) → FoundIs (hostBy c r)
+      go : (r : Look) → FoundIs (namedBy c r)
       go (Seen e n) = leaf-is e n
-      go Broken = tt
+      go Damaged = tt
 
   pub found-is : (m : List ℕ) (h : Held) (a d : ℕ) → (eqb (h .frame .0) 0 ≡ false → P (h .frame .0)) → FoundIs (foundOf c m h a d)
   unfolding foundOf

@@ -15,34 +15,37 @@ use Rattle.spec.specs.Config.{Config}
 use Rattle.spec.specs.Entry.{indexes, pageOf}
 use Rattle.spec.specs.Plain.{walk}
 use Rattle.words.specs.Words.{at, setIn}
-use Rattle.area.specs.declared.Pool.{Pool}
-use Rattle.area.specs.declared.Way.{Way}
-use Rattle.area.specs.declared.Way.the-variants.{To, Not, Bad}
-use Rattle.area.specs.Outside.{SameOutside}
-use Rattle.area.proofs.Outside.{indexes-narrow, out-refl}
-use Rattle.host.specs.declared.HostWalk.{HostWalk}
-use Rattle.host.specs.declared.HostWalk.the-variants as host
-use Rattle.host.specs.Walk.{page}
-use Rattle.host.proofs.Laws.{InGuestArea}
+use Rattle.pool.specs.declared.Pool.{Pool}
+use Rattle.pool.specs.declared.Way.{Way}
+use Rattle.pool.specs.declared.Way.the-variants.{To, Not, Damaged}
+use Rattle.pool.specs.Outside.{SameOutside}
+use Rattle.pool.proofs.Outside.{out-refl}
+use Rattle.area.proofs.Outside.{indexes-narrow}
+use Rattle.layout.specs.declared.HostWalk.{HostWalk}
+use Rattle.layout.specs.declared.HostWalk.the-variants as host
+use Rattle.layout.specs.Layout.{page}
+use Rattle.layout.proofs.Laws.{InGuestArea}
 use Rattle.walk.specs.declared.Walked.{Walked}
 use Rattle.walk.specs.declared.Walked.the-variants as walked
 use Rattle.walk.specs.Memory.{walkedOf, trailFrom, trailOf}
-use Rattle.shadow.specs.declared.Cut.the-variants.{Word}
+use Rattle.drops.specs.declared.Cut.the-variants.{Word}
 use Rattle.shadow.specs.Held.{entryFor}
 use Rattle.shadow.specs.Fill.{fillOf}
-use Rattle.shadow.specs.Cut.{watchedOf}
-use Rattle.shadow.specs.Drop.{scanOf}
-use Rattle.shadow.proofs.Outside.{fill-out, scan-out}
-use Rattle.shadow.proofs.Fresh.{fill-fits, scan-fits}
+use Rattle.shadow.specs.Watch.{watchedOf}
+use Rattle.drops.specs.Drop.{scanOf}
+use Rattle.drops.proofs.Outside.{scan-out}
+use Rattle.shadow.proofs.Outside.{fill-out}
+use Rattle.drops.proofs.Fresh.{scan-fits}
+use Rattle.shadow.proofs.Fresh.{fill-fits}
 use Rattle.request.specs.declared.Held.{Held}
 use Rattle.request.specs.Translate.{pathOf, pathIndexes, holding, HeldFits, translation, directOf, servedOf, servesOf, foundOf, fillBy, filledOf, missedBy, missedOf, foundBy, plainOf, translateOf}
 use Rattle.request.specs.Access.{stored, putBy, putOf}
 use Rattle.request.proofs.Fits.{exit-small, ArrivedIn, direct-in, walk-in, FoundIs, found-is}
 use Rattle.words.specs.After.{After, yields}
-use Rattle.area.specs.declared.Went.{Went}
+use Rattle.pool.specs.declared.Went.{Went}
 use Rattle.request.specs.declared.Translated.{Translated}
 use Rattle.request.specs.declared.Put.{Put}
-use Rattle.shadow.specs.declared.Left.{Left}
+use Rattle.drops.specs.declared.Left.{Left}
 
 top-held : (c : Config) (h : Held) → HeldFits c h → eqb (h .frame .0) 0 ≡ false → InGuestArea c (h .frame .0)
 top-held c h f q = elim (f .1) [ inl z ↦ absurd (eqb-false (h .frame .0) 0 q z) | inr g ↦ g ]
@@ -84,7 +87,7 @@ module _ (c : Config) (ht : ℕ) (m : List ℕ) (st : Bool) where
         by : (x : Way) → Leaves c m (fillBy c ht h st a d t w s x)
         by (To i) = served-leaves (s .memory) (record { pool = s .result .pool; frame = h .frame }) a d t w 1 same (fill-fits c gs (h .pool) m (pathIndexes c d a) e (f .0), f .1) g (omega arith)
         by Not = stopped (s .memory) 0 walked.Damaged same (omega arith) tt
-        by Bad = stopped (s .memory) 0 walked.Damaged same (omega arith) tt
+        by Damaged = stopped (s .memory) 0 walked.Damaged same (omega arith) tt
 
         go : (b : Bool) → Leaves c m (cond b (yields (servedOf c ht m (holding (h .pool) t) st a d t w 1) m) (fillBy c ht h st a d t w s (s .result .way)))
         go true = served-leaves m (holding (h .pool) t) a d t w 1 none (f .0, inr g) g (omega arith)

@@ -10,15 +10,15 @@ use Rattle.spec.specs.Entry.{pageOf, wordOf}
 use Rattle.spec.specs.Plain.{next}
 use Rattle.words.specs.After.{After, yields}
 use Rattle.words.specs.Words.{wordIn, setIn}
-use Rattle.area.specs.declared.Pool.{Pool}
-use Rattle.host.specs.Walk.{page}
+use Rattle.pool.specs.declared.Pool.{Pool}
+use Rattle.layout.specs.Layout.{page}
 use Rattle.walk.specs.declared.Walked.{Walked}
 use Rattle.walk.specs.declared.Walked.the-variants as walked
 use Rattle.walk.specs.Memory.{walkedOf}
-use Rattle.shadow.specs.declared.Left.{Left}
-use Rattle.shadow.specs.declared.Cut.the-variants.{Word}
-use Rattle.shadow.specs.Cut.{watchedOf}
-use Rattle.shadow.specs.Drop.{scanOf}
+use Rattle.drops.specs.declared.Left.{Left}
+use Rattle.drops.specs.declared.Cut.the-variants.{Word}
+use Rattle.shadow.specs.Watch.{watchedOf}
+use Rattle.drops.specs.Drop.{scanOf}
 use Rattle.request.specs.declared.Held.{Held}
 use Rattle.request.specs.declared.Put.{Put}
 use Rattle.request.specs.declared.Served.{Served}

@@ -12,13 +12,13 @@ use Rattle.spec.specs.Config.{Config, guestBase}
 use Rattle.spec.specs.Entry.{pageOf, indexes}
 use Rattle.spec.specs.Plain.{levels, walk}
 use Rattle.words.specs.After.{After, yields}
-use Rattle.area.specs.declared.Pool.{Pool}
-use Rattle.area.specs.declared.Way.{Way}
-use Rattle.area.specs.declared.Way.the-variants.{To, Not, Bad}
-use Rattle.area.specs.declared.Went.{Went}
-use Rattle.host.specs.declared.HostWalk.{HostWalk}
-use Rattle.host.specs.declared.HostWalk.the-variants as host
-use Rattle.host.specs.Walk.{page}
+use Rattle.pool.specs.declared.Pool.{Pool}
+use Rattle.pool.specs.declared.Way.{Way}
+use Rattle.pool.specs.declared.Way.the-variants.{To, Not, Damaged}
+use Rattle.pool.specs.declared.Went.{Went}
+use Rattle.layout.specs.declared.HostWalk.{HostWalk}
+use Rattle.layout.specs.declared.HostWalk.the-variants as host
+use Rattle.layout.specs.Layout.{page}
 use Rattle.walk.specs.declared.Walked.{Walked}
 use Rattle.walk.specs.declared.Walked.the-variants as walked
 use Rattle.walk.specs.Memory.{walkedOf, trailOf}
@@ -79,7 +79,7 @@ damaged h m = yields (translation h 0 walked.Damaged) m
 abbrev pub fillBy : Config → ℕ → Held → Bool → ℕ → ℕ → ℕ → Bool → After Went → Way → After Translated
 fillBy c ht h st a d t w s (To f) = yields (servedOf c ht (s .memory) (record { pool = s .result .pool; frame = h .frame }) st a d t w 1) (s .memory)
 fillBy c ht h st a d t w s Not = damaged h (s .memory)
-fillBy c ht h st a d t w s Bad = damaged h (s .memory)
+fillBy c ht h st a d t w s Damaged = damaged h (s .memory)
 
 -- the path is filled with host frame t and writable bit w: a shadow entry, "with the switch bit when d is 1 to 4; for d = 4 it
 -- stands in the record". gs: the host frames of the guest tables on its way

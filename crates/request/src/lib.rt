@@ -5,17 +5,17 @@ ghost use Prim.Native.Nat.{_<_, _≤_};
 ghost use Rattle.spec.specs.Entry.{wordOf};
 ghost use Rattle.words.specs.After.{yields};
 ghost use Rattle.words.specs.Words.{wordIn};
-ghost use Rattle.host.specs.Walk.{LayoutFits, config};
+ghost use Rattle.layout.specs.Layout.{LayoutFits, config};
 ghost use Rattle.request.specs.Translate.{HeldFits, exitBy, directOf, servedOf, servesOf, pathOf, foundOf, filledOf, missedOf, plainOf, translateOf};
 ghost use Rattle.request.specs.Access.{putOf, loadOf, writtenBy, storeOf, deviceOf};
-use area::Pool;
-use area::Way;
 use entry::GuestPhysical;
 use entry::GuestVirtual;
 use entry::HostPhysical;
-use host::HostWalk;
-use host::Layout;
 use host::Space;
+use layout::HostWalk;
+use layout::Layout;
+use pool::Pool;
+use pool::Way;
 use spec::Answer;
 use spec::Fault;
 use walk::Walked;
@@ -216,7 +216,7 @@ fn filled(
             1,
         ),
         Way::Not => damaged(held),
-        Way::Bad => damaged(held),
+        Way::Damaged => damaged(held),
     }
 }
 
@@ -333,7 +333,7 @@ fn put_word(mem: &mut [u64], l: Layout, pool: Pool, page: HostPhysical, a: u64, 
             ok: true,
         };
     }
-    let left = shadow::drop_word(mem, l, pool, page, i);
+    let left = drops::drop_word(mem, l, pool, page, i);
     let after = left.pool;
     if left.ok {
         words::set_in(mem, page.0, i, v);

@@ -1,28 +1,11 @@
--- The steps of the loops' definitions, and what the answers of links, trails and scans always satisfy.
+-- Bits of an entry, and the steps of the search for a watched frame.
 -- Assumes nothing.
-use mathlib.Core.Path.{_≡_, refl, ap, _∙_}
+use mathlib.Core.Path.{_≡_, refl}
 use Prim.Native.Nat.{ℕ, zero, suc, _+_, _-_, _≤_, _<_}
 use native.Mathlib.Omega.{arith}
 use mathlib.Core.Bool.{Bool, true, false, cond}
 use mathlib.Core.List.{List}
-use Rattle.spec.specs.Config.{Config}
-use Rattle.spec.specs.Entry.{present, frameOf, index, indexes}
-use Rattle.spec.specs.Refusal.{inGuestArea}
-use Rattle.area.specs.declared.Pool.{Pool}
-use Rattle.area.specs.declared.Way.the-variants as way
-use Rattle.area.specs.Header.{entryIn, parentOf, slotOf, insideOf}
-use Rattle.area.specs.Pool.{onWay, noneOf}
-use Rattle.area.proofs.Laws.{indexes-last, parent-small, Small}
-use Rattle.laws.proofs.Indexes.{indexes-step}
-use Rattle.host.specs.Walk.{page}
-use Rattle.shadow.specs.declared.Kind.the-variants.{Gone, Leaf, Table, Outside}
-use Rattle.shadow.specs.declared.Cut.{Cut}
-use Rattle.shadow.specs.declared.Cut.the-variants.{Word, Names, Slot}
-use Rattle.shadow.specs.declared.Above.{Above}
-use Rattle.shadow.specs.declared.Above.the-variants.{Met, To, Off}
-use Rattle.shadow.specs.Cut.{isLeaf, kindOf, watchesOf, watchedFrom, cutOf, lowOf, endOf, aboveOf, upBy, upFrom}
-use Rattle.shadow.specs.Drop.{outcome, clearOne, clearFrom, visitOf, scanFrom, scanOf, tableBy, tableNamed, holderFrom, dropPrefixOf}
-use Rattle.words.specs.After.{yields}
+use Rattle.shadow.specs.Watch.{watchesOf, watchedFrom}
 
 pub bit-small : (b : Bool) (v : ℕ) → cond b v 0 ≤ v
 bit-small true v = omega arith
@@ -39,100 +22,3 @@ watched-step m b t (suc k) l =
 pub watched-none : (m : List ℕ) (b t : ℕ) → watchedFrom m b t 0 ≡ false
 unfolding watchedFrom
 watched-none m b t = refl
-
--- ---- links up
-abbrev pub AboveSmall : Above → Type 0
-AboveSmall Met = Unit {0}
-AboveSmall (To p) = p < 65536
-AboveSmall Off = Unit {0}
-
-pub above-small : (c : Config) (x : Cut) (m : List ℕ) (f : ℕ) → AboveSmall (aboveOf c x m f)
-unfolding aboveOf
-above-small c x m f = go (insideOf (c .hosts) (c .shadows) (parentOf m f)) (cutOf m x (parentOf m f) (slotOf m f))
-  where
-    go : (b d : Bool) → AboveSmall (cond b (cond d Met (To (parentOf m f))) Off)
-    go true true = tt
-    go true false = parent-small m f
-    go false d = tt
-
-pub up-step : (c : Config) (x : Cut) (m : List ℕ) (k f : ℕ) → 0 < k → upFrom c x m k f ≡ upBy (aboveOf c x m f) (upFrom c x m (k - 1))
-unfolding upFrom
-up-step c x m zero f l = absurd (omega arith)
-up-step c x m (suc k) f l =
-    let d : suc k - 1 ≡ k = omega arith in
-    rw d
-
-pub up-none : (c : Config) (x : Cut) (m : List ℕ) (f : ℕ) → upFrom c x m 0 f ≡ To f
-unfolding upFrom
-up-none c x m f = refl
-
--- ---- one table
-pub range-fits : (x : Cut) → (lowOf x ≤ endOf x) × (endOf x ≤ 512)
-range-fits (Word t j) = (omega arith, omega arith)
-range-fits (Names g) = (omega arith, omega arith)
-range-fits (Slot t j) = (omega arith, omega arith)
-
-pub clear-step : (c : Config) (x : Cut) (all lowest : Bool) (f hi i : ℕ) (m : List ℕ) → i < hi
-    → clearFrom c x all lowest f (hi - i) i m
-    ≡ (let t = clearOne c x all lowest f m i in cond (t .result) (clearFrom c x all lowest f (hi - (i + 1)) (i + 1) (t .memory)) t)
-unfolding clearFrom
-clear-step c x all lowest f hi i m l =
-    let e : hi - i ≡ suc (hi - (i + 1)) = omega arith in
-    let s : i + 1 ≡ suc i = omega arith in
-    rw (e, s)
-
-pub clear-none : (c : Config) (x : Cut) (all lowest : Bool) (f hi i : ℕ) (m : List ℕ) → hi ≤ i → clearFrom c x all lowest f (hi - i) i m ≡ yields true m
-unfolding clearFrom
-clear-none c x all lowest f hi i m l =
-    let e : hi - i ≡ 0 = omega arith in
-    rw e
-
--- ---- the scan
-pub scan-step : (c : Config) (x : Cut) (n i : ℕ) (p : Pool) (m : List ℕ) → i < n
-    → scanFrom c x (n - i) i p m
-    ≡ (let t = visitOf c x p m (c .hosts + i) in cond (t .result .ok) (scanFrom c x (n - (i + 1)) (i + 1) (t .result .pool) (t .memory)) t)
-unfolding scanFrom
-scan-step c x n i p m l =
-    let e : n - i ≡ suc (n - (i + 1)) = omega arith in
-    let s : i + 1 ≡ suc i = omega arith in
-    rw (e, s)
-
-pub scan-none : (c : Config) (x : Cut) (n i : ℕ) (p : Pool) (m : List ℕ) → n ≤ i → scanFrom c x (n - i) i p m ≡ outcome p true m
-unfolding scanFrom
-scan-none c x n i p m l =
-    let e : n - i ≡ 0 = omega arith in
-    rw e
-
--- ---- a prefix
-pub named-small : (c : Config) (e : ℕ) → Small (tableNamed c e)
-unfolding tableNamed kindOf frameOf
-named-small c e = go (present e) (isLeaf false e) (inGuestArea c (frameOf e)) (insideOf (c .hosts) (c .shadows) (frameOf e))
-  where
-    go : (p l g s : Bool) → Small (tableBy (cond p (cond l (cond g Leaf Outside) (cond s (Table (frameOf e)) Outside)) Gone))
-    go true true true s = tt
-    go true true false s = tt
-    go true false g true = omega arith
-    go true false g false = tt
-    go false l g s = tt
-
-pub holder-step : (c : Config) (m : List ℕ) (e g left : ℕ) → 0 < left
-    → holderFrom c m e (index left g) (indexes left g)
-    ≡ onWay (tableNamed c e) way.Not way.Bad (λ f. holderFrom c m (entryIn m f (index left g)) (index (left - 1) g) (indexes (left - 1) g))
-unfolding holderFrom
-holder-step c m e g left l = ap (holderFrom c m e (index left g)) (indexes-step left g l)
-
-pub holder-none : (c : Config) (m : List ℕ) (e g : ℕ) → holderFrom c m e (index 0 g) (indexes 0 g) ≡ tableNamed c e
-unfolding holderFrom indexes
-holder-none c m e g = refl
-
-pub prefix-step : (c : Config) (p : Pool) (m : List ℕ) (g k : ℕ) → 0 < k
-    → dropPrefixOf c p m (indexes k g)
-    ≡ onWay (holderFrom c m (p .top) (index (k - 1) g) (indexes (k - 1) g)) (outcome p true m) (outcome p false m) (λ f. scanOf c (Slot (page f) (index 0 g)) p m)
-unfolding dropPrefixOf
-prefix-step c p m g k l =
-    ap (dropPrefixOf c p m) (indexes-step k g l)
-    ∙ ap (λ i. onWay (holderFrom c m (p .top) (index (k - 1) g) (indexes (k - 1) g)) (outcome p true m) (outcome p false m) (λ f. scanOf c (Slot (page f) i) p m)) (indexes-last (k - 1) g)
-
-pub prefix-none : (c : Config) (p : Pool) (m : List ℕ) (g : ℕ) → dropPrefixOf c p m (indexes 0 g) ≡ outcome noneOf true m
-unfolding dropPrefixOf indexes
-prefix-none c p m g = refl

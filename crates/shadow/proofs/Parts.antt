@@ -9,8 +9,8 @@ use borrow.Author.Tests.{eq-eqb, ne-eqb}
 use Rattle.spec.specs.Config.{Config}
 use Rattle.spec.specs.Entry.{bitSet, present, writable, switch, frameOf}
 use Rattle.spec.specs.Refusal.{inGuestArea}
-use Rattle.host.specs.declared.HostWalk.the-variants.{Found}
-use Rattle.host.specs.Walk.{page, leafOf}
+use Rattle.layout.specs.declared.HostWalk.the-variants.{Found}
+use Rattle.layout.specs.Layout.{page, leafOf}
 use Rattle.shadow.specs.Held.{entryFor}
 
 -- ---- the entry of a held path

@@ -3,19 +3,19 @@
 use Prim.Native.Nat.{ℕ}
 use mathlib.Core.List.{List}
 use Rattle.spec.specs.Config.{Config}
-use Rattle.area.specs.declared.Pool.{Pool}
-use Rattle.area.specs.declared.Way.{Way}
-use Rattle.area.specs.declared.Way.the-variants.{To, Not, Bad}
-use Rattle.area.specs.Pool.{noneOf}
+use Rattle.pool.specs.declared.Pool.{Pool}
+use Rattle.pool.specs.declared.Way.{Way}
+use Rattle.pool.specs.declared.Way.the-variants.{To, Not, Damaged}
+use Rattle.pool.specs.Pool.{noneOf}
 use Rattle.area.specs.Tree.{insertOf}
 use Rattle.shadow.specs.Held.{shadowArea}
 use Rattle.words.specs.After.{After}
-use Rattle.area.specs.declared.Went.{Went}
+use Rattle.pool.specs.declared.Went.{Went}
 
 abbrev pub againBy : Way → After Went → After Went → After Went
 againBy (To f) t again = t
 againBy Not t again = again
-againBy Bad t again = t
+againBy Damaged t again = t
 
 -- the entry of a path is set, with the tables that it lacks: "If a new path would make them more than S, all held paths are
 -- dropped first". The header of each new table has the host frame of its guest table; guests has them from the top one on

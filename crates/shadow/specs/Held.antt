@@ -4,10 +4,10 @@ use Prim.Native.Nat.{ℕ, _+_, _*_}
 use mathlib.Core.Bool.{Bool, cond}
 use mathlib.Core.List.{List}
 use Rattle.spec.specs.Config.{Config}
-use Rattle.area.specs.declared.Area.{Area}
+use Rattle.pool.specs.declared.Area.{Area}
 use Rattle.area.specs.Tree.{lookOf}
-use Rattle.host.specs.declared.HostWalk.{HostWalk}
-use Rattle.host.specs.Walk.{hostBy}
+use Rattle.layout.specs.declared.HostWalk.{HostWalk}
+use Rattle.layout.specs.Layout.{namedBy}
 
 -- "first H host frames, then S shadow frames"
 abbrev pub shadowArea : Config → Area
@@ -15,7 +15,7 @@ shadowArea c = record { base = c .hosts; size = c .shadows; levels = c .levels }
 
 -- "A held path is a real shadow entry": what stands at the end of a path, from the entry of the top table on. Only the shadow entries on its way are read
 unfoldable pub heldOf : Config → List ℕ → ℕ → List ℕ → HostWalk
-heldOf c m top is = hostBy c (lookOf (c .hosts) (c .shadows) m top is 0)
+heldOf c m top is = namedBy c (lookOf (c .hosts) (c .shadows) m top is 0)
 
 -- the entry of a held path: bit 0 present, bit 1 writable, bit 9 the switch bit, from bit 12 on the host frame
 unfoldable pub entryFor : ℕ → Bool → Bool → ℕ

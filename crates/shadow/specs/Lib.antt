@@ -1,4 +1,3 @@
 pub mod Held
 pub mod Fill
-pub mod Cut
-pub mod Drop
+pub mod Watch

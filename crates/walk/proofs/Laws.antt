@@ -13,14 +13,16 @@ use Rattle.spec.specs.Config.{Config}
 use Rattle.spec.specs.Entry.{present, writable, frameOf, malformed, index, indexes}
 use Rattle.spec.specs.Walk.{Walk, done, host, _>>=_, _>>_, World, Trace, Result, granted, failed, trace}
 use Rattle.spec.specs.Plain.{Place, must, mapped, hosted, entry, next, levels, walk}
-use Rattle.laws.proofs.Indexes.{indexes-step}
-use Rattle.laws.proofs.Bind.{onto, trace-bind, bind-assoc}
+use Rattle.spec_laws.proofs.Indexes.{indexes-step}
+use Rattle.spec_laws.proofs.Bind.{onto, trace-bind, bind-assoc}
 use Rattle.entry.specs.declared.HostPhysical.{HostPhysical}
 use Rattle.words.specs.Words.{wordIn}
-use Rattle.host.specs.declared.HostWalk.{HostWalk}
-use Rattle.host.specs.declared.HostWalk.the-variants as host
-use Rattle.host.specs.Walk.{hostWalkOf, page}
-use Rattle.host.proofs.Laws.{InGuestArea, HostFits, host-fits}
+use Rattle.layout.specs.declared.HostWalk.{HostWalk}
+use Rattle.layout.specs.declared.HostWalk.the-variants as host
+use Rattle.layout.specs.Layout.{page}
+use Rattle.host.specs.Walk.{hostWalkOf}
+use Rattle.layout.proofs.Laws.{InGuestArea, HostFits}
+use Rattle.host.proofs.Laws.{host-fits}
 use Rattle.walk.specs.declared.Walked.{Walked}
 use Rattle.walk.specs.declared.Walked.the-variants as walked
 use Rattle.walk.specs.Memory.{placeOf, readsOf, memoryWorld, absentBy, walkedBy, walkedOf, turn, foundOf}

@@ -16,13 +16,14 @@ use Rattle.spec.specs.Config.{Config, guestBase, frameBits}
 use Rattle.spec.specs.Walk.{Walk, Trace, Result, granted, failed, trace}
 use Rattle.spec.specs.Plain.{Place, levels, walk}
 use Rattle.spec.specs.Machine.{Machine, lookup, hostCost, costOf, place, wordIn, world}
-use Rattle.laws.proofs.Lists.{All, all-map}
-use Rattle.laws.proofs.Local.{SameHost, SameWord, local}
-use Rattle.laws.proofs.Asks.{Asked, asks-trace, AnswerIn, FaultFits, Guest, levels-asks, walk-asks}
+use Rattle.spec_laws.proofs.Lists.{All, all-map}
+use Rattle.spec_laws.proofs.Local.{SameHost, SameWord, local}
+use Rattle.spec_laws.proofs.Asks.{Asked, asks-trace, AnswerIn, FaultFits, Guest, levels-asks, walk-asks}
 use Rattle.words.specs.Words as words
-use Rattle.host.specs.declared.HostWalk.the-variants as host
-use Rattle.host.specs.Walk.{hostWalkOf, page}
-use Rattle.host.proofs.Laws.{InGuestArea}
+use Rattle.layout.specs.declared.HostWalk.the-variants as host
+use Rattle.layout.specs.Layout.{page}
+use Rattle.host.specs.Walk.{hostWalkOf}
+use Rattle.layout.proofs.Laws.{InGuestArea}
 use Rattle.host.proofs.Mapping.{answerBy, answerOf}
 use Rattle.walk.specs.declared.Walked.{Walked}
 use Rattle.walk.specs.declared.Walked.the-variants as walked

@@ -15,11 +15,12 @@ use Rattle.spec.specs.Config.{Config}
 use Rattle.spec.specs.Entry.{present, writable, frameOf, malformed, index, indexes}
 use Rattle.spec.specs.Walk.{Walk, done, host, _>>=_, _>>_, World, Trace, Result, granted, failed, trace}
 use Rattle.spec.specs.Plain.{Place, must, mapped, hosted, entry, next, levels, walk}
-use Rattle.laws.proofs.Indexes.{indexes-step}
-use Rattle.laws.proofs.Bind.{onto, trace-bind, bind-assoc}
-use Rattle.host.specs.declared.HostWalk.{HostWalk}
-use Rattle.host.specs.declared.HostWalk.the-variants as host
-use Rattle.host.specs.Walk.{hostWalkOf, page}
+use Rattle.spec_laws.proofs.Indexes.{indexes-step}
+use Rattle.spec_laws.proofs.Bind.{onto, trace-bind, bind-assoc}
+use Rattle.layout.specs.declared.HostWalk.{HostWalk}
+use Rattle.layout.specs.declared.HostWalk.the-variants as host
+use Rattle.layout.specs.Layout.{page}
+use Rattle.host.specs.Walk.{hostWalkOf}
 use Rattle.walk.specs.declared.Trail.{Trail}
 use Rattle.walk.specs.declared.Walked.{Walked}
 use Rattle.walk.specs.declared.Walked.the-variants as walked

@@ -13,9 +13,10 @@ use Rattle.spec.specs.Walk.{Walk, World, Result, granted, failed, trace, _>>=_}
 use Rattle.spec.specs.Plain.{Place, entry, next}
 use Rattle.entry.specs.declared.HostPhysical.{HostPhysical}
 use Rattle.words.specs.Words.{wordIn}
-use Rattle.host.specs.declared.HostWalk.{HostWalk}
-use Rattle.host.specs.declared.HostWalk.the-variants as host
-use Rattle.host.specs.Walk.{hostWalkOf, page}
+use Rattle.layout.specs.declared.HostWalk.{HostWalk}
+use Rattle.layout.specs.declared.HostWalk.the-variants as host
+use Rattle.layout.specs.Layout.{page}
+use Rattle.host.specs.Walk.{hostWalkOf}
 use Rattle.walk.specs.declared.Trail.{Trail}
 use Rattle.walk.specs.declared.Walked.{Walked}
 use Rattle.walk.specs.declared.Walked.the-variants as walked

@@ -6,12 +6,12 @@ ghost use Prim.Native.Nat.{_+_, _<_, _≤_};
 ghost use lib.Dec.{eqb};
 ghost use Rattle.spec.specs.Entry.{indexes};
 ghost use Rattle.spec.specs.Plain.{next, levels, walk};
-ghost use Rattle.host.specs.Walk.{LayoutFits, config};
+ghost use Rattle.layout.specs.Layout.{LayoutFits, config};
 ghost use Rattle.walk.specs.Memory.{foundOf, walkedOf, trailOf, turn};
 use entry::GuestPhysical;
 use entry::HostPhysical;
-use host::HostWalk;
 use host::Space;
+use layout::HostWalk;
 use spec::Fault;
 
 // What a walk comes to, with the words read: where it arrived and whether stores pass, why it stopped, or damaged tables.

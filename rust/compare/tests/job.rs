@@ -41,6 +41,20 @@ fn open() -> Vec<u8> {
     write_record(&Record::Open { h: 4, s: 4 })
 }
 
+/// Two jobs whose lines were worked out by hand: every line of document 01 on its sixteen-frame guest, each from a new opening, with
+/// pages that hold their host frame and word (0xc01 is frame 12, word 1); and every refusal that a job can meet.
+#[test]
+fn jobs_with_known_lines() {
+    let jobs: [(&[u8], &str); 2] = [
+        (include_bytes!("../jobs/guest.job"), include_str!("../jobs/guest.txt")),
+        (include_bytes!("../jobs/refusals.job"), include_str!("../jobs/refusals.txt")),
+    ];
+    for (input, lines) in jobs {
+        assert_eq!(output(input, 65_536), lines);
+        assert_eq!(run_job(input), lines, "the second walker");
+    }
+}
+
 #[test]
 fn random_jobs() {
     let mut ends = 0;

@@ -8,20 +8,20 @@ enum-told c = search needs
 
 returns : tie.Need-returns
 unfolding descendOf
-returns c = rw (← c .before .before .before .before .entry-at .ensures, ← c .before .before .before .hop .ensures, c .before .h .given .1)
+returns c = rw (← c .before .before .before .before .entry-at .ensures, ← c .before .before .before .follow .ensures, c .before .h .given .1)
 
 returns-2 : tie.Need-returns-2
 unfolding descendOf
 returns-2 c =
     let entry-at = c .before .before .before .before .before .before .before .entry-at in
-    let hop = c .before .before .before .before .before .before .hop in
+    let follow = c .before .before .before .before .before .before .follow in
     let enum-told = c .before .before .before .before .enum-told in
-    let hang = c .before .before .hang in
-    rw (← entry-at .ensures, ← hop .ensures, enum-told .given .1) (hang .ensures)
+    let attach = c .before .before .attach in
+    rw (← entry-at .ensures, ← follow .ensures, enum-told .given .1) (attach .ensures)
 
 returns-3 : tie.Need-returns-3
 unfolding descendOf
-returns-3 c = rw (← c .before .before .before .entry-at .ensures, ← c .before .before .hop .ensures, c .enum-told2 .given .1)
+returns-3 c = rw (← c .before .before .before .entry-at .ensures, ← c .before .before .follow .ensures, c .enum-told2 .given .1)
 
 pub descend-spec : {M : Type 1} → statement M
 descend-spec =

@@ -4,7 +4,8 @@ use mathlib.Core.Path.{_≡_, sym, _∙_}
 use lib.ListN.{length}
 use Rattle.spec.specs.Entry.{index, indexes}
 use Rattle.area.specs.Tree.{onward, downOf}
-use Rattle.area.proofs.Laws.{AreaGood, descend-good, down-step, down-last}
+use Rattle.pool.proofs.Laws.{AreaGood}
+use Rattle.area.proofs.Laws.{descend-good, down-step, down-last}
 use Rattle.entry.proofs.Entries.{index-fits}
 use borrow.Author.Needs.{needs}
 use Rattle.area.proofs.down.Statement.{statement}

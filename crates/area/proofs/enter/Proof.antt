@@ -9,24 +9,24 @@ enum-told c = search needs
 returns : tie.Need-returns
 unfolding enterOf
 returns c =
-    let hop = c .before .before .before .hop in
+    let follow = c .before .before .before .follow in
     let f = c .before .f in
-    rw (← hop .ensures, f .given .1)
+    rw (← follow .ensures, f .given .1)
 
 returns-2 : tie.Need-returns-2
 unfolding enterOf
 returns-2 c =
-    let hop = c .before .before .before .before .before .before .hop in
+    let follow = c .before .before .before .before .before .before .follow in
     let enum-told = c .before .before .before .before .enum-told in
     let new-top = c .before .before .new-top in
-    rw (← hop .ensures, enum-told .given .1) (new-top .ensures)
+    rw (← follow .ensures, enum-told .given .1) (new-top .ensures)
 
 returns-3 : tie.Need-returns-3
 unfolding enterOf
 returns-3 c =
-    let hop = c .before .before .hop in
+    let follow = c .before .before .follow in
     let enum-told2 = c .enum-told2 in
-    rw (← hop .ensures, enum-told2 .given .1)
+    rw (← follow .ensures, enum-told2 .given .1)
 
 pub enter-spec : {M : Type 1} → statement M
 enter-spec =

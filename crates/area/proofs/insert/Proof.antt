@@ -4,7 +4,7 @@ use mathlib.Core.Path.{_≡_, ap, _∙_}
 use mathlib.Core.List.{_∷_}
 use Rattle.spec.specs.Entry.{index, indexes}
 use Rattle.area.specs.Tree.{roomOf, insertOf}
-use Rattle.laws.proofs.Indexes.{indexes-step}
+use Rattle.spec_laws.proofs.Indexes.{indexes-step}
 use borrow.Author.Needs.{needs}
 use Rattle.area.proofs.insert.Statement.{statement}
 use Rattle.area.proofs.insert.Tie as tie

@@ -3,7 +3,8 @@ use native.Mathlib.Omega.{arith}
 use mathlib.Core.Path.{_≡_, sym, _∙_}
 use Rattle.spec.specs.Entry.{index, indexes}
 use Rattle.area.specs.Remove.{lastOf}
-use Rattle.area.proofs.Laws.{hop-small, last-step, last-none}
+use Rattle.pool.proofs.Laws.{follow-small}
+use Rattle.area.proofs.Laws.{last-step, last-none}
 use Rattle.entry.proofs.Entries.{index-fits}
 use borrow.Author.Needs.{needs}
 use Rattle.area.proofs.last_table.Statement.{statement}
@@ -21,8 +22,8 @@ sub-left c = search needs
 loop-holds : tie.Need-loop-holds Inv-loop μ-loop
 loop-holds c = search needs
 
-hop-requires : tie.Need-hop-requires Inv-loop μ-loop
-hop-requires c κs = search needs
+follow-requires : tie.Need-follow-requires Inv-loop μ-loop
+follow-requires c κs = search needs
 
 enum-known-f : tie.Need-enum-known-f Inv-loop μ-loop
 enum-known-f c = search needs
@@ -34,10 +35,10 @@ entry-at-requires : tie.Need-entry-at-requires Inv-loop μ-loop
 entry-at-requires c κs =
     let args = c .before .before .before .before .before .before .before .before .args in
     let loop = c .before .before .before .before .before .before .loop in
-    let hop = c .before .before .before .before .hop in
+    let follow = c .before .before .before .before .follow in
     let f = c .before .before .f in
     let index-at = c .index-at in
-    let good = rw (← hop .ensures, f .given .1) at (hop-small (args .base) (args .size) (loop .at)) in
+    let good = rw (← follow .ensures, f .given .1) at (follow-small (args .base) (args .size) (loop .at)) in
     let i = rw (← index-at .ensures) at (index-fits (loop .left) (args .g)) in
     (good, i)
 
@@ -48,9 +49,9 @@ returns : tie.Need-returns Inv-loop μ-loop
 returns c =
     let loop = c .before .before .before .before .loop in
     let loop-test = c .before .before .before .loop-test in
-    let hop = c .before .before .hop in
+    let follow = c .before .before .follow in
     let enum-told = c .enum-told in
-    rw (← loop .inv .1, last-step _ _ _ _ _ _ (loop-test .taken), ← hop .ensures, enum-told .given .1)
+    rw (← loop .inv .1, last-step _ _ _ _ _ _ (loop-test .taken), ← follow .ensures, enum-told .given .1)
 
 enum-told-2 : tie.Need-enum-told-2 Inv-loop μ-loop
 enum-told-2 c = search needs
@@ -59,9 +60,9 @@ returns-2 : tie.Need-returns-2 Inv-loop μ-loop
 returns-2 c =
     let loop = c .before .before .before .before .loop in
     let loop-test = c .before .before .before .loop-test in
-    let hop = c .before .before .hop in
+    let follow = c .before .before .follow in
     let enum-told2 = c .enum-told2 in
-    rw (← loop .inv .1, last-step _ _ _ _ _ _ (loop-test .taken), ← hop .ensures, enum-told2 .given .1)
+    rw (← loop .inv .1, last-step _ _ _ _ _ _ (loop-test .taken), ← follow .ensures, enum-told2 .given .1)
 
 sub-left-2 : tie.Need-sub-left-2 Inv-loop μ-loop
 sub-left-2 c = search needs
@@ -74,19 +75,19 @@ loop-again c =
     let args = c .before .before .before .before .before .before .before .before .before .args in
     let loop = c .before .before .before .before .before .before .before .loop in
     let loop-test = c .before .before .before .before .before .before .loop-test in
-    let hop = c .before .before .before .before .before .hop in
+    let follow = c .before .before .before .before .before .follow in
     let f = c .before .before .before .f in
     let index-at = c .before .index-at in
     let entry-at = c .entry-at in
-    (omega (arith, loop .inv .0), rw (entry-at .ensures, index-at .ensures) (rw (← hop .ensures, f .given .1) at (sym (last-step (args .base) (args .size) (args .mem .now) (loop .at) (args .g) (loop .left) (loop-test .taken)) ∙ loop .inv .1)))
+    (omega (arith, loop .inv .0), rw (entry-at .ensures, index-at .ensures) (rw (← follow .ensures, f .given .1) at (sym (last-step (args .base) (args .size) (args .mem .now) (loop .at) (args .g) (loop .left) (loop-test .taken)) ∙ loop .inv .1)))
 
-hop-requires-2 : tie.Need-hop-requires-2 Inv-loop μ-loop
-hop-requires-2 c κs = search needs
+follow-requires-2 : tie.Need-follow-requires-2 Inv-loop μ-loop
+follow-requires-2 c κs = search needs
 
 returns-3 : tie.Need-returns-3 Inv-loop μ-loop
 returns-3 c =
     let z : c .before .before .loop .left ≡ 0 = omega arith in
-    rw (← c .before .before .loop .inv .1, z, last-none) (c .hop2 .ensures)
+    rw (← c .before .before .loop .inv .1, z, last-none) (c .follow2 .ensures)
 
 pub last-table-spec : {M : Type 1} → statement M
 last-table-spec =
@@ -96,7 +97,7 @@ last-table-spec =
     μ-loop
     sub-left
     loop-holds
-    hop-requires
+    follow-requires
     enum-known-f
     index-at-requires
     entry-at-requires
@@ -107,5 +108,5 @@ last-table-spec =
     sub-left-2
     loop-less
     loop-again
-    hop-requires-2
+    follow-requires-2
     returns-3)

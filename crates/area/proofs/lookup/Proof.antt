@@ -3,7 +3,8 @@ use native.Mathlib.Omega.{arith}
 use mathlib.Core.Path.{_≡_, sym, _∙_}
 use Rattle.spec.specs.Entry.{indexes}
 use Rattle.area.specs.Tree.{lookOf}
-use Rattle.area.proofs.Laws.{hop-small, look-step, look-last}
+use Rattle.pool.proofs.Laws.{follow-small}
+use Rattle.area.proofs.Laws.{look-step, look-last}
 use Rattle.entry.proofs.Entries.{index-fits}
 use borrow.Author.Needs.{needs}
 use Rattle.area.proofs.lookup.Statement.{statement}
@@ -18,8 +19,8 @@ abbrev μ-loop : tie.MeasureT-loop
 loop-holds : tie.Need-loop-holds Inv-loop μ-loop
 loop-holds c = search needs
 
-hop-requires : tie.Need-hop-requires Inv-loop μ-loop
-hop-requires c κs = search needs
+follow-requires : tie.Need-follow-requires Inv-loop μ-loop
+follow-requires c κs = search needs
 
 enum-known-f : tie.Need-enum-known-f Inv-loop μ-loop
 enum-known-f c = search needs
@@ -34,10 +35,10 @@ entry-at-requires : tie.Need-entry-at-requires Inv-loop μ-loop
 entry-at-requires c κs =
     let args = c .before .before .before .before .before .before .before .before .args in
     let loop = c .before .before .before .before .before .before .loop in
-    let hop = c .before .before .before .before .hop in
+    let follow = c .before .before .before .before .follow in
     let f = c .before .before .f in
     let index-at = c .index-at in
-    let good = rw (← hop .ensures, f .given .1) at (hop-small (args .base) (args .size) (loop .at)) in
+    let good = rw (← follow .ensures, f .given .1) at (follow-small (args .base) (args .size) (loop .at)) in
     let i = rw (← index-at .ensures) at (index-fits (loop .left - 1) (args .g)) in
     (good, i)
 
@@ -52,11 +53,11 @@ loop-again c =
     let args = c .before .before .before .before .before .before .before .before .before .args in
     let loop = c .before .before .before .before .before .before .before .loop in
     let loop-test = c .before .before .before .before .before .before .loop-test in
-    let hop = c .before .before .before .before .before .hop in
+    let follow = c .before .before .before .before .before .follow in
     let f = c .before .before .before .f in
     let index-at = c .before .index-at in
     let entry-at = c .entry-at in
-    (omega (arith, loop .inv .0), omega (arith, loop .inv .1), rw (entry-at .ensures, index-at .ensures) (rw (← hop .ensures, f .given .1) at (sym (look-step (args .base) (args .size) (args .mem .now) (loop .at) (args .g) (loop .left) (loop .n) (loop-test .taken)) ∙ loop .inv .2)))
+    (omega (arith, loop .inv .0), omega (arith, loop .inv .1), rw (entry-at .ensures, index-at .ensures) (rw (← follow .ensures, f .given .1) at (sym (look-step (args .base) (args .size) (args .mem .now) (loop .at) (args .g) (loop .left) (loop .n) (loop-test .taken)) ∙ loop .inv .2)))
 
 enum-told : tie.Need-enum-told Inv-loop μ-loop
 enum-told c = search needs
@@ -65,9 +66,9 @@ returns : tie.Need-returns Inv-loop μ-loop
 returns c =
     let loop = c .before .before .before .before .loop in
     let loop-test = c .before .before .before .loop-test in
-    let hop = c .before .before .hop in
+    let follow = c .before .before .follow in
     let enum-told = c .enum-told in
-    rw (← loop .inv .2, look-step _ _ _ _ _ _ _ (loop-test .taken), ← hop .ensures, enum-told .given .1)
+    rw (← loop .inv .2, look-step _ _ _ _ _ _ _ (loop-test .taken), ← follow .ensures, enum-told .given .1)
 
 enum-told-2 : tie.Need-enum-told-2 Inv-loop μ-loop
 enum-told-2 c = search needs
@@ -76,9 +77,9 @@ returns-2 : tie.Need-returns-2 Inv-loop μ-loop
 returns-2 c =
     let loop = c .before .before .before .before .loop in
     let loop-test = c .before .before .before .loop-test in
-    let hop = c .before .before .hop in
+    let follow = c .before .before .follow in
     let enum-told2 = c .enum-told2 in
-    rw (← loop .inv .2, look-step _ _ _ _ _ _ _ (loop-test .taken), ← hop .ensures, enum-told2 .given .1)
+    rw (← loop .inv .2, look-step _ _ _ _ _ _ _ (loop-test .taken), ← follow .ensures, enum-told2 .given .1)
 
 returns-3 : tie.Need-returns-3 Inv-loop μ-loop
 returns-3 c =
@@ -92,7 +93,7 @@ lookup-spec =
     Inv-loop
     μ-loop
     loop-holds
-    hop-requires
+    follow-requires
     enum-known-f
     sub-left
     index-at-requires

@@ -1,6 +1,6 @@
 use native.Mathlib.Omega.{arith}
 use Rattle.area.specs.Tree.{tableOf}
-use Rattle.area.proofs.Laws.{take-good}
+use Rattle.pool.proofs.Laws.{take-good}
 use borrow.Author.Needs.{needs}
 use Rattle.area.proofs.new_table.Statement.{statement}
 use Rattle.area.proofs.new_table.Tie as tie

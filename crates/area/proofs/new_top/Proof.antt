@@ -1,5 +1,5 @@
 use native.Mathlib.Omega.{arith}
-use Rattle.area.specs.Pool.{link}
+use Rattle.pool.specs.Pool.{link}
 use Rattle.area.specs.Tree.{topOf}
 use Rattle.area.proofs.Laws.{table-good}
 use borrow.Author.Needs.{needs}

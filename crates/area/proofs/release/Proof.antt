@@ -3,7 +3,7 @@ use native.Mathlib.Omega.{arith}
 use mathlib.Core.Path.{_≡_, refl, _∙_}
 use lib.ListN.{length}
 use Rattle.area.specs.Remove.{releaseOf}
-use Rattle.area.proofs.Laws.{unhang-good, release-step, release-none}
+use Rattle.area.proofs.Laws.{detach-good, release-step, release-none}
 use borrow.Author.Needs.{needs}
 use Rattle.area.proofs.release.Statement.{statement}
 use Rattle.area.proofs.release.Tie as tie
@@ -17,8 +17,8 @@ abbrev μ-loop : tie.MeasureT-loop
 loop-holds : tie.Need-loop-holds Inv-loop μ-loop
 loop-holds c = (omega arith, refl, refl)
 
-unhang-requires : tie.Need-unhang-requires Inv-loop μ-loop
-unhang-requires c κs = search needs
+detach-requires : tie.Need-detach-requires Inv-loop μ-loop
+detach-requires c κs = search needs
 
 enum-known-way : tie.Need-enum-known-way Inv-loop μ-loop
 enum-known-way c = search needs
@@ -33,9 +33,9 @@ returns : tie.Need-returns Inv-loop μ-loop
 returns c =
     let args = c .before .before .before .before .before .before .before .before .before .before .args in
     let loop = c .before .before .before .before .before .before .before .before .loop in
-    let unhang = c .before .before .before .before .before .unhang in
+    let detach = c .before .before .before .before .before .detach in
     let enum-told = c .enum-told in
-    rw (release-step (args .a) (args .stays) (loop .cur) (loop .mem) (loop .links) (loop .t) (omega arith), ← unhang .ensures, enum-told .given .1) at (loop .inv .2)
+    rw (release-step (args .a) (args .stays) (loop .cur) (loop .mem) (loop .links) (loop .t) (omega arith), ← detach .ensures, enum-told .given .1) at (loop .inv .2)
 
 enum-told-2 : tie.Need-enum-told-2 Inv-loop μ-loop
 enum-told-2 c = search needs
@@ -47,9 +47,9 @@ returns-2 : tie.Need-returns-2 Inv-loop μ-loop
 returns-2 c =
     let args = c .before .before .before .before .before .before .before .before .before .before .args in
     let loop = c .before .before .before .before .before .before .before .before .loop in
-    let unhang = c .before .before .before .before .before .unhang in
+    let detach = c .before .before .before .before .before .detach in
     let enum-told2 = c .enum-told2 in
-    rw (release-step (args .a) (args .stays) (loop .cur) (loop .mem) (loop .links) (loop .t) (omega arith), ← unhang .ensures, enum-told2 .given .1) at (loop .inv .2)
+    rw (release-step (args .a) (args .stays) (loop .cur) (loop .mem) (loop .links) (loop .t) (omega arith), ← detach .ensures, enum-told2 .given .1) at (loop .inv .2)
 
 sub-links : tie.Need-sub-links Inv-loop μ-loop
 sub-links c = search needs
@@ -61,13 +61,13 @@ loop-again : tie.Need-loop-again Inv-loop μ-loop
 loop-again c =
     let args = c .before .before .before .before .before .before .before .before .before .before .before .args in
     let loop = c .before .before .before .before .before .before .before .before .before .loop in
-    let unhang = c .before .before .before .before .before .before .unhang in
+    let detach = c .before .before .before .before .before .before .detach in
     let way = c .before .way in
-    let good = rw (← unhang .ensures, way .given .1) at (unhang-good (args .a) (loop .cur) (loop .mem) (loop .t)) in
-    (omega (arith, good .1), unhang .kept .1 .1 .0 ∙ loop .inv .1, rw (release-step (args .a) (args .stays) (loop .cur) (loop .mem) (loop .links) (loop .t) (omega arith), ← unhang .ensures, way .given .1) at (loop .inv .2))
+    let good = rw (← detach .ensures, way .given .1) at (detach-good (args .a) (loop .cur) (loop .mem) (loop .t)) in
+    (omega (arith, good .1), detach .kept .1 .1 .0 ∙ loop .inv .1, rw (release-step (args .a) (args .stays) (loop .cur) (loop .mem) (loop .links) (loop .t) (omega arith), ← detach .ensures, way .given .1) at (loop .inv .2))
 
-shut-requires : tie.Need-shut-requires Inv-loop μ-loop
-shut-requires c κs = search needs
+release-top-requires : tie.Need-release-top-requires Inv-loop μ-loop
+release-top-requires c κs = search needs
 
 same-length-3 : tie.Need-same-length-3 Inv-loop μ-loop
 same-length-3 c = search needs
@@ -75,9 +75,9 @@ same-length-3 c = search needs
 returns-3 : tie.Need-returns-3 Inv-loop μ-loop
 returns-3 c =
     let loop = c .before .before .before .before .before .loop in
-    let shut = c .before .before .shut in
+    let release-top = c .before .before .release-top in
     let z : loop .links ≡ 0 = omega arith in
-    rw (← loop .inv .2, z, release-none) (shut .ensures)
+    rw (← loop .inv .2, z, release-none) (release-top .ensures)
 
 pub release-spec : {M : Type 1} → statement M
 release-spec =
@@ -86,7 +86,7 @@ release-spec =
     Inv-loop
     μ-loop
     loop-holds
-    unhang-requires
+    detach-requires
     enum-known-way
     enum-told
     same-length
@@ -97,6 +97,6 @@ release-spec =
     sub-links
     loop-less
     loop-again
-    shut-requires
+    release-top-requires
     same-length-3
     returns-3)

@@ -3,7 +3,7 @@ use native.Mathlib.Omega.{arith}
 use Rattle.spec.specs.Entry.{index, indexes}
 use Rattle.area.specs.Remove.{removeOf}
 use Rattle.area.proofs.Laws.{indexes-last, last-small}
-use Rattle.laws.proofs.Indexes.{indexes-step, indexes-length}
+use Rattle.spec_laws.proofs.Indexes.{indexes-step, indexes-length}
 use Rattle.entry.proofs.Entries.{index-fits}
 use borrow.Author.Needs.{needs}
 use Rattle.area.proofs.remove.Statement.{statement}

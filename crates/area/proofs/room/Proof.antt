@@ -2,7 +2,7 @@ use native.Mathlib.Omega.{arith}
 use Rattle.spec.specs.Entry.{indexes}
 use Rattle.area.specs.Tree.{roomOf}
 use Rattle.area.proofs.Laws.{LookGood, look-good}
-use Rattle.laws.proofs.Indexes.{indexes-length}
+use Rattle.spec_laws.proofs.Indexes.{indexes-length}
 use borrow.Author.Needs.{needs}
 use Rattle.area.proofs.room.Statement.{statement}
 use Rattle.area.proofs.room.Tie as tie

@@ -1,5 +1,5 @@
 use mathlib.Core.Path.{ap, _∙_}
-use Rattle.unit.specs.Calls.{headHeld}
+use Rattle.calls.specs.Calls.{headHeld}
 use Rattle.export.specs.Flat.{headIn, headWords}
 use Rattle.export.proofs.Words.{put-held}
 use borrow.Author.Needs.{needs}

@@ -1,4 +1,4 @@
-use Rattle.tree.specs.Host.{hostEntry}
+use Rattle.area_laws.specs.Host.{hostEntry}
 use borrow.Author.Needs.{needs}
 use Rattle.host.proofs.leaf_word.Statement.{statement}
 use Rattle.host.proofs.leaf_word.Tie as tie

@@ -1,7 +1,7 @@
 use native.Mathlib.Omega.{arith}
-use Rattle.host.specs.Walk.{config}
+use Rattle.layout.specs.Layout.{config}
 use Rattle.host.specs.Map.{mapOf}
-use Rattle.host.proofs.Laws.{in-guest-area}
+use Rattle.layout.proofs.Laws.{in-guest-area}
 use borrow.Author.Needs.{needs}
 use Rattle.host.proofs.map.Statement.{statement}
 use Rattle.host.proofs.map.Tie as tie

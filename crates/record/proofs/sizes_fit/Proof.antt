@@ -1,6 +1,6 @@
 use borrow.Author.Tests.{le-ltb}
 use Rattle.spec.specs.Refusal.{areasFit}
-use Rattle.host.specs.Walk.{config}
+use Rattle.layout.specs.Layout.{config}
 use mathlib.Core.Path.{_≡_, refl}
 use mathlib.Core.Bool.{Bool, true, false, _&&_}
 use Prim.Native.Nat.{_*_, _<_}

@@ -1,7 +1,7 @@
 use Prim.Native.Nat.{_/_}
 use native.Mathlib.Omega.{arith}
 use Rattle.spec.specs.Entry.{pageOf}
-use Rattle.host.specs.Walk.{config}
+use Rattle.layout.specs.Layout.{config}
 use Rattle.request.specs.Access.{deviceOf}
 use Rattle.request.proofs.Device.{device-in}
 use borrow.Author.Needs.{needs}

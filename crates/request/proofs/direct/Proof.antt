@@ -3,7 +3,7 @@ use mathlib.Core.Path.{_≡_, sym, ap, _∙_}
 use Prim.Native.Nat.{_-_}
 use native.Mathlib.Omega.{arith}
 use Rattle.spec.specs.Entry.{pageOf}
-use Rattle.host.specs.Walk.{config}
+use Rattle.layout.specs.Layout.{config}
 use Rattle.walk.specs.declared.Walked.the-variants as walked
 use Rattle.walk.specs.Memory.{trailFrom}
 use Rattle.walk.proofs.Laws.{loop-end}

@@ -4,7 +4,7 @@ use Prim.Native.Nat.{_-_}
 use native.Mathlib.Omega.{arith}
 use Rattle.spec.specs.Entry.{indexes}
 use Rattle.spec.specs.Plain.{walk}
-use Rattle.host.specs.Walk.{config}
+use Rattle.layout.specs.Layout.{config}
 use Rattle.walk.specs.declared.Trail.{Trail}
 use Rattle.walk.specs.Memory.{walkedOf, trailFrom}
 use Rattle.request.specs.Translate.{missedOf}

@@ -1,7 +1,7 @@
 use Prim.Native.Nat.{_<_}
 use native.Mathlib.Omega.{arith}
 use borrow.Author.Tests.{lt-ltb, le-ltb}
-use Rattle.host.specs.Walk.{config}
+use Rattle.layout.specs.Layout.{config}
 use Rattle.request.specs.Translate.{translateOf}
 use Rattle.request.proofs.Fits.{found-is}
 use borrow.Author.Needs.{needs}

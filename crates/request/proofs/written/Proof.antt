@@ -1,6 +1,6 @@
 use native.Mathlib.Omega.{arith}
 use Rattle.spec.specs.Entry.{wordOf}
-use Rattle.host.specs.Walk.{config}
+use Rattle.layout.specs.Layout.{config}
 use Rattle.request.proofs.Leaves.{put-leaves}
 use borrow.Author.Needs.{needs}
 use Rattle.request.proofs.written.Statement.{statement}

@@ -1,7 +1,7 @@
 use mathlib.Core.Path.{_≡_, refl}
 use Prim.Native.Nat.{_-_, _≤_}
 use native.Mathlib.Omega.{arith}
-use Rattle.shadow.specs.Cut.{watchedFrom, watchedOf}
+use Rattle.shadow.specs.Watch.{watchedFrom, watchedOf}
 use Rattle.shadow.proofs.Laws.{watched-step, watched-none}
 use borrow.Author.Needs.{needs}
 use Rattle.shadow.proofs.watched.Statement.{statement}

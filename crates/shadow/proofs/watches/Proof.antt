@@ -1,5 +1,5 @@
 use borrow.Author.Tests.{eq-eqb, ne-eqb}
-use Rattle.shadow.specs.Cut.{watchesOf}
+use Rattle.shadow.specs.Watch.{watchesOf}
 use borrow.Author.Needs.{needs}
 use Rattle.shadow.proofs.watches.Statement.{statement}
 use Rattle.shadow.proofs.watches.Tie as tie

@@ -1,4 +1,4 @@
-use Rattle.unit.specs.Calls.{clearMarkCall}
+use Rattle.calls.specs.Calls.{clearMarkCall}
 use borrow.Author.Needs.{needs}
 use Rattle.unit.proofs.clear_mark.Statement.{statement}
 use Rattle.unit.proofs.clear_mark.Tie as tie

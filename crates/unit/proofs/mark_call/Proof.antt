@@ -1,7 +1,7 @@
 use mathlib.Core.Path.{sym, _∙_}
 use borrow.Author.Tests.{eq-eqb, ne-eqb, not-true, not-false}
-use Rattle.unit.proofs.Laws.{broken}
-use Rattle.unit.proofs.Ranges.{fits-sound, fits-levels, mark-level}
+use Rattle.calls.proofs.Laws.{broken}
+use Rattle.calls.proofs.Ranges.{fits-sound, fits-levels, mark-level}
 use borrow.Author.Needs.{needs}
 use Rattle.unit.proofs.mark_call.Statement.{statement}
 use Rattle.unit.proofs.mark_call.Tie as tie

@@ -1,6 +1,6 @@
 use native.Mathlib.Omega.{arith}
 use borrow.Author.Tests.{not-true, not-false}
-use Rattle.unit.specs.Calls.{markedOf}
+use Rattle.calls.specs.Calls.{markedOf}
 use borrow.Author.Needs.{needs}
 use Rattle.unit.proofs.marked.Statement.{statement}
 use Rattle.unit.proofs.marked.Tie as tie

@@ -1,4 +1,4 @@
-use Rattle.unit.specs.Calls.{openCall}
+use Rattle.calls.specs.Calls.{openCall}
 use borrow.Author.Needs.{needs}
 use Rattle.unit.proofs.open.Statement.{statement}
 use Rattle.unit.proofs.open.Tie as tie

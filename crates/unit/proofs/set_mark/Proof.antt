@@ -1,4 +1,4 @@
-use Rattle.unit.specs.Calls.{setMarkCall}
+use Rattle.calls.specs.Calls.{setMarkCall}
 use borrow.Author.Needs.{needs}
 use Rattle.unit.proofs.set_mark.Statement.{statement}
 use Rattle.unit.proofs.set_mark.Tie as tie

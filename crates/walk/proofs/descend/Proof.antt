@@ -1,4 +1,4 @@
-use Rattle.host.specs.Walk.{config}
+use Rattle.layout.specs.Layout.{config}
 use Rattle.entry.proofs.Entries.{malformed-levels}
 use Rattle.walk.proofs.Laws.{turn-step}
 use borrow.Author.Needs.{needs}

@@ -1,5 +1,5 @@
 use mathlib.Core.Bool.{false}
-use Rattle.host.specs.Walk.{config}
+use Rattle.layout.specs.Layout.{config}
 use Rattle.host.proofs.Laws.{host-fits}
 use native.Mathlib.Omega.{arith}
 use Rattle.walk.proofs.Laws.{table-step}

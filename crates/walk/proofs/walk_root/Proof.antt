@@ -5,7 +5,7 @@ use native.Mathlib.Omega.{arith}
 use lib.ListN.{replicate}
 use Rattle.spec.specs.Entry.{indexes}
 use Rattle.spec.specs.Plain.{levels}
-use Rattle.host.specs.Walk.{config}
+use Rattle.layout.specs.Layout.{config}
 use Rattle.walk.specs.Memory.{trailOf}
 use Rattle.walk.proofs.Laws.{table-fits}
 use Rattle.walk.proofs.Trails.{trail-root}

@@ -5,7 +5,7 @@ use native.Mathlib.Omega.{arith}
 use lib.ListN.{set}
 use Rattle.spec.specs.Entry.{indexes}
 use Rattle.spec.specs.Plain.{levels}
-use Rattle.host.specs.Walk.{config}
+use Rattle.layout.specs.Layout.{config}
 use Rattle.entry.proofs.Entries.{index-fits}
 use Rattle.walk.specs.Memory.{trailFrom, trailOf}
 use Rattle.walk.proofs.Laws.{TurnFits, turn-fits}

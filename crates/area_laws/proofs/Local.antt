@@ -1,0 +1,58 @@
+-- A lookup depends on the entries that it reads, and on no other word; for any memory.
+-- Assumes nothing.
+use mathlib.Core.Path.{_≡_, refl, ap, _∙_}
+use Prim.Native.Nat.{ℕ, suc, _+_}
+use native.Mathlib.Omega.{arith}
+use mathlib.Core.List.{List, [], _∷_}
+use lib.ListN.{length}
+use Rattle.pool.specs.declared.Way.{Way}
+use Rattle.pool.specs.declared.Way.the-variants.{To, Not, Damaged}
+use Rattle.area.specs.declared.Look.{Look}
+use Rattle.area.specs.declared.Look.the-variants.{Seen}
+use Rattle.area.specs.declared.Look.the-variants as look
+use Rattle.pool.specs.Header.{entryIn}
+use Rattle.pool.specs.Pool.{followOf, onWay}
+use Rattle.area.specs.Tree.{lookOf}
+use Rattle.spec_laws.proofs.Lists.{All}
+
+-- the frames and indexes of the entries read, on from the entry e
+unfoldable pub entriesRead : ℕ → ℕ → List ℕ → ℕ → List ℕ → List (ℕ × ℕ)
+entriesRead b s m e [] = []
+entriesRead b s m e (i ∷ is) = onWay (followOf b s e) [] [] (λ f. (f, i) ∷ entriesRead b s m (entryIn m f i) is)
+
+abbrev pub SameEntry : List ℕ → List ℕ → ℕ × ℕ → Type 0
+SameEntry m n x = entryIn n (x .0) (x .1) ≡ entryIn m (x .0) (x .1)
+
+pub look-local : (b s : ℕ) (m n : List ℕ) (is : List ℕ) (e k : ℕ) → All (SameEntry m n) (entriesRead b s m e is) → lookOf b s n e is k ≡ lookOf b s m e is k
+unfolding entriesRead lookOf
+look-local b s m n [] e k h = refl
+look-local b s m n (i ∷ is) e k h = go (followOf b s e) h (λ f. look-local b s m n is (entryIn m f i) (k + 1))
+  where
+    go : (w : Way) → All (SameEntry m n) (onWay w [] [] (λ f. (f, i) ∷ entriesRead b s m (entryIn m f i) is))
+        → ((f : ℕ) → All (SameEntry m n) (entriesRead b s m (entryIn m f i) is) → lookOf b s n (entryIn m f i) is (k + 1) ≡ lookOf b s m (entryIn m f i) is (k + 1))
+        → onWay w (Seen 0 k) look.Damaged (λ f. lookOf b s n (entryIn n f i) is (k + 1)) ≡ onWay w (Seen 0 k) look.Damaged (λ f. lookOf b s m (entryIn m f i) is (k + 1))
+    go (To f) q ih = ap (λ x. lookOf b s n x is (k + 1)) (q .0) ∙ ih f (q .1)
+    go Not q ih = refl
+    go Damaged q ih = refl
+
+-- the count is how many
+abbrev pub Counts : ℕ → Look → Type 0
+Counts r (Seen e n) = n ≡ r
+Counts r look.Damaged = Unit {0}
+
+pub look-count : (b s : ℕ) (m : List ℕ) (is : List ℕ) (e k : ℕ) → Counts (k + length (entriesRead b s m e is)) (lookOf b s m e is k)
+unfolding entriesRead lookOf
+look-count b s m [] e k = omega arith
+look-count b s m (i ∷ is) e k = go (followOf b s e) (λ f. look-count b s m is (entryIn m f i) (k + 1))
+  where
+    more : (a c : ℕ) (l : Look) → a ≡ c → Counts a l → Counts c l
+    more a c (Seen e n) q h = h ∙ q
+    more a c look.Damaged q h = tt
+
+    go : (w : Way) → ((f : ℕ) → Counts (k + 1 + length (entriesRead b s m (entryIn m f i) is)) (lookOf b s m (entryIn m f i) is (k + 1)))
+        → Counts (k + length (onWay w [] [] (λ f. (f, i) ∷ entriesRead b s m (entryIn m f i) is))) (onWay w (Seen 0 k) look.Damaged (λ f. lookOf b s m (entryIn m f i) is (k + 1)))
+    go (To f) ih =
+        more (k + 1 + length (entriesRead b s m (entryIn m f i) is)) (k + suc (length (entriesRead b s m (entryIn m f i) is)))
+        (lookOf b s m (entryIn m f i) is (k + 1)) (omega arith) (ih f)
+    go Not ih = omega arith
+    go Damaged ih = tt

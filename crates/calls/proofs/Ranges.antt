@@ -1,0 +1,40 @@
+-- What the tests of a call give: the ranges that the functions below it ask for.
+-- Assumes nothing.
+use mathlib.Core.Path.{_≡_}
+use mathlib.Core.Bool.{Bool, true, false}
+use Prim.Native.Nat.{ℕ, _<_, _≤_}
+use native.Mathlib.Omega.{arith}
+use Rattle.marks.specs.Table.{setRefusal, clearRefusal, number}
+use Rattle.marks.proofs.Ascending.{level-below}
+use Rattle.marks.proofs.Book.{keysOf, may-set, may-clear}
+use Rattle.record.specs.declared.Record.{Record}
+use Rattle.record.specs.Record.{configOf, fitsOf}
+use Rattle.record.proofs.Rules.{sized-layout, fits-layout}
+use Rattle.request.specs.Translate.{HeldFits}
+use Rattle.calls.specs.Calls.{Sound, heldOf, markRefusal}
+
+module _ (r : Record) (len : ℕ) (e : fitsOf r len ≡ true) where
+  pub fits-sound : Sound r
+  fits-sound = let f = fits-layout r len e in (sized-layout (f .sizes), f .shadow .0)
+
+  -- what is held is in range
+  pub fits-held : HeldFits (configOf r) (heldOf r)
+  fits-held = let f = fits-layout r len e in (f .shadow .0, f .held)
+
+  pub fits-levels : r .layout .levels < 6
+  fits-levels = omega (arith, fits-layout r len e .sizes .deep)
+
+  pub fits-deep : 1 ≤ r .layout .levels
+  fits-deep = omega (arith, fits-layout r len e .sizes .deep)
+
+-- a mark that is set or cleared has a level that a key can hold
+module _ (r : Record) (a level : ℕ) (few : r .layout .levels < 6) where
+  set-level : number (setRefusal (r .layout .levels) (keysOf (r .guest .marks)) a level) ≡ 0 → level < 8
+  set-level e = omega (arith, few, level-below (r .layout .levels) level (may-set (r .layout .levels) (r .guest .marks) a level e .fits))
+
+  clear-level : number (clearRefusal (r .layout .levels) (keysOf (r .guest .marks)) a level) ≡ 0 → level < 8
+  clear-level e = omega (arith, few, level-below (r .layout .levels) level (may-clear (r .layout .levels) (r .guest .marks) a level e .fits))
+
+  pub mark-level : (b : Bool) → markRefusal b r a level ≡ 0 → level < 8
+  mark-level true e = set-level e
+  mark-level false e = clear-level e

@@ -1,0 +1,223 @@
+-- The calls of the unit, as total definitions over any record, any memory and any numbers.
+-- Assumes nothing.
+use Prim.Native.Nat.{ℕ, _-_, _*_, _/_, _^_, _≤_}
+use mathlib.Core.Bool.{Bool, true, false, _&&_, cond}
+use mathlib.Core.List.{List}
+use lib.Dec.{eqb, ltb}
+use lib.ListN.{length}
+use Rattle.spec.specs.declared.Answer.{Answer}
+use Rattle.spec.specs.declared.Answer.the-variants as answer
+use Rattle.spec.specs.declared.Call.{Call}
+use Rattle.spec.specs.declared.Call.the-variants.{Root as root, Map as map, Unmap as unmap, SetMark as setMark, ClearMark as clearMark, Load as load, Store as store, Device as device}
+use Rattle.spec.specs.Entry.{pageOf, indexes}
+use Rattle.spec.specs.Refusal.{addressFits, deviceFits, wordAligned, frameFits}
+use Rattle.words.specs.After.{After, yields}
+use Rattle.entry.specs.declared.HostPhysical.{HostPhysical}
+use Rattle.pool.specs.declared.Pool.{Pool}
+use Rattle.pool.specs.Pool.{noneOf}
+use Rattle.host.specs.declared.Change.{Change}
+use Rattle.layout.specs.declared.HostWalk.{HostWalk}
+use Rattle.layout.specs.declared.HostWalk.the-variants as host
+use Rattle.host.specs.declared.Space.{Space}
+use Rattle.layout.specs.Layout.{LayoutFits, page}
+use Rattle.host.specs.Walk.{hostWalkOf}
+use Rattle.host.specs.Map.{mapOf, unmapOf}
+use Rattle.marks.specs.declared.Marks.{Marks}
+use Rattle.marks.specs.Key.{keyOf, depthOf}
+use Rattle.marks.specs.Table.{keys, withKey, withoutKey, setRefusal, clearRefusal, number}
+use Rattle.drops.specs.declared.Cut.the-variants.{Names}
+use Rattle.drops.specs.declared.Left.{Left}
+use Rattle.drops.specs.Drop.{scanOf, dropPrefixOf}
+use Rattle.record.specs.declared.Head.{Head}
+use Rattle.record.specs.declared.Record.{Record}
+use Rattle.record.specs.Record.{configOf, guestFrame, headOf, headRoot, headTables, withHead, withMarks, fitsOf}
+use Rattle.record.specs.Open.{openOf}
+use Rattle.request.specs.declared.Held.{Held}
+use Rattle.request.specs.declared.Served.{Served}
+use Rattle.request.specs.declared.Translated.{Translated}
+use Rattle.request.specs.Translate.{holding, translateOf}
+use Rattle.request.specs.Access.{loadOf, storeOf, deviceOf}
+use Rattle.calls.specs.declared.Reply.{Reply}
+use Rattle.calls.specs.declared.Turn.{Turn}
+
+-- ---- parts of a record
+
+-- what is held: the shadow tables, and the frame in the record
+abbrev pub heldIn : Head → Held
+heldIn h = record { pool = h .pools .shadow; frame = h .held }
+
+abbrev pub heldOf : Record → Held
+heldOf r = heldIn (headOf r)
+
+-- nothing is held
+abbrev pub nothing : Held
+nothing = holding noneOf 0
+
+-- where the guest's frames are
+abbrev pub spaceIn : Head → Space
+spaceIn h = record { layout = h .layout; top = h .pools .host .top }
+
+-- the entry of its top host table
+abbrev pub hostTop : Record → ℕ
+hostTop r = r .pools .host .top
+
+abbrev pub rootOf : Record → ℕ
+rootOf r = r .guest .root .0
+
+-- with other paths held
+unfoldable pub headHeld : Head → Held → Head
+headHeld h x = headTables h (record { host = h .pools .host; shadow = x .pool }) (x .frame)
+
+abbrev pub withHeld : Record → Held → Record
+withHeld r x = withHead r (headHeld (headOf r) x)
+
+-- with another pool of the host tables
+unfoldable pub headHost : Head → Pool → Head
+headHost h p = headTables h (record { host = p; shadow = h .pools .shadow }) (h .held)
+
+abbrev pub withHost : Record → Pool → Record
+withHost r p = withHead r (headHost (headOf r) p)
+
+-- ---- replies
+
+-- what a call leaves
+abbrev pub ended : Record → Answer → List ℕ → After Reply
+ended r x m = yields (record { unit = r; answer = x }) m
+
+-- "A refusal returns its number with the record given"
+abbrev pub refused : Record → ℕ → List ℕ → After Reply
+refused r n m = ended r (answer.Refused n) m
+
+abbrev pub servedReply : Record → Served → Reply
+servedReply r s = record { unit = withHeld r (s .held); answer = s .answer }
+
+abbrev pub turnReply : Record → Turn → Reply
+turnReply r t = record { unit = withHead r (t .head); answer = t .answer }
+
+-- a request that was served
+abbrev pub servedBy : Record → After Served → After Reply
+servedBy r s = yields (servedReply r (s .result)) (s .memory)
+
+-- the ranges that a record which breaks no rule has, as the functions below the calls ask for them
+abbrev pub Sound : Record → Type 0
+Sound r = LayoutFits (r .layout) × (r .pools .shadow .fresh ≤ r .layout .shadows)
+
+-- "3 first, if the memory's length is another or the record breaks a rule"
+abbrev pub judged : Record → List ℕ → After Reply → After Reply
+judged r m next = cond (fitsOf r (length m)) next (refused r 3 m)
+
+-- ---- open
+
+-- ok, or the refusal with that number
+abbrev pub answerOf : ℕ → Answer
+answerOf n = cond (eqb n 0) answer.Ok (answer.Refused n)
+
+abbrev pub openedBy : Record → ℕ → List ℕ → After Reply
+openedBy r n m = ended r (answerOf n) m
+
+unfoldable pub openCall : List ℕ → ℕ → ℕ → After Reply
+openCall m h s = let t = openOf m h s in openedBy (t .result .unit) (t .result .refusal) (t .memory)
+
+-- ---- load, store, device store
+
+abbrev pub depthAt : Record → ℕ → ℕ
+depthAt r a = depthOf (pageOf a) (keys (r .guest .marks .place) (r .guest .marks .set))
+
+-- the translation of an address
+unfoldable pub translatedOf : Record → List ℕ → Bool → ℕ → After Translated
+translatedOf r m st a = translateOf (configOf r) (hostTop r) m (heldOf r) (rootOf r) st a (depthAt r a)
+
+abbrev pub addressOk : Record → ℕ → Bool
+addressOk r a = addressFits (configOf r) a && wordAligned a
+
+unfoldable pub loadCall : Record → List ℕ → ℕ → After Reply
+loadCall r m a =
+    judged r m (cond (addressOk r a) (servedBy r (loadOf (configOf r) (hostTop r) m (heldOf r) (rootOf r) a (depthAt r a))) (refused r 4 m))
+
+unfoldable pub storeCall : Record → List ℕ → ℕ → ℕ → After Reply
+storeCall r m a v =
+    judged r m (cond (addressOk r a) (servedBy r (storeOf (configOf r) (hostTop r) m (heldOf r) (rootOf r) a (depthAt r a) v)) (refused r 4 m))
+
+abbrev pub deviceOk : Record → ℕ → Bool
+deviceOk r a = deviceFits (configOf r) a && wordAligned a
+
+unfoldable pub deviceCall : Record → List ℕ → ℕ → ℕ → After Reply
+deviceCall r m a v = judged r m (cond (deviceOk r a) (servedBy r (deviceOf (configOf r) (hostTop r) m (heldOf r) a v)) (refused r 4 m))
+
+-- ---- root, map, unmap
+
+-- "A root load drops all"
+unfoldable pub rootCall : Record → List ℕ → ℕ → After Reply
+rootCall r m g = judged r m (cond (frameFits (configOf r) g) (ended (withHead r (headRoot (headHeld (headOf r) nothing) g)) answer.Ok m) (refused r 8 m))
+
+-- what a drop left; r is the record given, next the one after the drop, with the frame f held in it
+abbrev pub droppedBy : Record → Record → HostPhysical → After Left → After Reply
+droppedBy r next f o =
+    cond (o .result .ok) (ended (withHeld next (record { pool = o .result .pool; frame = f })) answer.Ok (o .memory)) (refused r 11 (o .memory))
+
+-- the mapping of g changed, and the host tables have the pool p: "drops every held path whose shadow part used its mapping",
+-- which is every one if the frame is the root's
+unfoldable pub unmappedOf : Record → Pool → List ℕ → ℕ → After Reply
+unmappedOf r p m g =
+    cond (eqb g (rootOf r)) (ended (withHeld (withHost r p) nothing) answer.Ok m)
+    (droppedBy r (withHost r p) (r .guest .held) (scanOf (configOf r) (Names (guestFrame g)) (r .pools .shadow) m))
+
+-- was: what its host walk came to before. A frame that was not mapped has no path to drop; an entry that named a frame outside
+-- the guest area is 11
+abbrev pub mappedBy : Record → Pool → List ℕ → ℕ → HostWalk → After Reply
+mappedBy r p m g (host.Found f w) = unmappedOf r p m g
+mappedBy r p m g (host.Absent n) = ended (withHost r p) answer.Ok m
+mappedBy r p m g host.Damaged = refused r 11 m
+
+abbrev pub changedBy : Record → ℕ → HostWalk → After Change → After Reply
+changedBy r g was t = cond (eqb (t .result .refusal) 0) (mappedBy r (t .result .pool) (t .memory) g was) (refused r (t .result .refusal) (t .memory))
+
+unfoldable pub mapCall : Record → List ℕ → ℕ → ℕ → Bool → After Reply
+mapCall r m g f w = judged r m (changedBy r g (hostWalkOf (configOf r) (hostTop r) m g) (mapOf (configOf r) (r .pools .host) m g f w))
+
+unfoldable pub unmapCall : Record → List ℕ → ℕ → After Reply
+unmapCall r m g = judged r m (changedBy r g (hostWalkOf (configOf r) (hostTop r) m g) (unmapOf (configOf r) (r .pools .host) m g))
+
+-- ---- marks
+
+-- the frame held in the record after a mark of level n, of N levels: it goes too where the mark keeps no index
+abbrev pub heldAfter : ℕ → ℕ → HostPhysical → HostPhysical
+heldAfter levels n f = cond (ltb n levels) f (page 0)
+
+-- "A mark set or cleared drops the paths that begin with its prefix"
+unfoldable pub markedOf : Record → List ℕ → ℕ → ℕ → Marks → After Reply
+markedOf r m a n t =
+    droppedBy r (withMarks r t) (heldAfter (r .layout .levels) n (r .guest .held))
+    (dropPrefixOf (configOf r) (r .pools .shadow) m (indexes (r .layout .levels - n) (pageOf a / 2 ^ (9 * n))))
+
+abbrev pub keysOf : Record → List ℕ
+keysOf r = keys (r .guest .marks .place) (r .guest .marks .set)
+
+-- a mark is set (b), or one that is set is cleared: why it is refused, and the marks after it
+abbrev pub markRefusal : Bool → Record → ℕ → ℕ → ℕ
+markRefusal b r a n = number (cond b (setRefusal (r .layout .levels) (keysOf r) a n) (clearRefusal (r .layout .levels) (keysOf r) a n))
+
+abbrev pub marksAfter : Bool → Marks → ℕ → Marks
+marksAfter b t k = cond b (withKey t k) (withoutKey t k)
+
+abbrev pub markCall : Bool → Record → List ℕ → ℕ → ℕ → After Reply
+markCall b r m a n =
+    judged r m (cond (eqb (markRefusal b r a n) 0) (markedOf r m a n (marksAfter b (r .guest .marks) (keyOf n (pageOf a)))) (refused r (markRefusal b r a n) m))
+
+unfoldable pub setMarkCall : Record → List ℕ → ℕ → ℕ → After Reply
+setMarkCall r m a n = markCall true r m a n
+
+unfoldable pub clearMarkCall : Record → List ℕ → ℕ → ℕ → After Reply
+clearMarkCall r m a n = markCall false r m a n
+
+-- ---- any call
+
+unfoldable pub callOf : Call → Record → List ℕ → After Reply
+callOf (root g) r m = rootCall r m g
+callOf (map g f w) r m = mapCall r m g f w
+callOf (unmap g) r m = unmapCall r m g
+callOf (setMark a n) r m = setMarkCall r m a n
+callOf (clearMark a n) r m = clearMarkCall r m a n
+callOf (load a) r m = loadCall r m a
+callOf (store a v) r m = storeCall r m a v
+callOf (device a v) r m = deviceCall r m a v

@@ -1,0 +1,50 @@
+use Rattle.drops.specs.Drop.{clearOne}
+use borrow.Author.Needs.{needs}
+use Rattle.drops.proofs.clear_one.Statement.{statement}
+use Rattle.drops.proofs.clear_one.Tie as tie
+
+enum-told : tie.Need-enum-told
+enum-told c = search needs
+
+returns : tie.Need-returns
+unfolding clearOne
+returns c = rw (← c .before .before .before .entry-at .ensures, ← c .before .before .kind-of .ensures, c .enum-told .given .1)
+
+returns-2 : tie.Need-returns-2
+unfolding clearOne
+returns-2 c = rw (← c .before .before .before .before .before .before .before .before .before .before .entry-at .ensures, ← c .before .before .before .before .before .before .before .before .before .kind-of .ensures, c .before .before .before .before .before .before .before .enum-told2 .given .1, ← c .before .before .before .before .before .goes .ensures, c .before .before .before .before .if1 .taken, c .before .before .put-entry .ensures)
+
+returns-3 : tie.Need-returns-3
+unfolding clearOne
+returns-3 c = rw (← c .before .before .before .before .before .before .entry-at .ensures, ← c .before .before .before .before .before .kind-of .ensures, c .before .before .before .enum-told2 .given .1, ← c .before .goes .ensures, c .if1 .left)
+
+returns-4 : tie.Need-returns-4
+unfolding clearOne
+returns-4 c = rw (← c .before .before .before .before .entry-at .ensures, ← c .before .before .before .kind-of .ensures, c .before .t .given .1)
+
+returns-5 : tie.Need-returns-5
+unfolding clearOne
+returns-5 c = rw (← c .before .before .before .entry-at .ensures, ← c .before .before .kind-of .ensures, c .enum-told3 .given .1)
+
+pub clear-one-spec : {M : Type 1} → statement M
+clear-one-spec =
+    tie.close
+    (tie.spec
+    (λ c κs. search needs)
+    (λ c κs. search needs)
+    enum-told
+    (λ c. search needs)
+    (λ c κs. search needs)
+    (λ c κs. search needs)
+    (λ c. search needs)
+    (λ c. search needs)
+    (λ c. search needs)
+    returns
+    (λ c. search needs)
+    returns-2
+    (λ c. search needs)
+    returns-3
+    (λ c. search needs)
+    returns-4
+    (λ c. search needs)
+    returns-5)

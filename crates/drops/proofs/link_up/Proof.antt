@@ -1,0 +1,24 @@
+use native.Mathlib.Omega.{arith}
+use Rattle.drops.specs.Cut.{aboveOf}
+use Rattle.pool.proofs.Laws.{parent-small, slot-small}
+use borrow.Author.Needs.{needs}
+use Rattle.drops.proofs.link_up.Statement.{statement}
+use Rattle.drops.proofs.link_up.Tie as tie
+
+cut-at-requires : tie.Need-cut-at-requires
+cut-at-requires c κs = let p = parent-small (c .before .before .before .before .before .args .mem .now) (c .before .before .before .before .before .args .f) in let s = slot-small (c .before .before .before .before .before .args .mem .now) (c .before .before .before .before .before .args .f) in (omega (arith, c .before .before .before .parent .ensures), omega (arith, c .slot .ensures))
+
+returns : tie.Need-returns
+unfolding aboveOf
+returns c = rw (← c .before .before .before .before .before .parent .ensures, ← c .before .before .before .before .inside .ensures, c .before .before .before .if1 .taken, ← c .before .before .slot .ensures, ← c .before .cut-at .ensures, c .if2 .taken)
+
+returns-2 : tie.Need-returns-2
+unfolding aboveOf
+returns-2 c = rw (← c .before .before .before .before .before .parent .ensures, ← c .before .before .before .before .inside .ensures, c .before .before .before .if1 .taken, ← c .before .before .slot .ensures, ← c .before .cut-at .ensures, c .if2 .left)
+
+returns-3 : tie.Need-returns-3
+unfolding aboveOf
+returns-3 c = rw (← c .before .before .parent .ensures, ← c .before .inside .ensures, c .if1 .left)
+
+pub link-up-spec : {M : Type 1} → statement M
+link-up-spec = tie.close (tie.spec (λ c κs. search needs) (λ c κs. search needs) (λ c κs. search needs) cut-at-requires returns returns-2 returns-3)

@@ -1,0 +1,65 @@
+use mathlib.Core.Path.{_≡_, refl, _∙_}
+use Prim.Native.Nat.{_-_, _≤_}
+use native.Mathlib.Omega.{arith}
+use Rattle.layout.specs.Layout.{config}
+use lib.ListN.{length}
+use Rattle.drops.specs.Drop.{scanFrom, scanOf}
+use Rattle.drops.proofs.Laws.{scan-step, scan-none}
+use borrow.Author.Needs.{needs}
+use Rattle.drops.proofs.scan.Statement.{statement}
+use Rattle.drops.proofs.scan.Tie as tie
+
+abbrev Inv-loop : tie.InvT-loop
+Inv-loop mem₀ l cut fresh cur₀ i₀ mem cur i = (i ≤ fresh) × (length mem ≡ length mem₀) × (scanFrom (config l) cut (fresh - i) i cur mem ≡ scanFrom (config l) cut (fresh - i₀) i₀ cur₀ mem₀)
+
+abbrev μ-loop : tie.MeasureT-loop
+μ-loop mem₀ l cut fresh cur₀ i₀ mem cur i = fresh - i
+
+loop-holds : tie.Need-loop-holds Inv-loop μ-loop
+loop-holds c = (omega arith, refl, refl)
+
+add-visit : tie.Need-add-visit Inv-loop μ-loop
+add-visit c = search needs
+
+visit-requires : tie.Need-visit-requires Inv-loop μ-loop
+visit-requires c κs = search needs
+
+add-i : tie.Need-add-i Inv-loop μ-loop
+add-i c = search needs
+
+loop-less : tie.Need-loop-less Inv-loop μ-loop
+loop-less c = search needs
+
+loop-again : tie.Need-loop-again Inv-loop μ-loop
+loop-again c = (omega arith, c .before .before .before .before .visit .kept .0 ∙ c .before .before .before .before .before .before .before .before .loop .inv .1, rw (scan-step (config (c .before .before .before .before .before .before .before .before .before .before .args .l)) (c .before .before .before .before .before .before .before .before .before .before .args .cut) (c .before .before .before .before .before .before .before .before .before .before .args .p .fresh) (c .before .before .before .before .before .before .before .before .loop .i) (c .before .before .before .before .before .before .before .before .loop .cur) (c .before .before .before .before .before .before .before .before .loop .mem) (c .before .before .before .before .before .before .before .loop-test .taken), ← c .before .before .before .before .visit .ensures, c .if1 .taken) at (c .before .before .before .before .before .before .before .before .loop .inv .2))
+
+same-length : tie.Need-same-length Inv-loop μ-loop
+same-length c = search needs
+
+returns : tie.Need-returns Inv-loop μ-loop
+unfolding scanOf
+returns c = let z : c .before .before .before .before .before .before .before .before .before .before .args .p .fresh - 0 ≡ c .before .before .before .before .before .before .before .before .before .before .args .p .fresh = omega arith in rw (c .if1 .left) (rw (scan-step (config (c .before .before .before .before .before .before .before .before .before .before .args .l)) (c .before .before .before .before .before .before .before .before .before .before .args .cut) (c .before .before .before .before .before .before .before .before .before .before .args .p .fresh) (c .before .before .before .before .before .before .before .before .loop .i) (c .before .before .before .before .before .before .before .before .loop .cur) (c .before .before .before .before .before .before .before .before .loop .mem) (c .before .before .before .before .before .before .before .loop-test .taken), ← c .before .before .before .before .visit .ensures, c .if1 .left, z) at (c .before .before .before .before .before .before .before .before .loop .inv .2))
+
+same-length-2 : tie.Need-same-length-2 Inv-loop μ-loop
+same-length-2 c = search needs
+
+returns-2 : tie.Need-returns-2 Inv-loop μ-loop
+unfolding scanOf
+returns-2 c = let z : c .before .before .before .args .p .fresh - 0 ≡ c .before .before .before .args .p .fresh = omega arith in rw (scan-none (config (c .before .before .before .args .l)) (c .before .before .before .args .cut) (c .before .before .before .args .p .fresh) (c .before .loop .i) (c .before .loop .cur) (c .before .loop .mem) (c .loop-test .left), z) at (c .before .loop .inv .2)
+
+pub scan-spec : {M : Type 1} → statement M
+scan-spec =
+    tie.close
+    (tie.spec
+    Inv-loop
+    μ-loop
+    loop-holds
+    add-visit
+    visit-requires
+    add-i
+    loop-less
+    loop-again
+    same-length
+    returns
+    same-length-2
+    returns-2)

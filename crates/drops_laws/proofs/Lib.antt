@@ -1,0 +1,7 @@
+pub mod Scan
+pub mod Held
+pub mod Watch
+pub mod Find
+pub mod Drops
+pub mod Fill
+pub mod Valid

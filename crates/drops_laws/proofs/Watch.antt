@@ -1,0 +1,130 @@
+-- A frame is watched in memory exactly if it is watched in the book.
+-- Assumes nothing.
+use mathlib.Core.Path.{_≡_, refl, sym, _∙_, subst}
+use mathlib.Core.Logic.{_≢_, inl, inr}
+use Prim.Native.Nat.{ℕ, zero, suc, _+_, _<_, _≤_}
+use native.Mathlib.Omega.{arith}
+use native.Mathlib.Decide.{ℕ-discrete}
+use mathlib.Core.Bool.{Bool, true, false, cond}
+use mathlib.Core.List.{List, [], _∷_}
+use mathlib.Core.Option.{Option, none, some, IsSome}
+use lib.Dec.{T, eqb, eqb→eq, eqb-refl}
+use borrow.Author.Tests.{eq-eqb, ne-eqb, eqb-true, eqb-false}
+use Rattle.spec.specs.Config.{Config, guestBase}
+use Rattle.spec.specs.Prefix.{any}
+use Rattle.spec.specs.Book.{Held, readsFrame, watched}
+use Rattle.spec_laws.proofs.Lists.{All, or-cases, or-left, or-right}
+use Rattle.spec_laws.proofs.Trail.{readsFrom}
+use Rattle.pool.specs.declared.Pool.{Pool}
+use Rattle.pool.specs.Header.{levelOf, guestOf}
+use Rattle.area_laws.proofs.Change.{is-some}
+use Rattle.area_laws.proofs.Paths.{onto, Pre, Ext, pre-ext, ext-pre}
+use Rattle.area_laws.proofs.Invariant.{present-set, Leaf}
+use Rattle.area_laws.proofs.Whole.{Holds, above-leaf}
+use Rattle.shadow.specs.Held.{shadowArea}
+use Rattle.shadow.specs.Watch.{watchesOf, watchedFrom, watchedOf}
+use Rattle.drops_laws.proofs.Held.{both-tests, leafAt, HeldEntries, leaf-any, leaf-held, any-leaf}
+
+-- ---- the guest tables whose words are read on the way of a path: those of its proper prefixes
+record ReadAt (t : ℕ) (F : List ℕ → ℕ) (x is : List ℕ) : Type 0 where
+  pub prefix : List ℕ
+  pub on : Pre prefix x is
+  pub frame : F prefix ≡ t
+
+reads-pre : (t : ℕ) (F : List ℕ → ℕ) (is x : List ℕ) → T (any (λ r. eqb t (r .0)) (readsFrom F x is)) → ReadAt t F x is
+reads-pre t F [] x h = absurd h
+reads-pre t F (i ∷ is) x h = elim (or-cases (eqb t (F x)) (any (λ r. eqb t (r .0)) (readsFrom F (i ∷ x) is)) h) [
+  | inl k ↦ record { prefix = x; on = inl refl; frame = sym (eqb→eq t (F x) k) }
+  | inr k ↦ (let r = reads-pre t F is (i ∷ x) k in record { prefix = r .prefix; on = inr (r .on); frame = r .frame })
+]
+
+pre-reads : (t : ℕ) (F : List ℕ → ℕ) (is x y : List ℕ) → Pre y x is → F y ≡ t → T (any (λ r. eqb t (r .0)) (readsFrom F x is))
+pre-reads t F [] x y h e = absurd h
+pre-reads t F (i ∷ is) x y (inl h) e = or-left (eqb t (F x)) _ (subst (λ z. T (eqb t (F z))) h (subst (λ z. T (eqb t z)) (sym e) (eqb-refl t)))
+pre-reads t F (i ∷ is) x y (inr h) e = or-right (eqb t (F x)) _ (pre-reads t F is (i ∷ x) y h e)
+
+pre-inside : (P : ℕ → Type 0) (F : List ℕ → ℕ) (is x y : List ℕ) → All (λ r. P (r .0)) (readsFrom F x is) → Pre y x is → P (F y)
+pre-inside P F [] x y a h = absurd h
+pre-inside P F (i ∷ is) x y a (inl h) = subst (λ z. P (F z)) (sym h) (a .0)
+pre-inside P F (i ∷ is) x y a (inr h) = pre-inside P F is (i ∷ x) y (a .1) h
+
+-- a proper prefix, from the empty one on
+pub ext-on : (y is : List ℕ) → Ext y (onto [] is) → Pre y [] is
+ext-on y is h = elim (ext-pre y [] is h) [ inl k ↦ absurd k | inr k ↦ k ]
+
+-- the guest table of a prefix above a leaf is in the guest area
+pub guest-inside : {c : Config} {F G : List ℕ → ℕ} {root : ℕ} {w : Held → ℕ} {hs : List Held} → HeldEntries c F G root w hs → (y : List ℕ) → Leaf (leafAt w hs) y → guestBase c ≤ F y
+guest-inside {c = c} {F = F} {w = w} {hs = hs} a y l =
+    let r = leaf-held _ w hs (l .path) (a .all) (l .set) in
+    pre-inside (λ f. guestBase c ≤ f) F (r .held .path) [] y (subst (All (λ (x : ℕ × ℕ). guestBase c ≤ x .0)) (r .fact .reads) (r .fact .inside))
+    (ext-on y (r .held .path) (subst (Ext y) (sym (r .path)) (l .under)))
+
+-- ---- the scan of the headers
+record Watches (m : List ℕ) (b t k : ℕ) : Type 0 where
+  pub frame : ℕ
+  pub low : b ≤ frame
+  pub high : frame < b + k
+  pub level : levelOf m frame ≢ 0
+  pub guest : guestOf m frame ≡ t
+
+watched-found : (m : List ℕ) (b t k : ℕ) → T (watchedFrom m b t k) → Watches m b t k
+unfolding watchedFrom watchesOf
+watched-found m b t zero h = absurd h
+watched-found m b t (suc k) h = go (eqb (levelOf m (b + k)) 0) refl (eqb (guestOf m (b + k)) t) refl h (watched-found m b t k)
+  where
+    wider : Watches m b t k → Watches m b t (suc k)
+    wider r = record { frame = r .frame; low = r .low; high = omega (arith, r .high); level = r .level; guest = r .guest }
+
+    go : (d : Bool) → eqb (levelOf m (b + k)) 0 ≡ d → (e : Bool) → eqb (guestOf m (b + k)) t ≡ e → T (cond (cond d false e) true (watchedFrom m b t k))
+        → (T (watchedFrom m b t k) → Watches m b t k) → Watches m b t (suc k)
+    go true p e q n ih = wider (ih n)
+    go false p false q n ih = wider (ih n)
+    go false p true q n ih = record { frame = b + k; low = omega arith; high = omega arith; level = eqb-false _ _ p; guest = eqb-true _ _ q }
+
+found-watched : (m : List ℕ) (b t k f : ℕ) → b ≤ f → f < b + k → levelOf m f ≢ 0 → guestOf m f ≡ t → T (watchedFrom m b t k)
+unfolding watchedFrom watchesOf
+found-watched m b t zero f lo hi n e = absurd (omega arith)
+found-watched m b t (suc k) f lo hi n e = go (ℕ-discrete f (b + k)) (λ l. found-watched m b t k f lo l n e)
+  where
+    later : (d : Bool) → T (watchedFrom m b t k) → T (cond d true (watchedFrom m b t k))
+    later true h = tt
+    later false h = h
+
+    go : Dec (f ≡ b + k) → (f < b + k → T (watchedFrom m b t k)) → T (cond (watchesOf m (b + k) t) true (watchedFrom m b t k))
+    go (yes q) ih = rw (sym q, ne-eqb (levelOf m f) 0 n, eq-eqb (guestOf m f) t e) tt
+    go (no q) ih = later (watchesOf m (b + k) t) (ih (omega (arith, q)))
+
+-- "A host frame is watched while the shadow part of some held path reads a guest entry in it"
+pub watched-is : {c : Config} {p : Pool} {m : List ℕ} {guest G : List ℕ → ℕ} {root : ℕ} {w : Held → ℕ} {hs : List Held}
+    → Holds (shadowArea c) false p m (leafAt w hs) guest → HeldEntries c guest G root w hs → (t : ℕ) → watchedOf c m (p .fresh) t ≡ watched t hs
+unfolding watchedOf
+watched-is {c = c} {p = p} {m = m} {guest = guest} {w = w} {hs = hs} h a t = both-tests _ _ there free-words
+  where
+    there : T (watchedFrom m (c .hosts) t (p .fresh)) → T (watched t hs)
+    there k = elim (h .tables .each (r .frame) (r .low) (r .high)) [ inl z ↦ absurd (r .level z) | inr z ↦ above (z .0) (z .1) ]
+      where
+        r : Watches m (c .hosts) t (p .fresh)
+        r = watched-found m (c .hosts) t (p .fresh) k
+
+        above : (y : List ℕ) → h .tabs y ≡ some (r .frame) → T (watched t hs)
+        above y e = elim (h .exact y (is-some e)) [ inl l ↦ leaf l | inr l ↦ absurd (l .1) ]
+          where
+            leaf : Leaf (leafAt w hs) y → T (watched t hs)
+            leaf l = leaf-any _ w (readsFrame t) (l .path)
+                (λ k s q. subst (λ rs. T (any (λ x. eqb t (x .0)) rs)) (sym (s .reads))
+                (pre-reads t guest (k .path) [] y (ext-on y (k .path) (subst (Ext y) (sym q) (l .under))) (sym (h .tables .guests y (r .frame) e) ∙ r .guest)))
+                hs (a .all) (l .set)
+
+    free-words : T (watched t hs) → T (watchedFrom m (c .hosts) t (p .fresh))
+    free-words k =
+        let r = any-leaf _ w (readsFrame t) (λ k s. present-set (w k) (s .set)) hs (a .all) k in
+        let s = reads-pre t guest (r .held .path) [] (subst (λ rs. T (any (λ x. eqb t (x .0)) rs)) (r .fact .reads) (r .passes)) in
+        stands (s .prefix) (s .frame) (h .tabs (s .prefix)) refl
+        (above-leaf h (s .prefix) (record { path = onto [] (r .held .path); under = pre-ext (s .prefix) [] (r .held .path) (s .on); set = r .leaf }))
+      where
+        stands : (y : List ℕ) → guest y ≡ t → (o : Option ℕ) → h .tabs y ≡ o → IsSome (h .tabs y) → T (watchedFrom m (c .hosts) t (p .fresh))
+        stands y q none e k = absurd (subst IsSome e k)
+        stands y q (some f) e k =
+            let i = h .tables .inside y f e in
+            let l = h .tables .level y f e in
+            found-watched m (c .hosts) t (p .fresh) f (i .0) (i .1) (λ z. omega arith) (h .tables .guests y f e ∙ q)

@@ -1,0 +1,1 @@
+// Laws of the shadow tables: the drops, watching, looking up and filling are the book's; no code.

@@ -1,0 +1,12 @@
+use native.Mathlib.Omega.{arith}
+use Rattle.job_lines.specs.Text.{puts-byte}
+use mathlib.Core.Path.{refl}
+use borrow.Author.Needs.{needs}
+use Rattle.job_lines.proofs.put.Statement.{statement}
+use Rattle.job_lines.proofs.put.Tie as tie
+
+returns : tie.Need-returns
+returns c = (refl, puts-byte (c .args .out .now) (c .args .at) (c .args .b) (omega arith))
+
+pub put-spec : {M : Type 1} → statement M
+put-spec = tie.close (tie.spec (λ c. search needs) (λ c. search needs) (λ c. search needs) returns)

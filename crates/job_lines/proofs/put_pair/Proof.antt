@@ -1,0 +1,13 @@
+use native.Mathlib.Omega.{arith}
+use Rattle.job_lines.specs.Text.{then}
+use borrow.Author.Needs.{needs}
+use Rattle.job_lines.proofs.put_pair.Statement.{statement}
+use Rattle.job_lines.proofs.put_pair.Tie as tie
+
+returns : tie.Need-returns
+returns c =
+    let a = c .before .before .before .before .before .before .before .before .before .args in
+    (omega (arith, c .before .before .before .before .before .before .put-number .ensures .0, c .before .before .put-number2 .ensures .0), (then (a .out .now) (c .before .before .before .before .before .before .put-number .last .0) (c .before .before .put-number2 .last .0) (a .at) (c .before .before .before .before .before .before .put-number .result) (c .before .before .put-number2 .result) _ _ (c .before .before .before .before .before .before .put-number .ensures .1) (c .before .before .put-number2 .ensures .1)))
+
+pub put-pair-spec : {M : Type 1} → statement M
+put-pair-spec = tie.close (tie.spec (λ c κs. search needs) (λ c κs. search needs) (λ c. search needs) returns)

@@ -1,0 +1,21 @@
+use native.Mathlib.Omega.{arith}
+use Rattle.job_lines.specs.Text.{then}
+use borrow.Author.Needs.{needs}
+use Rattle.job_lines.proofs.put_value.Statement.{statement}
+use Rattle.job_lines.proofs.put_value.Tie as tie
+
+returns : tie.Need-returns
+returns c =
+    let a = c .before .before .before .before .before .before .before .before .before .before .before .before .before .before .args in
+    (omega (arith, c .before .before .before .before .before .before .before .before .before .before .put-text .ensures .0, c .before .before .before .before .before .before .put-hex .ensures .0, c .before .before .put-pair .ensures .0), (then (a .out .now) (c .before .before .before .before .before .before .put-hex .last .0) (c .before .before .put-pair .last .0) (a .at) (c .before .before .before .before .before .before .put-hex .result) (c .before .before .put-pair .result) _ _ (then (a .out .now) (c .before .before .before .before .before .before .before .before .before .before .put-text .last .0) (c .before .before .before .before .before .before .put-hex .last .0) (a .at) (c .before .before .before .before .before .before .before .before .before .before .put-text .result) (c .before .before .before .before .before .before .put-hex .result) _ _ (c .before .before .before .before .before .before .before .before .before .before .put-text .ensures .1) (c .before .before .before .before .before .before .put-hex .ensures .1)) (c .before .before .put-pair .ensures .1)))
+
+pub put-value-spec : {M : Type 1} → statement M
+put-value-spec =
+    tie.close
+    (tie.spec
+    (λ c. search needs)
+    (λ c κs. search needs)
+    (λ c κs. search needs)
+    (λ c κs. search needs)
+    (λ c. search needs)
+    returns)

@@ -1,0 +1,73 @@
+use Rattle.calls.specs.Calls.{callOf}
+use borrow.Author.Needs.{needs}
+use Rattle.job_run.proofs.run_call.Statement.{statement}
+use Rattle.job_run.proofs.run_call.Tie as tie
+
+returns : tie.Need-returns
+unfolding callOf
+returns c = rw (c .before .before .before .before .before .call .given .1) (c .before .before .load-root .ensures)
+
+returns-2 : tie.Need-returns-2
+unfolding callOf
+returns-2 c = rw (c .before .before .before .before .before .call2 .given .1) (c .before .before .map .ensures)
+
+returns-3 : tie.Need-returns-3
+unfolding callOf
+returns-3 c = rw (c .before .before .before .before .before .call3 .given .1) (c .before .before .unmap .ensures)
+
+returns-4 : tie.Need-returns-4
+unfolding callOf
+returns-4 c = rw (c .before .before .before .before .before .call4 .given .1) (c .before .before .set-mark .ensures)
+
+returns-5 : tie.Need-returns-5
+unfolding callOf
+returns-5 c = rw (c .before .before .before .before .before .call5 .given .1) (c .before .before .clear-mark .ensures)
+
+returns-6 : tie.Need-returns-6
+unfolding callOf
+returns-6 c = rw (c .before .before .before .before .before .call6 .given .1) (c .before .before .load .ensures)
+
+returns-7 : tie.Need-returns-7
+unfolding callOf
+returns-7 c = rw (c .before .before .before .before .before .call7 .given .1) (c .before .before .store .ensures)
+
+returns-8 : tie.Need-returns-8
+unfolding callOf
+returns-8 c = rw (c .before .before .before .before .before .call8 .given .1) (c .before .before .device-store .ensures)
+
+pub run-call-spec : {M : Type 1} → statement M
+run-call-spec =
+    tie.close
+    (tie.spec
+    (λ c. search needs)
+    (λ c κs. search needs)
+    (λ c. search needs)
+    (λ c κs. search needs)
+    (λ c. search needs)
+    (λ c κs. search needs)
+    (λ c. search needs)
+    (λ c κs. search needs)
+    (λ c. search needs)
+    (λ c κs. search needs)
+    (λ c. search needs)
+    (λ c κs. search needs)
+    (λ c. search needs)
+    (λ c κs. search needs)
+    (λ c. search needs)
+    (λ c κs. search needs)
+    (λ c. search needs)
+    returns
+    (λ c. search needs)
+    returns-2
+    (λ c. search needs)
+    returns-3
+    (λ c. search needs)
+    returns-4
+    (λ c. search needs)
+    returns-5
+    (λ c. search needs)
+    returns-6
+    (λ c. search needs)
+    returns-7
+    (λ c. search needs)
+    returns-8)

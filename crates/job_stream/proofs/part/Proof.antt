@@ -1,0 +1,15 @@
+use native.Mathlib.Omega.{arith}
+use mathlib.Core.Path.{_≡_}
+use lib.ListN.{length, take, length-take}
+use borrow.Author.Needs.{needs}
+use Rattle.job_stream.proofs.part.Statement.{statement}
+use Rattle.job_stream.proofs.part.Tie as tie
+
+slice-aggregate-result : tie.Need-slice-aggregate-result
+slice-aggregate-result c =
+    let a = c .before .before .args in
+    let e : a .len ≡ length (take (a .len) (a .buf .now)) = omega (arith, length-take (a .len) (a .buf .now)) in
+    e
+
+pub part-spec : {M : Type 1} → statement M
+part-spec = tie.close (tie.spec slice-aggregate-result (λ c. search needs) (λ c. search needs))

@@ -1,0 +1,85 @@
+// How the lent memory is laid out: host tables, shadow tables, then the guest area. What the entry at the end of a path in either
+// set of tables names.
+ghost use mathlib.Core.Path.{_≡_};
+ghost use Prim.Native.Nat.{_≤_};
+ghost use Rattle.spec.specs.Entry.{indexes};
+ghost use Rattle.spec.specs.Refusal.{inGuestArea, frameFits};
+ghost use Rattle.area.specs.Tree.{lookOf};
+ghost use Rattle.layout.specs.Layout.{LayoutFits, config, leafOf, namedBy};
+use area::Look;
+use entry::GuestPhysical;
+use entry::HostPhysical;
+
+// How the lent memory is laid out: levels of tables, host frames, shadow frames, frames in all.
+pub struct Layout {
+    pub levels: u64,
+    pub hosts: u64,
+    pub shadows: u64,
+    pub frames: u64,
+}
+
+// What a host walk comes to. Found reads one word a level; Damaged: an entry names a frame outside the area it must lie in.
+pub enum HostWalk {
+    Found { page: HostPhysical, writable: bool },
+    Absent { reads: u64 },
+    Damaged,
+}
+
+// Whether a host frame lies in the guest area.
+pub fn in_guest_area(l: Layout, f: u64) -> bool
+    requires { ⌜ LayoutFits l ⌝ }
+    ensures { λ r. ⌜ r ≡ inGuestArea (config l) f ⌝ }
+{
+    if l.hosts + l.shadows <= f {
+        f < l.frames
+    } else {
+        false
+    }
+}
+
+// Whether a number is a guest frame number.
+pub fn frame_fits(l: Layout, g: GuestPhysical) -> bool
+    requires { ⌜ LayoutFits l ⌝ }
+    ensures { λ r. ⌜ r ≡ frameFits (config l) (g .0) ⌝ }
+{
+    g.0 >> entry::frame_bits(l.levels) == 0
+}
+
+// What the entry at the end of a path says.
+fn leaf(l: Layout, e: u64, reads: u64) -> HostWalk
+    requires { ⌜ LayoutFits l ⌝ }
+    ensures { λ r. ⌜ r ≡ leafOf (config l) e reads ⌝ }
+{
+    if entry::present(e) {
+        let f = entry::frame_of(e);
+        if in_guest_area(l, f) {
+            HostWalk::Found {
+                page: HostPhysical(f),
+                writable: entry::writable(e),
+            }
+        } else {
+            HostWalk::Damaged
+        }
+    } else {
+        HostWalk::Absent { reads: reads }
+    }
+}
+
+// What stands at the end of the path of the k low indexes of path, in the tables of the size frames from base on below the entry top.
+pub fn leaf_at(
+    mem: &[u64],
+    l: Layout,
+    base: u64,
+    size: u64,
+    top: u64,
+    path: u64,
+    k: u64,
+) -> HostWalk
+    requires { ⌜ (LayoutFits l) × (k ≤ l .levels) ⌝ }
+    ensures { λ r. ⌜ r ≡ namedBy (config l) (lookOf base size (now (mem .entry)) top (indexes k path) 0) ⌝ }
+{
+    match area::lookup(base, size, top, mem, path, k) {
+        Look::Seen { entry, reads } => leaf(l, entry, reads),
+        Look::Damaged => HostWalk::Damaged,
+    }
+}

@@ -1,0 +1,11 @@
+use Rattle.pool.specs.Pool.{freeWords}
+use borrow.Author.Needs.{needs}
+use Rattle.pool.proofs.free_words.Statement.{statement}
+use Rattle.pool.proofs.free_words.Tie as tie
+
+returns : tie.Need-returns
+unfolding freeWords
+returns c = rw (c .before .before .set-in2 .ensures, c .before .before .before .before .before .before .set-in .ensures)
+
+pub free-words-spec : {M : Type 1} → statement M
+free-words-spec = tie.close (tie.spec (λ c κs. search needs) (λ c κs. search needs) (λ c. search needs) returns)

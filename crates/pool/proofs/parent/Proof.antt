@@ -1,0 +1,11 @@
+use Rattle.pool.specs.Header.{parentOf}
+use borrow.Author.Needs.{needs}
+use Rattle.pool.proofs.parent.Statement.{statement}
+use Rattle.pool.proofs.parent.Tie as tie
+
+returns : tie.Need-returns
+unfolding parentOf
+returns c = c .frame-at .ensures
+
+pub parent-spec : {M : Type 1} → statement M
+parent-spec = tie.close (tie.spec (λ c κs. search needs) returns)

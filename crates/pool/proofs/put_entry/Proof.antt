@@ -1,0 +1,19 @@
+use Rattle.pool.specs.Header.{putOf}
+use borrow.Author.Needs.{needs}
+use Rattle.pool.proofs.put_entry.Statement.{statement}
+use Rattle.pool.proofs.put_entry.Tie as tie
+
+returns : tie.Need-returns
+unfolding putOf
+returns c = rw (c .before .before .set-in .ensures, c .before .before .before .before .word-in .ensures)
+
+pub put-entry-spec : {M : Type 1} → statement M
+put-entry-spec =
+    tie.close
+    (tie.spec
+    (λ c κs. search needs)
+    (λ c. search needs)
+    (λ c. search needs)
+    (λ c κs. search needs)
+    (λ c. search needs)
+    returns)

@@ -1,0 +1,11 @@
+use Rattle.pool.specs.Pool.{freedOf}
+use borrow.Author.Needs.{needs}
+use Rattle.pool.proofs.take_freed.Statement.{statement}
+use Rattle.pool.proofs.take_freed.Tie as tie
+
+returns : tie.Need-returns
+unfolding freedOf
+returns c = rw (c .before .before .before .zero-frame .ensures, c .before .before .before .before .before .word-in .ensures)
+
+pub take-freed-spec : {M : Type 1} → statement M
+take-freed-spec = tie.close (tie.spec (λ c κs. search needs) (λ c κs. search needs) (λ c. search needs) (λ c. search needs) returns)

@@ -1,0 +1,119 @@
+-- How many words a granted walk and a granted request read, for any number of levels.
+-- Assumes nothing.
+use mathlib.Core.Path.{_≡_, refl, sym, ap, _∙_, subst}
+use Prim.Native.Nat.{ℕ, zero, suc, pred, _+_, _*_, _-_, _≤_, _<_}
+use native.Mathlib.Omega.{arith}
+use mathlib.Core.Bool.{Bool, true, false, not, cond}
+use mathlib.Core.List.{List, [], _∷_}
+use mathlib.Core.Option.{Option, none, some}
+use lib.Dec.{T, leb, le→leb, leb→le, nleb→lt}
+use lib.ListN.{length, length-drop}
+use Rattle.spec.specs.declared.Fault.{Fault}
+use Rattle.spec.specs.Config.{Config}
+use Rattle.spec.specs.Entry.{index, indexes, pageOf}
+use Rattle.spec.specs.Walk.{World, Trace, Result, granted, failed, trace}
+use Rattle.spec.specs.Plain.{Place, hosted, levels, walk, upper, shadowPart, directPart}
+use Rattle.spec.specs.Machine.{Machine, Mapping, lookup, costOf, hostCost, world}
+use Rattle.spec.specs.Book.{Book, find}
+use Rattle.spec.specs.Call.{addressIndexes, plain}
+use Rattle.spec.specs.Count.{Counted, serves, shadowed, unshadowed, request}
+use Rattle.spec_laws.proofs.Indexes.{indexes-length}
+use Rattle.spec_laws.proofs.Granted.{through, then-trace, hosted-granted, level-granted}
+use Rattle.spec_laws.proofs.Parts.{plain-parts, direct-result}
+use Rattle.spec_laws.proofs.Lists.{is-true, is-false}
+
+-- "A mapped frame's host walk reads one word a level"
+pub mapped-cost : (c : Config) (m : Machine) (g : ℕ) (r : Place) → (world c m) .hostAt g ≡ some r → (world c m) .hostCost g ≡ c .levels
+unfolding world hostCost
+mapped-cost c m g r h = ap (costOf c (m .mappings) g) h
+
+-- each host walk that finds its frame reads k words
+abbrev pub EachCosts : World → ℕ → Type 0
+EachCosts w k = (g : ℕ) (r : Place) → w .hostAt g ≡ some r → w .hostCost g ≡ k
+
+-- a granted walk reads, for each index, one guest word and a host walk's words
+pub levels-count : (w : World) (k : ℕ) → EachCosts w k → (c : Config) (st : Bool) (n t : ℕ) (v : Bool) (is : List ℕ) (r : Place)
+    → (trace w (levels c st n t v is)) .result ≡ granted r → (trace w (levels c st n t v is)) .count ≡ length is * suc k
+unfolding levels trace
+levels-count w k cost c st n t v [] r h = omega arith
+levels-count w k cost c st n t v (i ∷ is) r h =
+    let l = level-granted w c st n t v i is r h in
+    let ih = levels-count w k cost c st (pred n) (l .at .0) (l .at .1) is r (l .next) in
+    let e = ap (λ (x : Trace Fault Place). x .count) (l .whole) in
+    let f = cost _ _ (l .found) in
+    omega arith
+
+walk-count : (w : World) (k : ℕ) → EachCosts w k → (c : Config) (st : Bool) (root : ℕ) (is : List ℕ) (r : Place)
+    → (trace w (walk c st root is)) .result ≡ granted r → (trace w (walk c st root is)) .count ≡ length is + k * suc (length is)
+unfolding walk
+walk-count w k cost c st root is r h =
+    let t = through w (hosted root) (λ q. levels c st (c .levels) (q .0) true is) r h in
+    let a = hosted-granted w root (t .mid) (t .first) in
+    let e = ap (λ (x : Trace Fault Place). x .count) (then-trace w (hosted root) (λ q. levels c st (c .levels) (q .0) true is) _ _ _ (t .mid) (a .1)) in
+    let f = cost _ _ (a .0) in
+    let l = levels-count w k cost c st (c .levels) (t .mid .0) true is r (t .next) in
+    omega arith
+
+-- "A granted plain walk reads 24 words": N + N·(N + 1)
+pub plain-count : (c : Config) (m : Machine) (st : Bool) (a : ℕ) (r : Place) → (plain c m st a) .result ≡ granted r
+    → (plain c m st a) .count ≡ c .levels + c .levels * suc (c .levels)
+unfolding plain
+plain-count c m st a r h =
+    let is = addressIndexes c a in
+    let e = walk-count (world c m) (c .levels) (mapped-cost c m) c st (m .root) is r h in
+    e ∙ ap (λ n. n + c .levels * suc n) (indexes-length (c .levels) (pageOf a))
+
+-- where a granted request's shadow part arrived
+record Shadow (c : Config) (m : Machine) (st : Bool) (a d : ℕ) (r : Place) : Type 0 where
+  at : Place
+  comes : (trace (world c m) (shadowPart c st d (m .root) (addressIndexes c a))) .result ≡ granted at
+  next : (trace (world c m) (directPart c st d at (addressIndexes c a))) .result ≡ granted r
+
+shadow-granted : (c : Config) (m : Machine) (st : Bool) (a d : ℕ) (r : Place) → d ≤ c .levels → (plain c m st a) .result ≡ granted r → Shadow c m st a d r
+unfolding plain
+shadow-granted c m st a d r b h =
+    let is = addressIndexes c a in
+    let e = plain-parts c st d (m .root) is (indexes-length (c .levels) (pageOf a)) b in
+    let t = through (world c m) (shadowPart c st d (m .root) is) (λ q. directPart c st d q is) r (subst (λ p. (trace (world c m) p) .result ≡ granted r) e h) in
+    record { at = t .mid; comes = t .first; next = t .next }
+
+-- a granted direct part from level d
+direct-count : (c : Config) (m : Machine) (st : Bool) (a d : ℕ) (at r : Place) → d ≤ c .levels
+    → (trace (world c m) (directPart c st d at (addressIndexes c a))) .result ≡ granted r
+    → (trace (world c m) (directPart c st d at (addressIndexes c a))) .count ≡ d * suc (c .levels)
+direct-count c m st a d at r b h =
+    let is = addressIndexes c a in
+    let e = levels-count (world c m) (c .levels) (mapped-cost c m) c st d (at .0) (at .1) _ r h in
+    let l : length is - (c .levels - d) ≡ d = ap (λ n. n - (c .levels - d)) (indexes-length (c .levels) (pageOf a)) ∙ omega arith in
+    e ∙ ap (λ n. n * suc (c .levels)) (length-drop (c .levels - d) is ∙ l)
+
+-- "A granted request reads (4 − d) + 5d words": N + N·d, and at depth N + 1 the plain walk's
+pub request-count : (c : Config) (m : Machine) (b : Book) (st : Bool) (a d : ℕ) (r : Place) → d ≤ suc (c .levels)
+    → (plain c m st a) .result ≡ granted r → (request c m b st a d) .references ≡ c .levels + c .levels * d
+unfolding request
+request-count c m b st a d r bound h = go (leb d (c .levels)) refl
+  where
+    n : ℕ
+    n = c .levels
+
+    is : List ℕ
+    is = addressIndexes c a
+
+    held : Bool
+    held = serves st d (find (upper c d is) (b .held))
+
+    s : Trace Fault Place
+    s = trace (world c m) (shadowPart c st d (m .root) is)
+
+    go : (t : Bool) → leb d n ≡ t
+        → (cond t (shadowed c m b st d is (upper c d is) held s (s .result)) (unshadowed b (plain c m st a))) .references ≡ n + n * d
+    go true e =
+        let l : d ≤ n = leb→le d n (subst T (sym e) tt) in
+        let f = shadow-granted c m st a d r l h in
+        let k = direct-count c m st a d (f .at) r l (f .next) in
+        ap (λ x. (shadowed c m b st d is (upper c d is) held s x) .references) (f .comes)
+        ∙ ap (λ x. (n - d) + x) k ∙ omega arith
+    go false e =
+        let l = nleb→lt d n (subst (λ x. T (not x)) (sym e) tt) in
+        let z : d ≡ suc n = omega arith in
+        plain-count c m st a r h ∙ ap (λ x. n + n * x) (sym z)

@@ -1,0 +1,259 @@
+-- What a granted walk did, level by level; and that a granted store walks as a load does.
+-- Assumes nothing.
+use mathlib.Core.Path.{_≡_, refl, sym, ap, _∙_}
+use Prim.Native.Nat.{ℕ, pred, _+_}
+use native.Mathlib.Nat.{add-zero}
+use native.Mathlib.Omega.{arith}
+use mathlib.Core.Bool.{Bool, true, false, not, _&&_, _||_}
+use mathlib.Core.List.{List, [], _∷_}
+use mathlib.Core.Option.{Option, none, some}
+use lib.Dec.{eqb}
+use Rattle.spec.specs.declared.Fault.{Fault}
+use Rattle.spec.specs.Config.{Config}
+use Rattle.spec.specs.Entry.{present, writable, frameOf, malformed}
+use Rattle.spec.specs.Walk.{Walk, done, fail, host, word, _>>=_, _>>_, World, Trace, Result, granted, failed, trace}
+use Rattle.spec.specs.Plain.{Place, must, mapped, hosted, entry, next, levels, walk}
+use Rattle.spec_laws.proofs.Bind.{andThen, onto, more, trace-bind}
+
+pub no-grant : {X A : Type 0} {x : X} {a : A} → _≡_ {A = Result X A} (failed x) (granted a) → ⊥
+no-grant e = let z : _≡_ {A = ℕ} 0 1 = cc in omega arith
+
+pub granted-is : {X A : Type 0} (a b : A) → _≡_ {A = Result X A} (granted a) (granted b) → a ≡ b
+granted-is a b h = cc
+
+pub failed-is : {X A : Type 0} (x y : X) → _≡_ {A = Result X A} (failed x) (failed y) → x ≡ y
+failed-is x y h = cc
+
+-- a granted trace, by its parts
+abbrev pub ran : {X A : Type 0} → ℕ → List (ℕ × ℕ) → List ℕ → A → Trace X A
+ran n rs us a = record { result = granted a; count = n; reads = rs; uses = us }
+
+-- forwards: what comes after a granted walk
+pub then-trace : {X A B : Type 0} (w : World) (p : Walk X A) (f : A → Walk X B) (n : ℕ) (rs : List (ℕ × ℕ)) (us : List ℕ) (a : A)
+    → trace w p ≡ ran n rs us a → trace w (p >>= f) ≡ more n rs us (trace w (f a))
+then-trace w p f n rs us a e = trace-bind w p f ∙ ap (λ r. andThen r (λ x. trace w (f x))) e
+
+-- backwards: a granted walk of p >>= f went through p, and on from its result
+pub record Through {X A B : Type 0} (w : World) (p : Walk X A) (f : A → Walk X B) (b : B) : Type 0 where
+  pub mid : A
+  pub first : (trace w p) .result ≡ granted mid
+  pub next : (trace w (f mid)) .result ≡ granted b
+  pub whole : trace w (p >>= f) ≡ more ((trace w p) .count) ((trace w p) .reads) ((trace w p) .uses) (trace w (f mid))
+
+pub through : {X A B : Type 0} (w : World) (p : Walk X A) (f : A → Walk X B) (b : B) → (trace w (p >>= f)) .result ≡ granted b → Through w p f b
+through {X} {A} {B} w p f b h = go ((trace w p) .result) refl
+  where
+    go : (x : Result X A) → (trace w p) .result ≡ x → Through w p f b
+    go (failed x) e =
+        absurd (no-grant (sym (ap (λ (r : Trace X B). r .result) (trace-bind w p f)
+        ∙ ap (λ y. (onto y ((trace w p) .count) ((trace w p) .reads) ((trace w p) .uses) (λ a. trace w (f a))) .result) e) ∙ h))
+    go (granted a) e =
+        let eq : trace w (p >>= f) ≡ more ((trace w p) .count) ((trace w p) .reads) ((trace w p) .uses) (trace w (f a)) =
+        trace-bind w p f ∙ ap (λ y. onto y ((trace w p) .count) ((trace w p) .reads) ((trace w p) .uses) (λ a. trace w (f a))) e in
+        record { mid = a; first = e; next = sym (ap (λ (r : Trace X B). r .result) eq) ∙ h; whole = eq }
+
+must-granted : {B : Type 0} (w : World) (b : Bool) (x : Fault) (p : Walk Fault B) (r : B) → (trace w (must b x >> p)) .result ≡ granted r
+    → (b ≡ true) × ((trace w p) .result ≡ granted r) × (trace w (must b x >> p) ≡ trace w p)
+unfolding trace
+must-granted w true x p r h = (refl, h, refl)
+must-granted w false x p r h = absurd (no-grant h)
+
+mapped-granted : (w : World) (g : ℕ) (x : Option Place) (r : Place) → (trace w (mapped g x)) .result ≡ granted r
+    → (x ≡ some r) × (trace w (mapped g x) ≡ ran 0 [] [] r)
+unfolding trace
+mapped-granted w g none r h = absurd (no-grant h)
+mapped-granted w g (some q) r h = let e = granted-is q r h in (ap some e, ap (ran 0 [] []) e)
+
+pub hosted-granted : (w : World) (g : ℕ) (r : Place) → (trace w (hosted g)) .result ≡ granted r
+    → (w .hostAt g ≡ some r) × (trace w (hosted g) ≡ ran (w .hostCost g) [] (g ∷ []) r)
+unfolding hosted trace
+hosted-granted w g r h =
+    let s = mapped-granted w g (w .hostAt g) r h in
+    (s .0, ap (more (w .hostCost g) [] (g ∷ [])) (s .1) ∙ ap (λ n. ran n [] (g ∷ []) r) (add-zero (w .hostCost g)))
+
+pub entry-granted : (w : World) (c : Config) (n t i : ℕ) (e : ℕ × Bool) → (trace w (entry c n t i)) .result ≡ granted e
+    → (trace w (entry c n t i) ≡ ran 1 ((t, i) ∷ []) [] e) × (e ≡ (frameOf (w .wordAt t i), writable (w .wordAt t i)))
+    × (malformed c n (w .wordAt t i) ≡ false)
+unfolding entry trace
+entry-granted w c n t i e h =
+    let x = w .wordAt t i in
+    let a = must-granted w (present x) _ _ e h in
+    let b = must-granted w (not (malformed c n x)) _ _ e (a .1) in
+    let q : (frameOf x, writable x) ≡ e = granted-is (frameOf x, writable x) e (b .1) in
+    (ap (more 1 ((t, i) ∷ []) []) (a .2 ∙ b .2) ∙ ap (ran 1 ((t, i) ∷ []) []) q, sym q, not-false (malformed c n x) (b .0))
+  where
+    not-false : (b : Bool) → not b ≡ true → b ≡ false
+    not-false true z = let y : _≡_ {A = ℕ} 0 1 = cc in absurd (omega arith)
+    not-false false z = refl
+
+-- past the host walk of an entry's frame
+pub record Arrived (w : World) (st last : Bool) (g : ℕ) (v : Bool) (r : Place) : Type 0 where
+  pub right : Bool
+  pub found : w .hostAt g ≡ some (r .0, right)
+  pub whole : trace w (next st last g v) ≡ ran (w .hostCost g) [] (g ∷ []) r
+
+on-granted : (w : World) (g : ℕ) (r : Place) (k : Place → Walk Fault Place)
+    → ((q : Place) → (trace w (k q)) .result ≡ granted r → (q .0 ≡ r .0) × (trace w (k q) ≡ ran 0 [] [] r))
+    → (trace w (hosted g >>= k)) .result ≡ granted r
+    → (right : Bool) × (w .hostAt g ≡ some (r .0, right)) × (trace w (hosted g >>= k) ≡ ran (w .hostCost g) [] (g ∷ []) r)
+on-granted w g r k f h =
+    let t = through w (hosted g) k r h in
+    let a = hosted-granted w g (t .mid) (t .first) in
+    let b = f (t .mid) (t .next) in (
+      t .mid .1,
+      a .0 ∙ ap (λ x. some (x, t .mid .1)) (b .0),
+      then-trace w (hosted g) k (w .hostCost g) [] (g ∷ []) (t .mid) (a .1) ∙ ap (more (w .hostCost g) [] (g ∷ [])) (b .1)
+          ∙ ap (λ n. ran n [] (g ∷ []) r) (add-zero (w .hostCost g)),
+    )
+
+pub next-granted : (w : World) (st last : Bool) (g : ℕ) (v : Bool) (r : Place) → (trace w (next st last g v)) .result ≡ granted r → Arrived w st last g v r
+unfolding next trace
+next-granted w st false g v r h =
+    let a = on-granted w g r (λ q. done (q .0, v))
+    (λ q e. let z : (q .0, v) ≡ r = granted-is (q .0, v) r e in (ap (λ x. x .0) z, ap (ran 0 [] []) z)) h in
+    record { right = a .0; found = a .1; whole = a .2 }
+next-granted w st true g v r h =
+    let m = must-granted w (not st || v) _ _ r h in
+    let a = on-granted w g r _ (λ q e.
+    let z = must-granted w (not st || q .1) _ (done (q .0, (v && q .1))) r e in
+    let y : (q .0, (v && q .1)) ≡ r = granted-is (q .0, (v && q .1)) r (z .1) in
+    (ap (λ x. x .0) y, z .2 ∙ ap (ran 0 [] []) y)) (m .1) in
+    record { right = a .0; found = a .1; whole = m .2 ∙ a .2 }
+
+-- one level of a granted walk
+pub record Level (w : World) (c : Config) (st : Bool) (n t i : ℕ) (is : List ℕ) (v : Bool) (r : Place) : Type 0 where
+  pub at : Place
+  pub right : Bool
+  pub found : w .hostAt (frameOf (w .wordAt t i)) ≡ some (at .0, right)
+  pub next : (trace w (levels c st (pred n) (at .0) (at .1) is)) .result ≡ granted r
+  pub whole : trace w (levels c st n t v (i ∷ is))
+      ≡ more 1 ((t, i) ∷ []) [] (more (w .hostCost (frameOf (w .wordAt t i))) [] (frameOf (w .wordAt t i) ∷ []) (trace w (levels c st (pred n) (at .0) (at .1) is)))
+
+pub level-granted : (w : World) (c : Config) (st : Bool) (n t : ℕ) (v : Bool) (i : ℕ) (is : List ℕ) (r : Place)
+    → (trace w (levels c st n t v (i ∷ is))) .result ≡ granted r → Level w c st n t i is v r
+unfolding levels
+level-granted w c st n t v i is r h =
+    let last = eqb n 1 in
+    let f : ℕ × Bool → Walk Fault Place = λ e. next st last (e .0) (v && e .1) >>= λ q. levels c st (pred n) (q .0) (q .1) is in
+    let a = through w (entry c n t i) f r h in
+    let e = entry-granted w c n t i (a .mid) (a .first) in
+    let b = through w (next st last (a .mid .0) (v && a .mid .1)) (λ q. levels c st (pred n) (q .0) (q .1) is) r (a .next) in
+    let d = next-granted w st last (a .mid .0) (v && a .mid .1) (b .mid) (b .first) in
+    let z : a .mid .0 ≡ frameOf (w .wordAt t i) = ap (λ x. x .0) (e .1) in
+    record {
+      at = b .mid;
+      right = d .right;
+      found = ap (w .hostAt) (sym z) ∙ d .found;
+      next = b .next;
+      whole =
+          then-trace w (entry c n t i) f 1 ((t, i) ∷ []) [] (a .mid) (e .0)
+          ∙ ap (more 1 ((t, i) ∷ []) []) (then-trace w (next st last (a .mid .0) (v && a .mid .1)) (λ q. levels c st (pred n) (q .0) (q .1) is) _ [] _ (b .mid) (d .whole)
+          ∙ ap (λ g. more (w .hostCost g) [] (g ∷ []) (trace w (levels c st (pred n) (b .mid .0) (b .mid .1) is))) z);
+    }
+
+-- ---- a granted store walks as a load does
+
+same-bind : {X A B : Type 0} (w : World) (p q : Walk X A) (f g : A → Walk X B) (r : B)
+    → ((a : A) → (trace w p) .result ≡ granted a → trace w q ≡ trace w p)
+    → ((a : A) → (trace w (f a)) .result ≡ granted r → trace w (g a) ≡ trace w (f a))
+    → (trace w (p >>= f)) .result ≡ granted r → trace w (q >>= g) ≡ trace w (p >>= f)
+same-bind w p q f g r j k h =
+    let t = through w p f r h in
+    trace-bind w q g
+    ∙ ap (λ x. andThen x (λ a. trace w (g a))) (j (t .mid) (t .first))
+    ∙ ap (λ y. onto y ((trace w p) .count) ((trace w p) .reads) ((trace w p) .uses) (λ a. trace w (g a))) (t .first)
+    ∙ ap (more ((trace w p) .count) ((trace w p) .reads) ((trace w p) .uses)) (k (t .mid) (t .next))
+    ∙ sym (t .whole)
+
+must-same : {B : Type 0} (w : World) (b : Bool) (x : Fault) (p q : Walk Fault B) (r : B)
+    → ((trace w p) .result ≡ granted r → trace w q ≡ trace w p) → (trace w (must b x >> p)) .result ≡ granted r → trace w q ≡ trace w (must b x >> p)
+unfolding trace
+must-same w true x p q r k h = k h
+must-same w false x p q r k h = absurd (no-grant h)
+
+next-same : (w : World) (last : Bool) (g : ℕ) (v : Bool) (r : Place)
+    → (trace w (next true last g v)) .result ≡ granted r → trace w (next false last g v) ≡ trace w (next true last g v)
+unfolding next
+next-same w false g v r h = refl
+next-same w true g v r h =
+    must-same w v _ _ _ r (λ e. same-bind w (hosted g) (hosted g) _ _ r (λ _ _. refl)
+    (λ q e. must-same w (q .1) _ (done (q .0, (v && q .1))) (done (q .0, (v && q .1))) r (λ _. refl) e) e) h
+
+pub levels-same : (w : World) (c : Config) (n t : ℕ) (v : Bool) (is : List ℕ) (r : Place)
+    → (trace w (levels c true n t v is)) .result ≡ granted r → trace w (levels c false n t v is) ≡ trace w (levels c true n t v is)
+unfolding levels
+levels-same w c n t v [] r h = refl
+levels-same w c n t v (i ∷ is) r h =
+    same-bind w (entry c n t i) (entry c n t i) _ _ r (λ _ _. refl)
+    (λ e k. same-bind w (next true (eqb n 1) (e .0) (v && e .1)) (next false (eqb n 1) (e .0) (v && e .1)) _ _ r
+    (λ a j. next-same w (eqb n 1) (e .0) (v && e .1) a j) (λ a j. levels-same w c (pred n) (a .0) (a .1) is r j) k) h
+
+pub walk-same : (w : World) (c : Config) (root : ℕ) (is : List ℕ) (r : Place)
+    → (trace w (walk c true root is)) .result ≡ granted r → trace w (walk c false root is) ≡ trace w (walk c true root is)
+unfolding walk
+walk-same w c root is r h =
+    same-bind w (hosted root) (hosted root) _ _ r (λ _ _. refl) (λ a j. levels-same w c (c .levels) (a .0) true is r j) h
+
+-- ---- a load's walk that comes to a place with the write right serves a store too
+
+and-left : (a b : Bool) → a && b ≡ true → a ≡ true
+and-left true b h = refl
+and-left false b h = h
+
+and-right : (a b : Bool) → a && b ≡ true → b ≡ true
+and-right true b h = h
+and-right false b h = let z : _≡_ {A = ℕ} 0 1 = cc in absurd (omega arith)
+
+right-of : (a : ℕ) (v : Bool) (f : ℕ) → _≡_ {A = Result Fault Place} (granted (a, v)) (granted (f, true)) → v ≡ true
+right-of a v f h = ap (λ x. x .1) (granted-is (a, v) (f, true) h)
+
+on-right : (w : World) (g : ℕ) (k : Place → Walk Fault Place) (v : Bool) (f : ℕ)
+    → ((q : Place) → (trace w (k q)) .result ≡ granted (f, true) → v ≡ true) → (trace w (hosted g >>= k)) .result ≡ granted (f, true) → v ≡ true
+on-right w g k v f h e = let t = through w (hosted g) k (f, true) e in h (t .mid) (t .next)
+
+next-right : (w : World) (last : Bool) (g : ℕ) (v : Bool) (f : ℕ) → (trace w (next false last g v)) .result ≡ granted (f, true) → v ≡ true
+unfolding next trace
+next-right w false g v f h = on-right w g (λ q. done (q .0, v)) v f (λ q e. right-of (q .0) v f e) h
+next-right w true g v f h = on-right w g (λ q. done (q .0, (v && q .1))) v f (λ q e. and-left v (q .1) (right-of (q .0) (v && q .1) f e)) h
+
+levels-right : (w : World) (c : Config) (n t : ℕ) (v : Bool) (is : List ℕ) (f : ℕ) → (trace w (levels c false n t v is)) .result ≡ granted (f, true) → v ≡ true
+unfolding levels trace
+levels-right w c n t v [] f h = right-of t v f h
+levels-right w c n t v (i ∷ is) f h =
+    let last = eqb n 1 in
+    let a = through w (entry c n t i) (λ e. next false last (e .0) (v && e .1) >>= λ q. levels c false (pred n) (q .0) (q .1) is) (f, true) h in
+    let b = through w (next false last (a .mid .0) (v && a .mid .1)) (λ q. levels c false (pred n) (q .0) (q .1) is) (f, true) (a .next) in
+    let r = levels-right w c (pred n) (b .mid .0) (b .mid .1) is f (b .next) in
+    and-left v (a .mid .1) (next-right w last (a .mid .0) (v && a .mid .1) (b .mid .0) (b .first ∙ ap (λ x. granted (b .mid .0, x)) r))
+
+must-on : {B : Type 0} (w : World) (b : Bool) (x : Fault) (p : Walk Fault B) → b ≡ true → trace w (must b x >> p) ≡ trace w p
+must-on w b x p h = ap (λ y. trace w (must y x >> p)) h
+
+next-serves : (w : World) (last : Bool) (g : ℕ) (v : Bool) (f : ℕ)
+    → (trace w (next false last g v)) .result ≡ granted (f, true) → trace w (next true last g v) ≡ trace w (next false last g v)
+unfolding next trace
+next-serves w false g v f h = refl
+next-serves w true g v f h =
+    must-on w v _ _ (next-right w true g v f h)
+    ∙ same-bind w (hosted g) (hosted g) (λ q. done (q .0, (v && q .1))) _ (f, true) (λ _ _. refl)
+    (λ q e. must-on w (q .1) _ _ (and-right v (q .1) (right-of (q .0) (v && q .1) f e))) h
+
+pub levels-serve : (w : World) (c : Config) (n t : ℕ) (v : Bool) (is : List ℕ) (f : ℕ)
+    → (trace w (levels c false n t v is)) .result ≡ granted (f, true) → trace w (levels c true n t v is) ≡ trace w (levels c false n t v is)
+unfolding levels
+levels-serve w c n t v [] f h = refl
+levels-serve w c n t v (i ∷ is) f h =
+    same-bind w (entry c n t i) (entry c n t i) _ _ (f, true) (λ _ _. refl)
+    (λ e k.
+    same-bind w (next false (eqb n 1) (e .0) (v && e .1)) (next true (eqb n 1) (e .0) (v && e .1)) _ _ (f, true)
+    (λ _ _.
+    let b = through w (next false (eqb n 1) (e .0) (v && e .1)) (λ q. levels c false (pred n) (q .0) (q .1) is) (f, true) k in
+    let r = levels-right w c (pred n) (b .mid .0) (b .mid .1) is f (b .next) in
+    next-serves w (eqb n 1) (e .0) (v && e .1) (b .mid .0) (b .first ∙ ap (λ x. granted (b .mid .0, x)) r))
+    (λ a j. levels-serve w c (pred n) (a .0) (a .1) is f j) k) h
+
+pub walk-serves : (w : World) (c : Config) (root : ℕ) (is : List ℕ) (f : ℕ)
+    → (trace w (walk c false root is)) .result ≡ granted (f, true) → trace w (walk c true root is) ≡ trace w (walk c false root is)
+unfolding walk
+walk-serves w c root is f h =
+    same-bind w (hosted root) (hosted root) _ _ (f, true) (λ _ _. refl) (λ a j. levels-serve w c (c .levels) (a .0) true is f j) h

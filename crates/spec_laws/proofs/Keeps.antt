@@ -1,0 +1,145 @@
+-- A held path that a call does not drop stays valid: its shadow part still comes to what the book has of it.
+-- Assumes nothing.
+use mathlib.Core.Path.{_≡_, refl, sym, ap, _∙_, subst}
+use mathlib.Core.Logic.{_≢_}
+use Prim.Native.Nat.{ℕ, _+_, _*_, _-_, _%_, _^_, _<_, _≤_}
+use native.Mathlib.Omega.{arith}
+use mathlib.Core.Bool.{Bool, true, false, not, _&&_, cond}
+use mathlib.Core.List.{List, [], _∷_}
+use mathlib.Core.Option.{Option, none, some}
+use lib.Dec.{T, eqb, eqb→eq, eqb-refl}
+use lib.ListN.{getD, set}
+use lib.Seq.{getD-set-other}
+use lib.Arith.{digits-mod}
+use Rattle.spec.specs.declared.Fault.{Fault}
+use Rattle.spec.specs.Config.{Config, guestBase, frameBits}
+use Rattle.spec.specs.Walk.{World, Trace, Result, granted, trace}
+use Rattle.spec.specs.Plain.{Place, walk}
+use Rattle.spec.specs.Machine.{Machine, Mapping, world, place, stored, remapped, lookup, with, without}
+use Rattle.spec.specs.Book.{Held, readsWord, usesMapping}
+use Rattle.spec.specs.Count.{heldBy}
+use Rattle.spec_laws.proofs.Lists.{All, all-map, all-any, all-both, none-passes, and-left, both, not-both, not-eqb}
+use Rattle.spec_laws.proofs.Local.{Seen, seen, local-seen, SameMapping, SameWord}
+use Rattle.spec_laws.proofs.Granted.{walk-same}
+use Rattle.spec_laws.proofs.Asks.{Asked, asks-trace, AnswerIn, FaultFits, walk-asks}
+
+-- what the shadow part of a path comes to on the machine, as a load walks it; and what the book has of a held path
+unfoldable pub again : Config → Machine → List ℕ → Seen Fault Place
+again c m p = seen (world c m) (walk c false (m .root) p)
+
+abbrev pub booked : ℕ → Held → Seen Fault Place
+booked f h = record { result = granted (f, h .right); reads = h .reads; uses = h .uses }
+
+-- a held path stands for its shadow part on the machine
+pub record Valid (c : Config) (m : Machine) (h : Held) : Type 0 where
+  pub small : All (λ i. i < 512) (h .path)
+  pub frame : ℕ
+  pub comes : again c m (h .path) ≡ booked frame h
+
+-- ---- the words that a shadow part reads are in the guest area
+
+abbrev pub InArea : Config → ℕ → Type 0
+InArea c f = (guestBase c ≤ f) × (f < c .frames)
+
+-- every mapping leads into the guest area
+abbrev pub MappedIn : Config → Machine → Type 0
+MappedIn c m = (g : ℕ) → AnswerIn (InArea c) (lookup g (m .mappings))
+
+pub shadow-asked : (c : Config) (m : Machine) (st : Bool) (p : List ℕ) → MappedIn c m → m .root < 2 ^ frameBits c → All (λ i. i < 512) p
+    → Asked (AnswerIn (InArea c)) (λ g. g < 2 ^ frameBits c) (λ t i. InArea c t × (i < 512)) (FaultFits c) (λ r. InArea c (r .0)) (trace (world c m) (walk c st (m .root) p))
+unfolding world
+shadow-asked c m st p mi b s =
+    asks-trace (AnswerIn (InArea c)) (λ g. g < 2 ^ frameBits c) (λ t i. InArea c t × (i < 512)) (FaultFits c) (world c m) (walk c st (m .root) p) (λ r. InArea c (r .0)) mi
+    (walk-asks c (InArea c) st (m .root) p b s)
+
+-- ---- a store
+
+-- the tests that fail on two numbers: one of them differs
+differ : (t i u j : ℕ) → T (not (eqb t u && eqb i j)) → t ≡ u → i ≡ j → ⊥
+differ t i u j h p q =
+    not-both (eqb t u && eqb i j) (both (eqb t u) (eqb i j) (subst (λ x. T (eqb t x)) p (eqb-refl t)) (subst (λ x. T (eqb i x)) q (eqb-refl i))) h
+
+-- two words of the guest area have two places
+pub places : (b t i u j : ℕ) → b ≤ t → b ≤ u → i < 512 → j < 512 → (t ≡ u → i ≡ j → ⊥) → (u - b) * 512 + j ≢ (t - b) * 512 + i
+places b t i u j bt bu hi hj h e =
+    let r : j ≡ i = sym (digits-mod (u - b) hj) ∙ ap (λ x. x % 512) e ∙ digits-mod (t - b) hi in
+    h (omega arith) (sym r)
+
+-- a store leaves every held path valid whose shadow part did not read the word
+pub store-keeps : (c : Config) (m : Machine) (t i v : ℕ) (h : Held) → MappedIn c m → m .root < 2 ^ frameBits c → guestBase c ≤ t → i < 512
+    → Valid c m h → T (not (readsWord t i h)) → Valid c (stored c m t i v) h
+unfolding again world seen
+store-keeps c m t i v h mi rb bt bi va nr = record {
+  small = va .small;
+  frame = va .frame;
+  comes = local-seen w u (walk c false (m .root) (h .path)) (all-any (SameMapping w u) ((again c m (h .path)) .uses) (λ g. refl))
+      (all-map (λ x. In x × Off x) (SameWord w u) ((again c m (h .path)) .reads)
+      (λ x k. getD-set-other (m .area) (place c t i) (place c (x .0) (x .1)) v 0
+      (places (guestBase c) t i (x .0) (x .1) bt (k .0 .0 .0) bi (k .0 .1) (differ t i (x .0) (x .1) (k .1))))
+      (all-both In Off ((again c m (h .path)) .reads) ((shadow-asked c m false (h .path) mi rb (va .small)) .reads)
+      (subst (λ (s : Seen Fault Place). All Off (s .reads)) (sym (va .comes)) (none-passes _ (h .reads) nr))))
+      ∙ va .comes;
+}
+  where
+    w : World
+    w = world c m
+
+    u : World
+    u = world c (stored c m t i v)
+
+    In : ℕ × ℕ → Type 0
+    In x = InArea c (x .0) × (x .1 < 512)
+
+    Off : ℕ × ℕ → Type 0
+    Off x = T (not (eqb t (x .0) && eqb i (x .1)))
+
+-- ---- a mapping
+
+-- whatever becomes of g, the others are found as before
+pub lookup-without : (g f : ℕ) (xs : List Mapping) → (f ≡ g → ⊥) → lookup f (without g xs) ≡ lookup f xs
+lookup-without g f [] h = refl
+lookup-without g f (x ∷ xs) h = go (eqb g (x .guest)) (eqb f (x .guest)) refl refl (lookup-without g f xs h)
+  where
+    go : (b d : Bool) → eqb g (x .guest) ≡ b → eqb f (x .guest) ≡ d → lookup f (without g xs) ≡ lookup f xs
+        → lookup f (cond b (without g xs) (x ∷ without g xs)) ≡ cond d (some (x .to, x .right)) (lookup f xs)
+    go true true e k ih = absurd (h (eqb→eq f (x .guest) (subst T (sym k) tt) ∙ sym (eqb→eq g (x .guest) (subst T (sym e) tt))))
+    go true false e k ih = ih
+    go false d e k ih = rw k (ap (cond d (some (x .to, x .right))) ih)
+
+pub lookup-with : (g f : ℕ) (t : ℕ) (w : Bool) (xs : List Mapping) → (f ≡ g → ⊥) → lookup f (with g t w xs) ≡ lookup f xs
+lookup-with g f t w xs h = go (eqb f g) refl
+  where
+    go : (b : Bool) → eqb f g ≡ b → cond b (some (t, w)) (lookup f (without g xs)) ≡ lookup f xs
+    go true e = absurd (h (eqb→eq f g (subst T (sym e) tt)))
+    go false e = lookup-without g f xs h
+
+-- a change of one frame's mapping leaves every held path valid whose shadow part did not use it
+pub mapping-keeps : (c : Config) (m : Machine) (xs : List Mapping) (g : ℕ) (h : Held) → ((f : ℕ) → (f ≡ g → ⊥) → lookup f xs ≡ lookup f (m .mappings))
+    → Valid c m h → T (not (usesMapping g h)) → Valid c (remapped m xs) h
+unfolding again world
+mapping-keeps c m xs g h same va nu = record {
+  small = va .small;
+  frame = va .frame;
+  comes = local-seen (world c m) (world c (remapped m xs)) (walk c false (m .root) (h .path))
+      (all-map (λ f. T (not (eqb g f))) (SameMapping (world c m) (world c (remapped m xs))) ((again c m (h .path)) .uses) (λ f k. same f (λ e. not-eqb g f k (sym e)))
+      (subst (λ (s : Seen Fault Place). All (λ f. T (not (eqb g f))) (s .uses)) (sym (va .comes)) (none-passes _ (h .uses) nu)))
+      (all-any (SameWord (world c m) (world c (remapped m xs))) ((again c m (h .path)) .reads) (λ x. refl))
+      ∙ va .comes;
+}
+
+-- ---- a fill
+
+abbrev as-seen : Result Fault Place → Trace Fault Place → Seen Fault Place
+as-seen x r = record { result = x; reads = r .reads; uses = r .uses }
+
+-- what a granted shadow part, a store's too, fills is valid
+pub fill-valid : (c : Config) (m : Machine) (st : Bool) (p : List ℕ) (r : Place) → All (λ i. i < 512) p
+    → (trace (world c m) (walk c st (m .root) p)) .result ≡ granted r → Valid c m (heldBy p (trace (world c m) (walk c st (m .root) p)) (r .1))
+unfolding again seen
+fill-valid c m false p r s h = record { small = s; frame = r .0; comes = ap (λ x. as-seen x (trace (world c m) (walk c false (m .root) p))) h }
+fill-valid c m true p r s h = record {
+  small = s;
+  frame = r .0;
+  comes = ap (λ x. as-seen (x .result) x) (walk-same (world c m) c (m .root) p r h)
+      ∙ ap (λ x. as-seen x (trace (world c m) (walk c true (m .root) p))) h;
+}

@@ -1,0 +1,189 @@
+-- What the book keeps over a run: every held path has the depth that the marks say, so none is a proper prefix of another;
+-- and a granted request reads N + N·d words.
+-- Assumes nothing.
+use mathlib.Core.Path.{_≡_, refl, sym, ap, _∙_, subst}
+use Prim.Native.Nat.{ℕ, suc, _+_, _*_, _-_, _≤_}
+use native.Mathlib.Omega.{arith}
+use mathlib.Core.Bool.{Bool, true, false, not, _&&_, cond}
+use mathlib.Core.List.{List, [], _∷_}
+use mathlib.Core.Option.{Option, none, some}
+use lib.Dec.{T, eqb, eqb-refl, leb, leb→le}
+use lib.ListN.{length, take}
+use lib.Seq.{length-take-le}
+use Rattle.spec.specs.declared.Fault.{Fault}
+use Rattle.spec.specs.Config.{Config}
+use Rattle.spec.specs.Entry.{indexes, pageOf, wordOf}
+use Rattle.spec.specs.Prefix.{begins, same, any, keep}
+use Rattle.spec.specs.Walk.{Trace, Result, granted, failed, trace}
+use Rattle.spec.specs.Plain.{Place, upper, shadowPart, directPart}
+use Rattle.spec.specs.Machine.{Machine, world, with, isMapped, hostTables}
+use Rattle.spec.specs.Book.{Mark, Held, Book, markAt, sameMark, isSet, depth, find, holding, fill, shadowTables, dropWord, dropMapping, dropPrefix, usesMapping, readsWord}
+use Rattle.spec.specs.declared.Call.{Call}
+use Rattle.spec.specs.declared.Call.the-variants.{Root as root, Map as map, Unmap as unmap, SetMark as setMark, ClearMark as clearMark, Load as load, Store as store, Device as device}
+use Rattle.spec.specs.Call.{addressIndexes, plain, deviceWalk}
+use Rattle.spec.specs.Count.{Counted, serves, heldBy, shadowed, unshadowed, request, storing, bookStep}
+use Rattle.spec.specs.Refusal.{firstFailed, levelFits, addressFits, tests, refusal}
+use Rattle.spec.specs.Run.{State, answered, step, after, opened}
+use Rattle.spec_laws.proofs.Lists.{All, all-map, all-keep, not-both, same-is, and-left, and-right}
+use Rattle.spec_laws.proofs.Counts.{request-count}
+use Rattle.spec_laws.proofs.Indexes.{indexes-length}
+use Rattle.spec_laws.proofs.Depth.{MarkFits, PathFits, depth-bound, no-proper-prefix, fill-fits, set-fits, clear-fits}
+
+-- a call that is not refused passed every test
+pub all-passed : (xs : List (Bool × ℕ)) → firstFailed xs ≡ none → All (λ x. T (x .0)) xs
+all-passed [] h = tt
+all-passed (x ∷ xs) h = go (x .0) h (all-passed xs)
+  where
+    go : (b : Bool) → cond b (firstFailed xs) (some (x .1)) ≡ none → (firstFailed xs ≡ none → All (λ x. T (x .0)) xs) → T b × All (λ x. T (x .0)) xs
+    go true k ih = (tt, ih k)
+    go false k ih = let z : _≡_ {A = ℕ} 0 1 = cc in absurd (omega arith)
+
+pub record BookFits (c : Config) (b : Book) : Type 0 where
+  pub marks : All (MarkFits (c .levels)) (b .marks)
+  pub held : All (λ (h : Held). PathFits (c .levels) (b .marks) (h .path)) (b .held)
+
+abbrev pub HeldFits : Config → List Mark → Held → Type 0
+HeldFits c ms h = PathFits (c .levels) ms (h .path)
+
+-- fewer held paths
+pub kept-fits : (c : Config) (b : Book) (f : Held → Bool) → BookFits c b → BookFits c (holding b (keep f (b .held)))
+kept-fits c b f i = record {
+  marks = i .marks;
+  held = all-map (λ h. HeldFits c (b .marks) h × T (f h)) (HeldFits c (b .marks)) (keep f (b .held)) (λ h k. k .0)
+      (all-keep (HeldFits c (b .marks)) f (b .held) (i .held));
+}
+
+mark-fits : (c : Config) (n a : ℕ) → T (levelFits c n) → MarkFits (c .levels) (markAt c n (addressIndexes c a))
+mark-fits c n a h =
+    let is = addressIndexes c a in
+    let l : c .levels - n ≤ length is = omega (arith, indexes-length (c .levels) (pageOf a)) in
+    record { kept = length-take-le (c .levels - n) is l; bound = leb→le n (suc (c .levels)) (and-right (leb 1 n) (leb n (suc (c .levels))) h) }
+
+set-keeps : (c : Config) (b : Book) (m : Mark) → MarkFits (c .levels) m → BookFits c b → BookFits c (record { marks = m ∷ b .marks; held = dropPrefix (m .prefix) (b .held) })
+set-keeps c b m ok i = record {
+  marks = (ok, i .marks);
+  held = all-map (λ h. HeldFits c (b .marks) h × T (not (begins (m .prefix) (h .path)))) (HeldFits c (m ∷ b .marks)) (dropPrefix (m .prefix) (b .held))
+      (λ h k. set-fits (c .levels) (b .marks) (h .path) (k .0) m ok (λ t. not-both (begins (m .prefix) (h .path)) t (k .1)))
+      (all-keep (HeldFits c (b .marks)) (λ h. not (begins (m .prefix) (h .path))) (b .held) (i .held));
+}
+
+not-not : (b : Bool) → T (not (not b)) → T b
+not-not true h = tt
+not-not false h = h
+
+clear-keeps : (c : Config) (b : Book) (m : Mark) → BookFits c b
+    → BookFits c (record { marks = keep (λ y. not (sameMark m y)) (b .marks); held = dropPrefix (m .prefix) (b .held) })
+clear-keeps c b m i = record {
+  marks = all-map (λ y. MarkFits (c .levels) y × T (not (sameMark m y))) (MarkFits (c .levels)) (keep (λ y. not (sameMark m y)) (b .marks)) (λ y k. k .0)
+      (all-keep (MarkFits (c .levels)) (λ y. not (sameMark m y)) (b .marks) (i .marks));
+  held = all-map (λ h. HeldFits c (b .marks) h × T (not (begins (m .prefix) (h .path)))) (HeldFits c (keep (λ y. not (sameMark m y)) (b .marks)))
+      (dropPrefix (m .prefix) (b .held))
+      (λ h k. clear-fits (c .levels) (b .marks) (h .path) (k .0) (λ y. not (sameMark m y)) (i .marks)
+      (all-map (MarkFits (c .levels)) (λ y. T (not (not (sameMark m y))) → T (begins (y .prefix) (h .path)) → ⊥) (b .marks)
+      (λ y ok alike t.
+      let e = same-is (m .prefix) (y .prefix) (and-right (eqb (m .level) (y .level)) (same (m .prefix) (y .prefix)) (not-not (sameMark m y) alike)) in
+      not-both (begins (m .prefix) (h .path)) (subst (λ q. T (begins q (h .path))) (sym e) t) (k .1)) (i .marks)))
+      (all-keep (HeldFits c (b .marks)) (λ h. not (begins (m .prefix) (h .path))) (b .held) (i .held));
+}
+
+pub fill-keeps : (c : Config) (b : Book) (h : Held) → HeldFits c (b .marks) h → BookFits c b → BookFits c (holding b (fill c h (b .held)))
+fill-keeps c b h ok i = go (leb (shadowTables (h ∷ b .held)) (c .shadows))
+  where
+    go : (t : Bool) → BookFits c (holding b (cond t (h ∷ b .held) (h ∷ [])))
+    go true = record { marks = i .marks; held = (ok, i .held) }
+    go false = record { marks = i .marks; held = (ok, tt) }
+
+pub request-keeps : (c : Config) (m : Machine) (b : Book) (st : Bool) (a : ℕ) → BookFits c b
+    → BookFits c ((request c m b st a (depth (b .marks) (addressIndexes c a))) .book)
+unfolding request
+request-keeps c m b st a i = go (leb d (c .levels)) refl
+  where
+    is : List ℕ
+    is = addressIndexes c a
+
+    d : ℕ
+    d = depth (b .marks) is
+
+    held : Bool
+    held = serves st d (find (upper c d is) (b .held))
+
+    s : Trace Fault Place
+    s = trace (world c m) (shadowPart c st d (m .root) is)
+
+    kept : (r : Place) (k : Bool) → d ≤ c .levels → BookFits c (cond k b (holding b (fill c (heldBy (upper c d is) s (r .1)) (b .held))))
+    kept r true l = i
+    kept r false l =
+        fill-keeps c b (heldBy (upper c d is) s (r .1)) (fill-fits (c .levels) (b .marks) is (i .marks) (indexes-length (c .levels) (pageOf a)) l) i
+
+    part : (x : Result Fault Place) → d ≤ c .levels → BookFits c ((shadowed c m b st d is (upper c d is) held s x) .book)
+    part (failed x) l = i
+    part (granted r) l = kept r held l
+
+    go : (t : Bool) → leb d (c .levels) ≡ t
+        → BookFits c ((cond t (shadowed c m b st d is (upper c d is) held s (s .result)) (unshadowed b (plain c m st a))) .book)
+    go true e = part (s .result) (leb→le d (c .levels) (subst T (sym e) tt))
+    go false e = i
+
+storing-keeps : (c : Config) (i : ℕ) (x : Result Fault Place) (k : Counted) → BookFits c (k .book) → BookFits c ((storing i x k) .book)
+unfolding storing
+storing-keeps c i (failed x) k h = h
+storing-keeps c i (granted p) k h = kept-fits c (k .book) (λ y. not (readsWord (p .0) i y)) h
+
+pub step-fits : (x : Call) (s : State) → BookFits (s .config) (s .book) → BookFits ((step x s) .1 .config) ((step x s) .1 .book)
+unfolding step bookStep tests refusal
+step-fits x s i = go (refusal (s .config) x (s .machine) (s .book)) refl
+  where
+    c : Config
+    c = s .config
+
+    m : Machine
+    m = s .machine
+
+    b : Book
+    b = s .book
+
+    by : (y : Call) → refusal c y m b ≡ none → BookFits c ((bookStep c y m b) .book)
+    by (root r) e = record { marks = i .marks; held = tt }
+    by (map g f w) e = kept-fits c b (λ h. not (usesMapping g h)) i
+    by (unmap g) e = kept-fits c b (λ h. not (usesMapping g h)) i
+    by (setMark a n) e = set-keeps c b (markAt c n (addressIndexes c a)) (mark-fits c n a (all-passed (tests c (setMark a n) m b) e .1 .0)) i
+    by (clearMark a n) e = clear-keeps c b (markAt c n (addressIndexes c a)) i
+    by (load a) e = request-keeps c m b false a i
+    by (store a v) e = storing-keeps c (wordOf a) _ _ (request-keeps c m b true a i)
+    by (device a v) e = storing-keeps c (wordOf a) _ _ i
+
+    go : (r : Option ℕ) → refusal c x m b ≡ r → BookFits ((answered x s r) .1 .config) ((answered x s r) .1 .book)
+    go (some n) e = i
+    go none e = by x e
+
+pub opened-fits : (c : Config) (memory : List ℕ) → BookFits c ((opened c memory) .book)
+opened-fits c memory = record { marks = tt; held = tt }
+
+pub run-fits : (xs : List Call) (s : State) → BookFits (s .config) (s .book) → BookFits ((after xs s) .config) ((after xs s) .book)
+unfolding after
+run-fits [] s i = i
+run-fits (x ∷ xs) s i = run-fits xs ((step x s) .1) (step-fits x s i)
+
+-- after any list of calls from an opening, no held path is a proper prefix of another
+pub held-apart : (c : Config) (memory : List ℕ) (xs : List Call)
+    → let hs = (after xs (opened c memory)) .book .held in
+    All (λ h. All (λ k. T (begins (h .path) (k .path)) → h .path ≡ k .path) hs) hs
+held-apart c memory xs =
+    let k = (after xs (opened c memory)) .config in
+    let b = (after xs (opened c memory)) .book in
+    let f = run-fits xs (opened c memory) (opened-fits c memory) in
+    all-map (HeldFits k (b .marks)) _ (b .held)
+    (λ h fh. all-map (HeldFits k (b .marks)) _ (b .held) (λ y fy. no-proper-prefix (k .levels) (b .marks) (h .path) (y .path) fh fy) (f .held)) (f .held)
+
+-- after any list of calls from an opening, a request that the plain walk grants reads N + N·d words
+pub granted-reads : (c : Config) (memory : List ℕ) (xs : List Call) (st : Bool) (a : ℕ) (r : Place)
+    → let s = after xs (opened c memory) in
+    let k = s .config in
+    let d = depth (s .book .marks) (addressIndexes k a) in
+    (plain k (s .machine) st a) .result ≡ granted r → (request k (s .machine) (s .book) st a d) .references ≡ k .levels + k .levels * d
+granted-reads c memory xs st a r h =
+    let s = after xs (opened c memory) in
+    let f = run-fits xs (opened c memory) (opened-fits c memory) in
+    let k = s .config in
+    let is = addressIndexes k a in
+    request-count k (s .machine) (s .book) st a (depth (s .book .marks) is) r (depth-bound (k .levels) (s .book .marks) is (f .marks)) h
