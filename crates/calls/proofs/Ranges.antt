@@ -10,7 +10,7 @@ use Rattle.marks.proofs.Book.{keysOf, may-set, may-clear}
 use Rattle.record.specs.declared.Record.{Record}
 use Rattle.record.specs.Record.{configOf, fitsOf}
 use Rattle.record.proofs.Rules.{sized-layout, fits-layout}
-use Rattle.request.specs.Translate.{HeldFits}
+use Rattle.translate.specs.Translate.{HeldFits}
 use Rattle.calls.specs.Calls.{Sound, heldOf, markRefusal}
 
 module _ (r : Record) (len : ℕ) (e : fitsOf r len ≡ true) where

@@ -32,10 +32,10 @@ use Rattle.record.specs.declared.Head.{Head}
 use Rattle.record.specs.declared.Record.{Record}
 use Rattle.record.specs.Record.{configOf, guestFrame, headOf, headRoot, headTables, withHead, withMarks, fitsOf}
 use Rattle.record.specs.Open.{openOf}
-use Rattle.request.specs.declared.Held.{Held}
+use Rattle.translate.specs.declared.Held.{Held}
 use Rattle.request.specs.declared.Served.{Served}
-use Rattle.request.specs.declared.Translated.{Translated}
-use Rattle.request.specs.Translate.{holding, translateOf}
+use Rattle.translate.specs.declared.Translated.{Translated}
+use Rattle.translate.specs.Translate.{holding, translateOf}
 use Rattle.request.specs.Access.{loadOf, storeOf, deviceOf}
 use Rattle.calls.specs.declared.Reply.{Reply}
 use Rattle.calls.specs.declared.Turn.{Turn}

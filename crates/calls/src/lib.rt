@@ -19,9 +19,9 @@ use pool::Pool;
 use record::Head;
 use record::Pools;
 use record::Record;
-use request::Held;
 use request::Served;
 use spec::Answer;
+use translate::Held;
 
 // What a call hands back.
 pub struct Reply {

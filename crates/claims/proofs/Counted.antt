@@ -44,12 +44,13 @@ use Rattle.drops_laws.proofs.Held.{leafAt}
 use Rattle.drops_laws.proofs.Watch.{watched-is}
 use Rattle.drops_laws.proofs.Drops.{drop-word}
 use Rattle.drops_laws.proofs.Valid.{entryOf}
-use Rattle.request.specs.Translate.{exitBy, servesOf, foundOf}
-use Rattle.request.specs.declared.Held.{Held as Holding}
+use Rattle.translate.specs.Translate.{exitBy, servesOf, foundOf}
+use Rattle.translate.specs.declared.Held.{Held as Holding}
 use Rattle.request.specs.Access as put
 use Rattle.request.specs.Access.{loadOf, putOf, storeOf}
-use Rattle.request.proofs.Fits.{ArrivedIn}
-use Rattle.request.proofs.Leaves.{translate-leaves, put-leaves}
+use Rattle.translate.proofs.Fits.{ArrivedIn}
+use Rattle.translate.proofs.Leaves.{translate-leaves}
+use Rattle.request.proofs.Leaves.{put-leaves}
 use Rattle.calls.specs.Calls.{hostTop, heldOf, rootOf, ended, refused, depthAt, addressOk, translatedOf, loadCall, storeCall, openCall}
 use Rattle.claims.specs.Run.{guestArea, unitAfter}
 use Rattle.claims.specs.Counted.{SameWords, SameStore, countedOf, touchedBy, touchedOf, HeldOrPlain, References, Touches, Refuses, SameTables}
@@ -63,7 +64,7 @@ use Rattle.claims.proofs.Demands.{after-run}
 use Rattle.claims.proofs.WordsRead as read
 use Rattle.claims.proofs.WordsRead.{Reaches, held, plain, alike, Reads}
 use Rattle.words.specs.After.{After}
-use Rattle.request.specs.declared.Translated.{Translated}
+use Rattle.translate.specs.declared.Translated.{Translated}
 use Rattle.calls.specs.declared.Reply.{Reply}
 use Rattle.request.specs.declared.Put.{Put}
 use Rattle.drops.specs.declared.Left.{Left}

@@ -45,7 +45,7 @@ use Rattle.drops_laws.proofs.Find.{answerFound, held-is, find-all, Apart, path-
 use Rattle.drops_laws.proofs.Drops.{namedIn}
 use Rattle.drops_laws.proofs.Fill.{frame-small}
 use Rattle.drops_laws.proofs.Valid.{framesAt, entryOf, valid-entries, valid-frame, inside-area}
-use Rattle.request.specs.Translate.{pathIndexes, foundOf}
+use Rattle.translate.specs.Translate.{pathIndexes, foundOf}
 use Rattle.calls.specs.Calls.{hostTop, heldOf}
 use Rattle.claims.proofs.Invariant.{longer, topBy, frames, Inv, stands}
 use Rattle.claims.proofs.Paths.{path-upper}

@@ -41,7 +41,7 @@ use Rattle.marks.proofs.Order.{SameMembers}
 use Rattle.record.specs.declared.Record.{Record}
 use Rattle.entry.specs.declared.HostPhysical.{HostPhysical}
 use Rattle.record.specs.Record.{configOf, headTables}
-use Rattle.request.specs.declared.Held.{Held as Holding}
+use Rattle.translate.specs.declared.Held.{Held as Holding}
 use Rattle.record.proofs.Rules.{Table, Fits, PoolFits, fits-layout, fits-true}
 use Rattle.shadow.specs.Held.{shadowArea}
 use Rattle.drops.specs.declared.Left.{Left}

@@ -49,7 +49,7 @@ use Rattle.walk.proofs.Stands.{Stands}
 use Rattle.record.specs.declared.Record.{Record}
 use Rattle.record.specs.Record.{configOf, headOf, headRoot, headTables, withHead}
 use Rattle.record.proofs.Rules.{Fits, fits-root, holds-pool, holds-top}
-use Rattle.request.specs.declared.Held.{Held as Holding}
+use Rattle.translate.specs.declared.Held.{Held as Holding}
 use Rattle.drops.specs.declared.Cut.the-variants.{Names}
 use Rattle.shadow.specs.Held.{shadowArea}
 use Rattle.drops.specs.Drop.{scanOf}

@@ -36,7 +36,7 @@ use Rattle.walk.specs.Memory.{walkedOf}
 use Rattle.walk.proofs.Stands.{Stands, plainWalked, same-word, stands-walked}
 use Rattle.record.specs.declared.Record.{Record}
 use Rattle.record.specs.Record.{configOf}
-use Rattle.request.specs.Translate.{translation, exitBy}
+use Rattle.translate.specs.Translate.{translation, exitBy}
 use Rattle.request.proofs.Device.{deviceScript, device-script}
 use Rattle.record.specs.Record.{headTables}
 use Rattle.request.specs.Access.{loadBy, loadOf, writtenBy, storeBy, storeOf, deviceBy, deviceOf}
@@ -49,7 +49,7 @@ use Rattle.claims.proofs.Moves.{at-inv}
 use Rattle.claims.proofs.Translates.{Translates, translates}
 use Rattle.claims.proofs.Puts.{puts}
 use Rattle.words.specs.After.{After, yields}
-use Rattle.request.specs.declared.Translated.{Translated}
+use Rattle.translate.specs.declared.Translated.{Translated}
 use Rattle.calls.specs.declared.Reply.{Reply}
 
 -- a call that says l and leaves the record q, the memory n and the state t

@@ -60,10 +60,11 @@ use Rattle.drops.specs.Drop.{scanOf, dropPrefixOf}
 use Rattle.drops.proofs.Outside.{scan-out, prefix-out}
 use Rattle.entry.specs.declared.HostPhysical.{HostPhysical}
 use Rattle.record.specs.declared.Head.{Head}
-use Rattle.request.specs.declared.Held.{Held as Holding}
+use Rattle.translate.specs.declared.Held.{Held as Holding}
 use Rattle.request.specs.Access.{loadOf, putOf, storeOf, deviceBy, deviceOf}
-use Rattle.request.proofs.Fits.{ArrivedIn}
-use Rattle.request.proofs.Leaves.{Leaves, translate-leaves, put-leaves}
+use Rattle.translate.proofs.Fits.{ArrivedIn}
+use Rattle.translate.proofs.Leaves.{Leaves, translate-leaves}
+use Rattle.request.proofs.Leaves.{put-leaves}
 use Rattle.request.proofs.Device.{device-in}
 use Rattle.calls.specs.Calls.{hostTop, heldOf, rootOf, headHeld, headHost, nothing, ended, refused, judged, withHeld, withHost, servedBy, addressOk, deviceOk, depthAt, translatedOf, loadCall, storeCall, deviceCall, rootCall, droppedBy, unmappedOf, mappedBy, mapCall, unmapCall, heldAfter, markedOf, callOf, keysOf, setMarkCall, clearMarkCall, openCall}
 use Rattle.calls.proofs.Ranges.{fits-held}
@@ -76,7 +77,7 @@ use Rattle.pool.specs.declared.Went.{Went}
 use Rattle.calls.specs.declared.Reply.{Reply}
 use Rattle.request.specs.declared.Put.{Put}
 use Rattle.drops.specs.declared.Left.{Left}
-use Rattle.request.specs.declared.Translated.{Translated}
+use Rattle.translate.specs.declared.Translated.{Translated}
 use Rattle.host.specs.declared.Change.{Change}
 
 -- ---- what a call may change, by its answer

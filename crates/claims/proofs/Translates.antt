@@ -49,8 +49,8 @@ use Rattle.drops_laws.proofs.Held.{leafAt}
 use Rattle.drops_laws.proofs.Find.{find-all}
 use Rattle.drops_laws.proofs.Fill.{trail-is, fill-is}
 use Rattle.drops_laws.proofs.Valid.{framesAt, entryOf, entry-thin, valid-frame, inside-area, Stays, stays-same}
-use Rattle.request.specs.Translate.{holding as holdingAt, translation, exitBy, directOf, servedOf, servesOf, foundOf, foundBy, missedOf, missedBy, filledOf, fillBy, plainOf, translateOf}
-use Rattle.request.specs.declared.Held.{Held as Holding}
+use Rattle.translate.specs.Translate.{holding as holdingAt, translation, exitBy, directOf, servedOf, servesOf, foundOf, foundBy, missedOf, missedBy, filledOf, fillBy, plainOf, translateOf}
+use Rattle.translate.specs.declared.Held.{Held as Holding}
 use Rattle.record.specs.Record.{headTables}
 use Rattle.area_laws.proofs.Paths.{Guests}
 use Rattle.walk.specs.Memory.{memoryWorld, trailFrom, trailOf}
@@ -62,7 +62,7 @@ use Rattle.claims.proofs.Paths.{path-upper, path-lower, walk-above, exi
 use Rattle.claims.proofs.Found as found
 use Rattle.words.specs.After.{After, yields}
 use Rattle.pool.specs.declared.Went.{Went}
-use Rattle.request.specs.declared.Translated.{Translated}
+use Rattle.translate.specs.declared.Translated.{Translated}
 
 -- what a translation on s leaves: the plain walk's result, the book's references and exits, and the book's next state
 pub record Translates (s : State) (r : Record) (m : List ℕ) (st : Bool) (a : ℕ) (k : Counted) (o : After Translated) : Type 0 where

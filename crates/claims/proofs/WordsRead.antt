@@ -43,11 +43,11 @@ use Rattle.walk.proofs.Laws.{walked-done}
 use Rattle.record.specs.declared.Record.{Record}
 use Rattle.record.specs.Record.{configOf}
 use Rattle.shadow.specs.Held.{heldOf as shadowed}
-use Rattle.request.specs.Translate.{translation, exitBy, pathIndexes, directOf, servedOf, servesOf, foundOf, foundBy, missedOf, plainOf, translateOf}
+use Rattle.translate.specs.Translate.{translation, exitBy, pathIndexes, directOf, servedOf, servesOf, foundOf, foundBy, missedOf, plainOf, translateOf}
 use Rattle.calls.specs.Calls.{hostTop, heldOf, rootOf, depthAt, translatedOf}
 use Rattle.claims.specs.Counted.{Word, SameWords, hostWords, walkWords, pathWords, directWords, countedOf}
 use Rattle.words.specs.After.{After, yields}
-use Rattle.request.specs.declared.Translated.{Translated}
+use Rattle.translate.specs.declared.Translated.{Translated}
 
 -- ---- lists of words
 

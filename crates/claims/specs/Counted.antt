@@ -30,7 +30,7 @@ use Rattle.walk.specs.declared.Walked.the-variants as walked
 use Rattle.walk.specs.Memory.{placeOf}
 use Rattle.record.specs.declared.Record.{Record}
 use Rattle.record.specs.Record.{configOf}
-use Rattle.request.specs.Translate.{pathIndexes, foundOf}
+use Rattle.translate.specs.Translate.{pathIndexes, foundOf}
 use Rattle.calls.specs.Calls.{hostTop, heldOf, rootOf, depthAt, translatedOf, storeCall}
 use Rattle.claims.specs.Run.{guestArea}
 use Rattle.words.specs.After.{After}

@@ -6,7 +6,7 @@ use Prim.Native.Nat.{ℕ, zero, suc}
 use native.Mathlib.Omega.{arith}
 use lib.ListN.{length, getD, drop, set}
 use Rattle.record.specs.Record.{headTables}
-use Rattle.request.specs.declared.Held.{Held}
+use Rattle.translate.specs.declared.Held.{Held}
 use Rattle.calls.specs.Calls.{headHeld}
 use Rattle.export.specs.Flat.{headIn, headWords}
 

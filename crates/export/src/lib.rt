@@ -14,8 +14,8 @@ use record::Guest;
 use record::Head;
 use record::Pools;
 use record::Record;
-use request::Held;
 use spec::Answer;
+use translate::Held;
 
 // An answer (specs/Flat has the kinds). The letter is an ASCII code; what a kind does not have is 0.
 #[repr(C)]

@@ -13,7 +13,7 @@ use Rattle.walk.specs.declared.Walked.{Walked}
 use Rattle.walk.specs.declared.Walked.the-variants as walked
 use Rattle.walk.specs.Memory.{walkedOf}
 use Rattle.walk.proofs.Laws.{TurnFits, page-fits}
-use Rattle.request.proofs.Fits.{ArrivedIn}
+use Rattle.translate.proofs.Fits.{ArrivedIn}
 
 -- "A device store takes one host walk, with W as for a page"
 abbrev pub deviceScript : ℕ → Walk Fault Place

@@ -1,3 +1,2 @@
-pub mod Fits
 pub mod Device
 pub mod Leaves

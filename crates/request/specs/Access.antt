@@ -19,11 +19,11 @@ use Rattle.drops.specs.declared.Left.{Left}
 use Rattle.drops.specs.declared.Cut.the-variants.{Word}
 use Rattle.shadow.specs.Watch.{watchedOf}
 use Rattle.drops.specs.Drop.{scanOf}
-use Rattle.request.specs.declared.Held.{Held}
+use Rattle.translate.specs.declared.Held.{Held}
 use Rattle.request.specs.declared.Put.{Put}
 use Rattle.request.specs.declared.Served.{Served}
-use Rattle.request.specs.declared.Translated.{Translated}
-use Rattle.request.specs.Translate.{exitBy, translateOf}
+use Rattle.translate.specs.declared.Translated.{Translated}
+use Rattle.translate.specs.Translate.{exitBy, translateOf}
 
 -- what a request leaves
 abbrev pub serving : Held → Answer → List ℕ → After Served

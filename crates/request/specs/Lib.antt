@@ -1,2 +1,1 @@
-pub mod Translate
 pub mod Access

@@ -13,9 +13,9 @@ use entry::GuestVirtual;
 use entry::HostPhysical;
 use marks::Marks;
 use record::Record;
-use request::Held;
 use request::Served;
 use spec::Answer;
+use translate::Held;
 
 // ---- replies
 

@@ -2,8 +2,8 @@ use native.Mathlib.Omega.{arith}
 use mathlib.Core.Bool.{false}
 use Rattle.words.specs.After.{yields}
 use Rattle.layout.specs.Layout.{config}
-use Rattle.request.proofs.Fits.{held-small}
-use Rattle.request.proofs.Leaves.{Leaves, translate-leaves}
+use Rattle.translate.proofs.Fits.{held-small}
+use Rattle.translate.proofs.Leaves.{Leaves, translate-leaves}
 use Rattle.request.specs.Access.{loadOf}
 use borrow.Author.Needs.{needs}
 use Rattle.request.proofs.load.Statement.{statement}

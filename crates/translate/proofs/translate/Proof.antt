@@ -2,11 +2,11 @@ use Prim.Native.Nat.{_<_}
 use native.Mathlib.Omega.{arith}
 use borrow.Author.Tests.{lt-ltb, le-ltb}
 use Rattle.layout.specs.Layout.{config}
-use Rattle.request.specs.Translate.{translateOf}
-use Rattle.request.proofs.Fits.{found-is}
+use Rattle.translate.specs.Translate.{translateOf}
+use Rattle.translate.proofs.Fits.{found-is}
 use borrow.Author.Needs.{needs}
-use Rattle.request.proofs.translate.Statement.{statement}
-use Rattle.request.proofs.translate.Tie as tie
+use Rattle.translate.proofs.translate.Statement.{statement}
+use Rattle.translate.proofs.translate.Tie as tie
 
 returns : tie.Need-returns
 unfolding translateOf

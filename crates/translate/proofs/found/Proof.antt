@@ -1,8 +1,8 @@
 use borrow.Author.Tests.{lt-ltb, le-ltb, eq-eqb, ne-eqb}
-use Rattle.request.specs.Translate.{foundOf}
+use Rattle.translate.specs.Translate.{foundOf}
 use borrow.Author.Needs.{needs}
-use Rattle.request.proofs.found.Statement.{statement}
-use Rattle.request.proofs.found.Tie as tie
+use Rattle.translate.proofs.found.Statement.{statement}
+use Rattle.translate.proofs.found.Tie as tie
 
 returns : tie.Need-returns
 unfolding foundOf

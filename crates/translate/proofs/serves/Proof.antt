@@ -1,8 +1,8 @@
 use borrow.Author.Tests.{eq-eqb, ne-eqb}
-use Rattle.request.specs.Translate.{servesOf}
+use Rattle.translate.specs.Translate.{servesOf}
 use borrow.Author.Needs.{needs}
-use Rattle.request.proofs.serves.Statement.{statement}
-use Rattle.request.proofs.serves.Tie as tie
+use Rattle.translate.proofs.serves.Statement.{statement}
+use Rattle.translate.proofs.serves.Tie as tie
 
 returns : tie.Need-returns
 unfolding servesOf

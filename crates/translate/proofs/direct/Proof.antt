@@ -7,10 +7,10 @@ use Rattle.layout.specs.Layout.{config}
 use Rattle.walk.specs.declared.Walked.the-variants as walked
 use Rattle.walk.specs.Memory.{trailFrom}
 use Rattle.walk.proofs.Laws.{loop-end}
-use Rattle.request.specs.Translate.{directOf}
+use Rattle.translate.specs.Translate.{directOf}
 use borrow.Author.Needs.{needs}
-use Rattle.request.proofs.direct.Statement.{statement}
-use Rattle.request.proofs.direct.Tie as tie
+use Rattle.translate.proofs.direct.Statement.{statement}
+use Rattle.translate.proofs.direct.Tie as tie
 
 returns : tie.Need-returns
 unfolding directOf

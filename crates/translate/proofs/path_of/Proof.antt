@@ -1,6 +1,6 @@
 use borrow.Author.Needs.{needs}
-use Rattle.request.proofs.path_of.Statement.{statement}
-use Rattle.request.proofs.path_of.Tie as tie
+use Rattle.translate.proofs.path_of.Statement.{statement}
+use Rattle.translate.proofs.path_of.Tie as tie
 
 returns : tie.Need-returns
 returns c = rw (c .page .ensures)

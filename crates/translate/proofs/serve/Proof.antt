@@ -1,9 +1,9 @@
 use native.Mathlib.Omega.{arith}
-use Rattle.request.specs.Translate.{servedOf}
-use Rattle.request.proofs.Fits.{exit-small}
+use Rattle.translate.specs.Translate.{servedOf}
+use Rattle.translate.proofs.Fits.{exit-small}
 use borrow.Author.Needs.{needs}
-use Rattle.request.proofs.serve.Statement.{statement}
-use Rattle.request.proofs.serve.Tie as tie
+use Rattle.translate.proofs.serve.Statement.{statement}
+use Rattle.translate.proofs.serve.Tie as tie
 
 add-t10 : tie.Need-add-t10
 add-t10 c =

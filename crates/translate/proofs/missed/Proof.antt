@@ -7,11 +7,11 @@ use Rattle.spec.specs.Plain.{walk}
 use Rattle.layout.specs.Layout.{config}
 use Rattle.walk.specs.declared.Trail.{Trail}
 use Rattle.walk.specs.Memory.{walkedOf, trailFrom}
-use Rattle.request.specs.Translate.{missedOf}
-use Rattle.request.proofs.Fits.{walk-in}
+use Rattle.translate.specs.Translate.{missedOf}
+use Rattle.translate.proofs.Fits.{walk-in}
 use borrow.Author.Needs.{needs}
-use Rattle.request.proofs.missed.Statement.{statement}
-use Rattle.request.proofs.missed.Tie as tie
+use Rattle.translate.proofs.missed.Statement.{statement}
+use Rattle.translate.proofs.missed.Tie as tie
 
 came : (c : tie.After-walk-root) → walkedOf (config (c .before .before .before .before .before .before .args .s .layout)) (c .before .before .before .before .before .before .args .s .top) (c .before .before .before .before .before .before .args .mem .now) 0 (walk (config (c .before .before .before .before .before .before .args .s .layout)) (c .before .before .before .before .before .before .args .q .store) (c .before .before .before .before .before .before .args .root .0) (indexes (c .before .before .before .before .before .before .args .s .layout .levels - c .before .before .before .before .before .before .args .q .depth) (c .before .before .before .before .path-of .result))) ≡ c .walk-root .result .walked
 unfolding trailFrom

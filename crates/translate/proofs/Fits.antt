@@ -24,8 +24,8 @@ use Rattle.walk.specs.declared.Walked.the-variants as walked
 use Rattle.walk.specs.Memory.{walkedOf, turn}
 use Rattle.walk.proofs.Laws.{thenWalked, TurnFits, table-fits, turn-fits, levels-step, levels-end, walk-step}
 use Rattle.shadow.specs.Held.{heldOf}
-use Rattle.request.specs.declared.Held.{Held}
-use Rattle.request.specs.Translate.{exitBy, pathIndexes, HeldFits, directOf, foundOf}
+use Rattle.translate.specs.declared.Held.{Held}
+use Rattle.translate.specs.Translate.{exitBy, pathIndexes, HeldFits, directOf, foundOf}
 
 pub exit-small : (r : Walked) → exitBy r ≤ 1
 exit-small (walked.Arrived t w n) = omega arith

@@ -1,8 +1,8 @@
 use Rattle.walk.specs.Memory.{trailFrom}
-use Rattle.request.specs.Translate.{plainOf}
+use Rattle.translate.specs.Translate.{plainOf}
 use borrow.Author.Needs.{needs}
-use Rattle.request.proofs.plain.Statement.{statement}
-use Rattle.request.proofs.plain.Tie as tie
+use Rattle.translate.proofs.plain.Statement.{statement}
+use Rattle.translate.proofs.plain.Tie as tie
 
 returns : tie.Need-returns
 unfolding plainOf trailFrom

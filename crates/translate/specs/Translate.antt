@@ -24,8 +24,8 @@ use Rattle.walk.specs.declared.Walked.the-variants as walked
 use Rattle.walk.specs.Memory.{walkedOf, trailOf}
 use Rattle.shadow.specs.Held.{heldOf, entryFor}
 use Rattle.shadow.specs.Fill.{fillOf}
-use Rattle.request.specs.declared.Held.{Held}
-use Rattle.request.specs.declared.Translated.{Translated}
+use Rattle.translate.specs.declared.Held.{Held}
+use Rattle.translate.specs.declared.Translated.{Translated}
 
 -- "1 for H or W"
 abbrev pub exitBy : Walked → ℕ

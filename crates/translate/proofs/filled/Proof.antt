@@ -1,9 +1,9 @@
 use borrow.Author.Tests.{le-leb, lt-leb}
 use native.Mathlib.Omega.{arith}
-use Rattle.request.specs.Translate.{filledOf}
+use Rattle.translate.specs.Translate.{filledOf}
 use borrow.Author.Needs.{needs}
-use Rattle.request.proofs.filled.Statement.{statement}
-use Rattle.request.proofs.filled.Tie as tie
+use Rattle.translate.proofs.filled.Statement.{statement}
+use Rattle.translate.proofs.filled.Tie as tie
 
 returns : tie.Need-returns
 unfolding filledOf
