@@ -2,7 +2,7 @@
 ghost use mathlib.Core.Path.{_≡_};
 ghost use Prim.Native.Nat.{_+_, _-_, _<_, _≤_};
 ghost use lib.Dec.{leb};
-ghost use Rattle.spec.specs.Entry.{index, indexes};
+ghost use Rattle.spec.specs.Entry.{index, indexes, frameLimit};
 ghost use Rattle.area.specs.Tree.{topOf, lookOf, roomOf, tableOf, enterOf, attachOf, descendOf, downOf, placeOf, insertOf};
 ghost use Rattle.area.specs.Remove.{detachOf, releaseTop, releaseOf, lastOf, clearOf, removeOf};
 ghost use Rattle.words.specs.After.{yields};
@@ -59,15 +59,15 @@ pub fn lookup(base: u64, size: u64, e: u64, mem: &[u64], g: u64, k: u64) -> Look
 // ---- insert
 
 // Whether n more tables find room.
-pub fn fits(size: u64, used: u64, n: u64) -> bool
+fn fits(size: u64, used: u64, n: u64) -> bool
     ensures { λ r. ⌜ r ≡ leb (used + n) size ⌝ }
 {
     used <= size && n <= size - used
 }
 
 // How many tables the path of the k low indexes of g lacks; Not if the area has no room for them.
-pub fn room(a: Area, p: Pool, mem: &[u64], g: u64, k: u64) -> Way
-    requires { ⌜ (a .base + a .size < 1099511627776) × (k ≤ 7) ⌝ }
+fn room(a: Area, p: Pool, mem: &[u64], g: u64, k: u64) -> Way
+    requires { ⌜ (a .base + a .size < frameLimit) × (k ≤ 7) ⌝ }
     ensures { λ r. ⌜ r ≡ roomOf a p (now (mem .entry)) (indexes k g) ⌝ }
 {
     match lookup(a.base, a.size, p.top, mem, g, k) {
@@ -83,7 +83,7 @@ pub fn room(a: Area, p: Pool, mem: &[u64], g: u64, k: u64) -> Way
 }
 
 // A table is handed out, with its header.
-pub fn new_table(
+fn new_table(
     a: Area,
     p: Pool,
     mem: &mut [u64],
@@ -92,7 +92,7 @@ pub fn new_table(
     parent: u64,
     slot: u64,
 ) -> Went
-    requires { ⌜ a .base + a .size < 1099511627776 ⌝ }
+    requires { ⌜ a .base + a .size < frameLimit ⌝ }
     ensures { λ r. ⌜ yields r (now (mem .exit)) ≡ tableOf a p (now (mem .entry)) guest level parent slot ⌝ }
 {
     let went = pool::take_frame(a, p, mem);
@@ -109,7 +109,7 @@ pub fn new_table(
 
 // A table is handed out and becomes the top one.
 fn new_top(a: Area, p: Pool, mem: &mut [u64], guest: u64) -> Went
-    requires { ⌜ a .base + a .size < 1099511627776 ⌝ }
+    requires { ⌜ a .base + a .size < frameLimit ⌝ }
     ensures { λ r. ⌜ yields r (now (mem .exit)) ≡ topOf a p (now (mem .entry)) guest ⌝ }
 {
     let went = new_table(a, p, mem, guest, a.levels, 0, 0);
@@ -127,7 +127,7 @@ fn new_top(a: Area, p: Pool, mem: &mut [u64], guest: u64) -> Went
 
 // The top table, handed out if there is none.
 pub fn enter(a: Area, p: Pool, mem: &mut [u64], guest: u64) -> Went
-    requires { ⌜ a .base + a .size < 1099511627776 ⌝ }
+    requires { ⌜ a .base + a .size < frameLimit ⌝ }
     ensures { λ r. ⌜ yields r (now (mem .exit)) ≡ enterOf a p (now (mem .entry)) guest ⌝ }
 {
     match pool::follow(a.base, a.size, p.top) {
@@ -144,8 +144,8 @@ pub fn enter(a: Area, p: Pool, mem: &mut [u64], guest: u64) -> Went
 }
 
 // A table is handed out and its entry put at index i of table f.
-pub fn attach(a: Area, p: Pool, mem: &mut [u64], guest: u64, level: u64, f: u64, i: u64) -> Went
-    requires { ⌜ (a .base + a .size < 1099511627776) × (f < 1099511627776) × (i < 512) ⌝ }
+fn attach(a: Area, p: Pool, mem: &mut [u64], guest: u64, level: u64, f: u64, i: u64) -> Went
+    requires { ⌜ (a .base + a .size < frameLimit) × (f < frameLimit) × (i < 512) ⌝ }
     ensures { λ r. ⌜ yields r (now (mem .exit)) ≡ attachOf a p (now (mem .entry)) guest level f i ⌝ }
 {
     let went = new_table(a, p, mem, guest, level, f, i);
@@ -161,8 +161,8 @@ pub fn attach(a: Area, p: Pool, mem: &mut [u64], guest: u64, level: u64, f: u64,
 }
 
 // The table below, hung there if there is none.
-pub fn descend(a: Area, p: Pool, mem: &mut [u64], guest: u64, level: u64, f: u64, i: u64) -> Went
-    requires { ⌜ (a .base + a .size < 1099511627776) × (f < 1099511627776) × (i < 512) ⌝ }
+fn descend(a: Area, p: Pool, mem: &mut [u64], guest: u64, level: u64, f: u64, i: u64) -> Went
+    requires { ⌜ (a .base + a .size < frameLimit) × (f < frameLimit) × (i < 512) ⌝ }
     ensures { λ r. ⌜ yields r (now (mem .exit)) ≡ descendOf a p (now (mem .entry)) guest level f i ⌝ }
 {
     match pool::follow(a.base, a.size, pool::entry_at(mem, f, i)) {
@@ -179,17 +179,8 @@ pub fn descend(a: Area, p: Pool, mem: &mut [u64], guest: u64, level: u64, f: u64
 }
 
 // From the top table f down, k indexes: tables handed out where they are missing, then the entry put.
-pub fn down(
-    a: Area,
-    guests: &[u64],
-    p: Pool,
-    mem: &mut [u64],
-    f: u64,
-    g: u64,
-    k: u64,
-    e: u64,
-) -> Went
-    requires { ⌜ (a .base + a .size < 1099511627776) × (f < 1099511627776) × (1 ≤ k) × (k ≤ 7) × (k ≤ a .levels) ⌝ }
+fn down(a: Area, guests: &[u64], p: Pool, mem: &mut [u64], f: u64, g: u64, k: u64, e: u64) -> Went
+    requires { ⌜ (a .base + a .size < frameLimit) × (f < frameLimit) × (1 ≤ k) × (k ≤ 7) × (k ≤ a .levels) ⌝ }
     ensures { λ r. ⌜ yields r (now (mem .exit)) ≡ downOf a (now (guests .entry)) p (now (mem .entry)) 0 f (index (k - 1) g) (indexes (k - 1) g) e ⌝ }
 {
     let mut cur = p;
@@ -229,8 +220,8 @@ pub fn down(
 }
 
 // The top table is handed out if there is none, then the path is filled from it down.
-pub fn place(a: Area, guests: &[u64], p: Pool, mem: &mut [u64], g: u64, k: u64, e: u64) -> Went
-    requires { ⌜ (a .base + a .size < 1099511627776) × (1 ≤ k) × (k ≤ 7) × (k ≤ a .levels) ⌝ }
+fn place(a: Area, guests: &[u64], p: Pool, mem: &mut [u64], g: u64, k: u64, e: u64) -> Went
+    requires { ⌜ (a .base + a .size < frameLimit) × (1 ≤ k) × (k ≤ 7) × (k ≤ a .levels) ⌝ }
     ensures { λ r. ⌜ yields r (now (mem .exit)) ≡ placeOf a (now (guests .entry)) p (now (mem .entry)) (index (k - 1) g) (indexes (k - 1) g) e ⌝ }
 {
     let guest = words::word_at(guests, 0);
@@ -253,7 +244,7 @@ pub fn place(a: Area, guests: &[u64], p: Pool, mem: &mut [u64], g: u64, k: u64, 
 // The entry of the path of the k low indexes of g is set, with the tables that it needs, guests being their guest
 // tables' host frames from the top table down. Not, and nothing changed, if they find no room.
 pub fn insert(a: Area, guests: &[u64], p: Pool, mem: &mut [u64], g: u64, k: u64, e: u64) -> Went
-    requires { ⌜ (a .base + a .size < 1099511627776) × (1 ≤ k) × (k ≤ 7) × (k ≤ a .levels) ⌝ }
+    requires { ⌜ (a .base + a .size < frameLimit) × (1 ≤ k) × (k ≤ 7) × (k ≤ a .levels) ⌝ }
     ensures { λ r. ⌜ yields r (now (mem .exit)) ≡ insertOf a (now (guests .entry)) p (now (mem .entry)) (indexes k g) e ⌝ }
 {
     match room(a, p, mem, g, k) {
@@ -272,8 +263,8 @@ pub fn insert(a: Area, guests: &[u64], p: Pool, mem: &mut [u64], g: u64, k: u64,
 // ---- remove
 
 // An empty table is taken off the table above and given back; Not if it is not empty.
-pub fn detach(a: Area, p: Pool, mem: &mut [u64], f: u64) -> Went
-    requires { ⌜ f < 1099511627776 ⌝ }
+fn detach(a: Area, p: Pool, mem: &mut [u64], f: u64) -> Went
+    requires { ⌜ f < frameLimit ⌝ }
     ensures { λ r. ⌜ yields r (now (mem .exit)) ≡ detachOf a p (now (mem .entry)) f ⌝ }
 {
     if pool::bare(mem, f) {
@@ -301,8 +292,8 @@ pub fn detach(a: Area, p: Pool, mem: &mut [u64], f: u64) -> Went
 }
 
 // The top table f goes too if it is empty, unless it stays.
-pub fn release_top(stays: bool, p: Pool, mem: &mut [u64], f: u64) -> Went
-    requires { ⌜ f < 1099511627776 ⌝ }
+fn release_top(stays: bool, p: Pool, mem: &mut [u64], f: u64) -> Went
+    requires { ⌜ f < frameLimit ⌝ }
     ensures { λ r. ⌜ yields r (now (mem .exit)) ≡ releaseTop stays p (now (mem .entry)) f ⌝ }
 {
     if stays {
@@ -327,7 +318,7 @@ pub fn release_top(stays: bool, p: Pool, mem: &mut [u64], f: u64) -> Went
 
 // Table f, which has k tables above it, and these are given back as far as they are empty.
 pub fn release(a: Area, stays: bool, p: Pool, mem: &mut [u64], k: u64, f: u64) -> Went
-    requires { ⌜ (f < 1099511627776) × (a .base + a .size < 1099511627776) ⌝ }
+    requires { ⌜ (f < frameLimit) × (a .base + a .size < frameLimit) ⌝ }
     ensures { λ r. ⌜ yields r (now (mem .exit)) ≡ releaseOf a stays p (now (mem .entry)) k f ⌝ }
 {
     let mut cur = p;
@@ -360,7 +351,7 @@ pub fn release(a: Area, stays: bool, p: Pool, mem: &mut [u64], k: u64, f: u64) -
 }
 
 // The table that holds the last entry of the path of the k low indexes of g, on from the entry e.
-pub fn last_table(base: u64, size: u64, e: u64, mem: &[u64], g: u64, k: u64) -> Way
+fn last_table(base: u64, size: u64, e: u64, mem: &[u64], g: u64, k: u64) -> Way
     requires { ⌜ (1 ≤ k) × (k ≤ 7) ⌝ }
     ensures { λ r. ⌜ r ≡ lastOf base size (now (mem .entry)) e (index (k - 1) g) (indexes (k - 1) g) ⌝ }
 {
@@ -384,8 +375,8 @@ pub fn last_table(base: u64, size: u64, e: u64, mem: &[u64], g: u64, k: u64) -> 
 }
 
 // The entry at index i of table f, which has k tables above it, is cleared; Not if there is none.
-pub fn clear(a: Area, stays: bool, p: Pool, mem: &mut [u64], k: u64, f: u64, i: u64) -> Went
-    requires { ⌜ (f < 1099511627776) × (a .base + a .size < 1099511627776) × (i < 512) ⌝ }
+fn clear(a: Area, stays: bool, p: Pool, mem: &mut [u64], k: u64, f: u64, i: u64) -> Went
+    requires { ⌜ (f < frameLimit) × (a .base + a .size < frameLimit) × (i < 512) ⌝ }
     ensures { λ r. ⌜ yields r (now (mem .exit)) ≡ clearOf a stays p (now (mem .entry)) k f i ⌝ }
 {
     if entry::present(pool::entry_at(mem, f, i)) {
@@ -401,7 +392,7 @@ pub fn clear(a: Area, stays: bool, p: Pool, mem: &mut [u64], k: u64, f: u64, i: 
 
 // The path of the k low indexes of g is removed; Not if there is none, Damaged if an entry or a link is damaged.
 pub fn remove(a: Area, stays: bool, p: Pool, mem: &mut [u64], g: u64, k: u64) -> Went
-    requires { ⌜ (a .base + a .size < 1099511627776) × (1 ≤ k) × (k ≤ 7) ⌝ }
+    requires { ⌜ (a .base + a .size < frameLimit) × (1 ≤ k) × (k ≤ 7) ⌝ }
     ensures { λ r. ⌜ yields r (now (mem .exit)) ≡ removeOf a stays p (now (mem .entry)) (indexes k g) ⌝ }
 {
     match last_table(a.base, a.size, p.top, mem, g, k) {

@@ -7,7 +7,7 @@ use mathlib.Core.Bool.{Bool, true, false, _||_, cond}
 use mathlib.Core.List.{List, [], _∷_}
 use lib.Dec.{T, leb}
 use borrow.Author.Tests.{leb-true, leb-false}
-use Rattle.spec.specs.Entry.{present}
+use Rattle.spec.specs.Entry.{present, entryLimit}
 use Rattle.spec.specs.Prefix.{same, any, tablesOf}
 use Rattle.pool.specs.declared.Area.{Area}
 use Rattle.pool.specs.declared.Way.the-variants.{Not}
@@ -143,7 +143,7 @@ module _ {a : Area} {stays : Bool} {guest : List ℕ → ℕ} {t : State} {es : 
     beside = subst (λ z. Beside a (t .memory) (z .memory)) (sym (d .done)) (d .beside);
   }
 
-  module _ (gs : List ℕ) (e : ℕ) (gg : Guests guest gs 0 [] is) (thin : e < 4503599627370496) (set : present e ≡ true) where
+  module _ (gs : List ℕ) (e : ℕ) (gg : Guests guest gs 0 [] is) (thin : e < entryLimit) (set : present e ≡ true) where
     listed : Lists (upd (leaves es) (onto [] is) e) (is ∷ paths es)
     unfolding paths Solid
     listed = subst (λ lw. Lists lw (is ∷ paths es)) (λ i y. sym (leaves-put es is e y) i) (map-lists ((is, e) ∷ es) (set, v .solid))
@@ -167,7 +167,7 @@ module _ {a : Area} {stays : Bool} {guest : List ℕ → ℕ} {t : State} {es : 
 unfoldable pub Ok : Area → (List ℕ → ℕ) → Bool → Map → List Op → Type 0
 Ok a guest stays es [] = Unit {0}
 Ok a guest stays es (put is gs e ∷ os) =
-    Fits a (leaves es) is × Guests guest gs 0 [] is × (e < 4503599627370496) × (present e ≡ true)
+    Fits a (leaves es) is × Guests guest gs 0 [] is × (e < entryLimit) × (present e ≡ true)
     × Ok a guest stays (cond (leb (tablesOf (is ∷ paths es)) (a .size)) ((is, e) ∷ es) es) os
 Ok a guest stays es (cut is ∷ os) = Fits a (leaves es) is × Ok a guest stays (cond (present (get es is)) (without is es) es) os
 Ok a guest stays es (see is ∷ os) = Fits a (leaves es) is × Ok a guest stays es os

@@ -9,7 +9,7 @@ use mathlib.Core.List.{List, [], _∷_}
 use mathlib.Core.Option.{Option, none, some, IsSome}
 use lib.Dec.{T, eqb, not-T, T-not, eqb→eq, eqb-refl}
 use lib.ListN.{length}
-use Rattle.spec.specs.Entry.{present}
+use Rattle.spec.specs.Entry.{present, entryLimit}
 use Rattle.spec.specs.Prefix.{begins, same, any, consAll, propers, allPropers, distinct, tablesOf}
 use Rattle.spec.specs.Machine.{standing}
 use Rattle.pool.specs.declared.Area.{Area}
@@ -328,7 +328,7 @@ module _ {a : Area} {stays : Bool} {p : Pool} {m : List ℕ} {lv guest : List �
     pub needs-is : tablesOf ys ≡ p .used + lacks (h .tabs) [] is
     needs-is = room-is is e ys (f .nonempty) (present-set e set) l
 
-    pub insert-next : (gs : List ℕ) → Guests guest gs 0 [] is → e < 4503599627370496 → tablesOf ys ≤ a .size
+    pub insert-next : (gs : List ℕ) → Guests guest gs 0 [] is → e < entryLimit → tablesOf ys ≤ a .size
         → Next a stays p m (upd lv (onto [] is) e) guest (insertOf a gs p m is e)
     insert-next gs gg thin r = holds-insert h gs is e f gg thin set (rw needs-is at r)
 

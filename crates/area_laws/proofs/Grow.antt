@@ -11,7 +11,7 @@ use mathlib.Core.Option.{Option, none, some, IsSome}
 use lib.Dec.{not-T}
 use lib.ListN.{length}
 use borrow.Author.Tests.{lt-ltb}
-use Rattle.spec.specs.Entry.{present}
+use Rattle.spec.specs.Entry.{present, entryLimit}
 use Rattle.spec.specs.Prefix.{same, any}
 use Rattle.words.specs.Words.{at, wordIn, zeroed}
 use Rattle.pool.specs.declared.Area.{Area}
@@ -369,7 +369,7 @@ module _ {a : Area} {p : Pool} {ts : List ℕ → Option ℕ} {lv guest : List �
       e = empty-is m f (guest []) (a .levels) 0 0 (omega (arith, k .high, k .room, g .long)) thin (g .flat) (omega arith) (omega arith)
 
   -- ---- an entry is put where no table hangs
-  pub put-leaf : (h i : ℕ) (x : List ℕ) (e : ℕ) → ts x ≡ some h → i < 512 → ts (i ∷ x) ≡ none → e < 4503599627370496 → (e ≢ 0 → present e ≡ true)
+  pub put-leaf : (h i : ℕ) (x : List ℕ) (e : ℕ) → ts x ≡ some h → i < 512 → ts (i ∷ x) ≡ none → e < entryLimit → (e ≢ 0 → present e ≡ true)
       → Tables a p ts (upd lv (i ∷ x) e) guest fl ps (putOf m h i e)
   put-leaf h i x e tx hi bare thin set = record {
     small = g .small;
@@ -421,7 +421,7 @@ module _ {a : Area} {p : Pool} {ts : List ℕ → Option ℕ} {lv guest : List �
       solids y (yes q) k = let u = upd-on lv (i ∷ x) e y q in rw u (set (λ c. k (u ∙ c)))
       solids y (no q) k = let u = upd-other lv (i ∷ x) e y q in rw u (g .solid y (λ c. k (u ∙ c)))
 
-  pub set-leaf : (h i : ℕ) (x : List ℕ) (e : ℕ) → ts x ≡ some h → i < 512 → ts (i ∷ x) ≡ none → e < 4503599627370496 → present e ≡ true
+  pub set-leaf : (h i : ℕ) (x : List ℕ) (e : ℕ) → ts x ≡ some h → i < 512 → ts (i ∷ x) ≡ none → e < entryLimit → present e ≡ true
       → Tables a p ts (upd lv (i ∷ x) e) guest fl ps (putOf m h i e)
   set-leaf h i x e tx hi bare thin set = put-leaf h i x e tx hi bare thin (λ k. set)
 

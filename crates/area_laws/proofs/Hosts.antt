@@ -9,7 +9,7 @@ use mathlib.Core.Option.{Option, none, some}
 use lib.Dec.{eqb}
 use borrow.Author.Tests.{eq-eqb}
 use Rattle.spec.specs.Config.{Config}
-use Rattle.spec.specs.Entry.{bitSet, present, writable, frameOf, index, indexes}
+use Rattle.spec.specs.Entry.{bitSet, present, writable, frameOf, index, indexes, frameLimit, entryLimit}
 use Rattle.spec.specs.Prefix.{same}
 use Rattle.spec.specs.Machine.{Mapping, lookup, with, hostPaths, hostTables, costOf, hostCost}
 use Rattle.spec.specs.Machine as machine
@@ -44,12 +44,12 @@ unfolding writable bitSet hostEntry
 entry-writable f true = let o : (f * 4096 + 3) / 2 ^ 1 % 2 ≡ 1 = omega arith in rw (eq-eqb _ _ o)
 entry-writable f false = let o : (f * 4096 + 1) / 2 ^ 1 % 2 ≡ 0 = omega arith in rw o
 
-pub entry-frame : (f : ℕ) (w : Bool) → f < 1099511627776 → frameOf (hostEntry f w) ≡ f
+pub entry-frame : (f : ℕ) (w : Bool) → f < frameLimit → frameOf (hostEntry f w) ≡ f
 unfolding frameOf hostEntry
 entry-frame f true l = omega arith
 entry-frame f false l = omega arith
 
-pub entry-small : (f : ℕ) (w : Bool) → f < 1099511627776 → hostEntry f w < 4503599627370496
+pub entry-small : (f : ℕ) (w : Bool) → f < frameLimit → hostEntry f w < entryLimit
 unfolding hostEntry
 entry-small f true l = omega arith
 entry-small f false l = omega arith
@@ -150,7 +150,7 @@ module _ (c : Config) (g : ℕ) (small : g < 2 ^ (9 * c .levels)) where
           (subst (λ lw. Lists lw (paths (hostMap c (with g f w xs)))) (λ i y. sym (leaves-with xs k f w y) i)
           (map-lists (hostMap c (with g f w xs)) (host-solid c (with g f w xs))))
 
-      pub host-map : f < 1099511627776 → hostTables c (with g f w xs) ≤ a .size
+      pub host-map : f < frameLimit → hostTables c (with g f w xs) ≤ a .size
           → Next a true p m (leaves (hostMap c (with g f w xs))) (λ y. 0) (insertOf a [] p m (indexes (c .levels) g) (hostEntry f w))
       unfolding is
       host-map thin l = next-leaves (leaves (hostMap c (with g f w xs))) (leaves-with xs k f w)

@@ -8,7 +8,7 @@ use mathlib.Core.Bool.{true}
 use mathlib.Core.List.{List, [], _∷_}
 use mathlib.Core.Option.{Option, none, some, IsSome}
 use lib.ListN.{length, getD}
-use Rattle.spec.specs.Entry.{present}
+use Rattle.spec.specs.Entry.{present, entryLimit}
 use Rattle.pool.specs.declared.Area.{Area}
 use Rattle.pool.specs.declared.Pool.{Pool}
 use Rattle.pool.specs.declared.Way.the-variants.{To, Not}
@@ -149,7 +149,7 @@ insert-place a gs p m i is e n c = rw c
 -- ---- down from the table f of the prefix x, of depth d
 down-is : {a : Area} {p : Pool} {ts : List ℕ → Option ℕ} {lv guest : List ℕ → ℕ} {fl : List ℕ} {ps : List (List ℕ)} {m : List ℕ}
     → Tables a p ts lv guest fl ps m → (gs : List ℕ) (x : List ℕ) (d f i : ℕ) (is : List ℕ) (e : ℕ) → d ≡ length x → ts x ≡ some f → i < 512
-    → Route a ts lv guest gs (i ∷ x) is → e < 4503599627370496 → present e ≡ true
+    → Route a ts lv guest gs (i ∷ x) is → e < entryLimit → present e ≡ true
     → p .used + lacks ts (i ∷ x) is ≤ a .size → Placed a p m ts lv guest (downOf a gs p m d f i is e) (i ∷ x) is e
 unfolding downOf onto lacks
 down-is {p = p} {ts = ts} {fl = fl} {ps = ps} {m = m} g gs x d f i [] e dx tx hi r thin set room = record {
@@ -199,7 +199,7 @@ down-is {a = a} {p = p} {ts = ts} {lv = lv} {guest = guest} {fl = fl} {ps = ps} 
 
 module _ {a : Area} {p : Pool} {ts : List ℕ → Option ℕ} {lv guest : List ℕ → ℕ} {fl : List ℕ} {ps : List (List ℕ)} {m : List ℕ}
     (g : Tables a p ts lv guest fl ps m) (gs : List ℕ) (i : ℕ) (is : List ℕ) (e : ℕ) (r : Route a ts lv guest gs [] (i ∷ is)) where
-  pub place-is : e < 4503599627370496 → present e ≡ true → p .used + lacks ts [] (i ∷ is) ≤ a .size → Placed a p m ts lv guest (placeOf a gs p m i is e) [] (i ∷ is) e
+  pub place-is : e < entryLimit → present e ≡ true → p .used + lacks ts [] (i ∷ is) ≤ a .size → Placed a p m ts lv guest (placeOf a gs p m i is e) [] (i ∷ is) e
   place-is thin set room = go (ts []) refl
     where
       go : (o : Option ℕ) → ts [] ≡ o → Placed a p m ts lv guest (placeOf a gs p m i is e) [] (i ∷ is) e
@@ -216,7 +216,7 @@ module _ {a : Area} {p : Pool} {ts : List ℕ → Option ℕ} {lv guest : List �
           (let k = u .used in let n = lacks-none ts [] i is c in let v = lacks-upd ts [] (some (u .frame)) (i ∷ []) is (omega arith) in omega (arith, room)))
 
   -- room exactly if the tables in use and the missing ones fit
-  pub insert-is : e < 4503599627370496 → present e ≡ true → p .used + lacks ts [] (i ∷ is) ≤ a .size
+  pub insert-is : e < entryLimit → present e ≡ true → p .used + lacks ts [] (i ∷ is) ≤ a .size
       → Placed a p m ts lv guest (insertOf a gs p m (i ∷ is) e) [] (i ∷ is) e
   insert-is thin set room =
       subst (λ t. Placed a p m ts lv guest t [] (i ∷ is) e) (sym (insert-place a gs p m i is e _ (room-fits g (i ∷ is) (r .clear) (r .small) (r .bare) room)))
@@ -227,7 +227,7 @@ module _ {a : Area} {p : Pool} {ts : List ℕ → Option ℕ} {lv guest : List �
   insert-full room = rw (room-full g (i ∷ is) (r .clear) (r .small) (r .bare) room)
 
   -- where the leaf stands already no table is missing
-  pub insert-again : e < 4503599627370496 → present e ≡ true → lv (onto [] (i ∷ is)) ≢ 0 → Placed a p m ts lv guest (insertOf a gs p m (i ∷ is) e) [] (i ∷ is) e
+  pub insert-again : e < entryLimit → present e ≡ true → lv (onto [] (i ∷ is)) ≢ 0 → Placed a p m ts lv guest (insertOf a gs p m (i ∷ is) e) [] (i ∷ is) e
   insert-again thin set leaf =
       let k = lacks-leaf g [] (i ∷ is) leaf in
       let c = g .count in

@@ -11,7 +11,7 @@ use mathlib.Core.Option.{Option, none, some, IsSome}
 use lib.Dec.{T}
 use lib.ListN.{length}
 use borrow.Author.Tests.{lt-ltb, le-ltb, eq-eqb}
-use Rattle.spec.specs.Entry.{bitSet, present, switch, frameOf}
+use Rattle.spec.specs.Entry.{bitSet, present, switch, frameOf, entryLimit}
 use Rattle.words.specs.Words.{at, wordIn}
 use Rattle.pool.specs.declared.Area.{Area}
 use Rattle.pool.specs.declared.Pool.{Pool}
@@ -48,7 +48,7 @@ present-zero = refl
 pub present-set : (e : ℕ) → present e ≡ true → e ≢ 0
 present-set e h q = let z : true ≡ false = sym h ∙ ap present q ∙ present-zero in let y : _≡_ {A = ℕ} 0 1 = cc in omega arith
 
-pub link-small : (f : ℕ) → f < 65536 → link f < 4503599627370496
+pub link-small : (f : ℕ) → f < 65536 → link f < entryLimit
 unfolding link
 link-small f l = omega arith
 

@@ -8,7 +8,7 @@ use mathlib.Core.Bool.{Bool, true, false, cond}
 use mathlib.Core.List.{List, [], _∷_}
 use lib.Dec.{T, leb}
 use lib.ListN.{length}
-use Rattle.spec.specs.Entry.{present}
+use Rattle.spec.specs.Entry.{present, entryLimit}
 use Rattle.spec.specs.Prefix.{same, tablesOf}
 use Rattle.pool.specs.declared.Area.{Area}
 use Rattle.pool.specs.Pool.{noneOf}
@@ -89,7 +89,7 @@ even-without n (x ∷ es) is h = go (same (x .0) is) (even-without n es is (h .1
 -- each call is of n levels, without guest frames; each entry set is present and has 52 bits
 unfoldable pub Level : ℕ → List Op → Type 0
 Level n [] = Unit {0}
-Level n (put is gs e ∷ os) = (length is ≡ n) × Small is × (gs ≡ []) × (e < 4503599627370496) × (present e ≡ true) × Level n os
+Level n (put is gs e ∷ os) = (length is ≡ n) × Small is × (gs ≡ []) × (e < entryLimit) × (present e ≡ true) × Level n os
 Level n (cut is ∷ os) = (length is ≡ n) × Small is × Level n os
 Level n (see is ∷ os) = (length is ≡ n) × Small is × Level n os
 

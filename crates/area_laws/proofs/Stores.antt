@@ -11,6 +11,7 @@ use lib.ListN.{getD, drop, length, length-set, length-drop}
 use lib.Seq.{getD-set-other, getD-set-same, getD-drop, ext-getD}
 use lib.Dec.{ltb}
 use borrow.Author.Tests.{ltb-true, ltb-false}
+use Rattle.spec.specs.Entry.{entryLimit}
 use Rattle.words.specs.Words.{at, wordIn, setIn, zeroed}
 use Rattle.words.proofs.Laws.{zeroed-length, zeroed-below, zeroed-above, zeroed-inside}
 use Rattle.pool.specs.declared.Area.{Area}
@@ -48,11 +49,11 @@ trans-head a b = record { guest = b .guest ∙ a .guest; level = b .level ∙ a 
 
 pub frame-head : (m n : List ℕ) (g : ℕ) → SameFrame m n g → SameHead m n g
 unfolding highOf
-frame-head m n g h = high-head m n g (λ k l. ap (λ x. x / 4503599627370496) (h k l))
+frame-head m n g h = high-head m n g (λ k l. ap (λ x. x / entryLimit) (h k l))
 
 pub frame-entry : (m n : List ℕ) (g j : ℕ) → SameFrame m n g → j < 512 → entryIn n g j ≡ entryIn m g j
 unfolding entryIn
-frame-entry m n g j h l = ap (λ x. x % 4503599627370496) (h j l)
+frame-entry m n g j h l = ap (λ x. x % entryLimit) (h j l)
 
 -- frames outside the area hold the same words, and the length is the same
 pub record Beside (a : Area) (m n : List ℕ) : Type 0 where
@@ -98,18 +99,18 @@ unfolding putOf
 put-word m f i e j h = getD-set-other m (at f i) j _ 0 h
 
 put-same : (m : List ℕ) (f i e : ℕ) → at f i < length m
-    → wordIn (putOf m f i e) f i ≡ wordIn m f i / 4503599627370496 * 4503599627370496 + e % 4503599627370496
+    → wordIn (putOf m f i e) f i ≡ wordIn m f i / entryLimit * entryLimit + e % entryLimit
 unfolding putOf
 put-same m f i e l = getD-set-same m (at f i) _ 0 l
 
-pub put-here : (m : List ℕ) (f i e : ℕ) → at f i < length m → e < 4503599627370496 → entryIn (putOf m f i e) f i ≡ e
+pub put-here : (m : List ℕ) (f i e : ℕ) → at f i < length m → e < entryLimit → entryIn (putOf m f i e) f i ≡ e
 unfolding entryIn
-put-here m f i e l s = ap (λ x. x % 4503599627370496) (put-same m f i e l) ∙ omega arith
+put-here m f i e l s = ap (λ x. x % entryLimit) (put-same m f i e l) ∙ omega arith
 
 -- another entry
 pub put-other : (m : List ℕ) (f i e g j : ℕ) → at g j ≢ at f i → entryIn (putOf m f i e) g j ≡ entryIn m g j
 unfolding entryIn
-put-other m f i e g j h = ap (λ x. x % 4503599627370496) (put-word m f i e (at g j) h)
+put-other m f i e g j h = ap (λ x. x % entryLimit) (put-word m f i e (at g j) h)
 
 pub put-else : (m : List ℕ) (f i e g : ℕ) → i < 512 → g ≢ f → SameFrame m (putOf m f i e) g
 put-else m f i e g hi ne k l = put-word m f i e (at g k) (λ q. ne (at-inj g k f i l hi q .0))
@@ -119,10 +120,10 @@ pub put-head : (m : List ℕ) (f i e g : ℕ) → at f i < length m → SameHead
 unfolding highOf
 put-head m f i e g l = high-head m (putOf m f i e) g (λ k h. go k (ℕ-discrete (at g k) (at f i)))
   where
-    go : (k : ℕ) → Dec (at g k ≡ at f i) → wordIn (putOf m f i e) g k / 4503599627370496 ≡ wordIn m g k / 4503599627370496
-    go k (yes q) = subst (λ z. getD (putOf m f i e) z 0 / 4503599627370496 ≡ getD m z 0 / 4503599627370496) (sym q)
-        (ap (λ x. x / 4503599627370496) (put-same m f i e l) ∙ omega arith)
-    go k (no q) = ap (λ x. x / 4503599627370496) (put-word m f i e (at g k) q)
+    go : (k : ℕ) → Dec (at g k ≡ at f i) → wordIn (putOf m f i e) g k / entryLimit ≡ wordIn m g k / entryLimit
+    go k (yes q) = subst (λ z. getD (putOf m f i e) z 0 / entryLimit ≡ getD m z 0 / entryLimit) (sym q)
+        (ap (λ x. x / entryLimit) (put-same m f i e l) ∙ omega arith)
+    go k (no q) = ap (λ x. x / entryLimit) (put-word m f i e (at g k) q)
 
 -- ---- a frame of zeros
 pub zero-else : (m : List ℕ) (f g : ℕ) → g ≢ f → SameFrame m (zeroed m (f * 512) 512) g
@@ -198,8 +199,8 @@ unfolding headOf written entryIn guestOf levelOf parentOf slotOf highOf
 empty-is m f guest level parent slot fits sg sl sp ss = record {
   long = written-length z f 0 vs ∙ zeroed-length m (f * 512) 512;
   else = λ d ne j l. written-else z f 0 vs d ne (omega arith) j l ∙ zero-else m f d ne j l;
-  zeros = written-all (λ v. v % 4503599627370496 ≡ 0) z f 0 vs (omega arith, (omega arith, (omega arith, (omega arith, (omega arith, tt))))) room
-      (λ j l. ap (λ v. v % 4503599627370496) (zero-in m f j l fits));
+  zeros = written-all (λ v. v % entryLimit ≡ 0) z f 0 vs (omega arith, (omega arith, (omega arith, (omega arith, (omega arith, tt))))) room
+      (λ j l. ap (λ v. v % entryLimit) (zero-in m f j l fits));
   guest = rw (word 0 (omega arith), word 1 (omega arith)) (omega arith);
   level = rw (word 1 (omega arith)) (omega arith);
   parent = rw (word 2 (omega arith), word 3 (omega arith)) (omega arith);
@@ -210,8 +211,8 @@ empty-is m f guest level parent slot fits sg sl sp ss = record {
     z = zeroed m (f * 512) 512
 
     vs : List ℕ
-    vs = (guest % 4096 * 4503599627370496) ∷ ((guest / 4096 % 16 + level % 8 * 16) * 4503599627370496) ∷ (parent % 4096 * 4503599627370496)
-        ∷ (parent / 4096 % 16 * 4503599627370496) ∷ (slot % 512 * 4503599627370496) ∷ []
+    vs = (guest % 4096 * entryLimit) ∷ ((guest / 4096 % 16 + level % 8 * 16) * entryLimit) ∷ (parent % 4096 * entryLimit)
+        ∷ (parent / 4096 % 16 * entryLimit) ∷ (slot % 512 * entryLimit) ∷ []
 
     room : at f 0 + 5 ≤ length z
     room = rw zeroed-length (omega arith)
@@ -235,7 +236,7 @@ free-words-link m f l h = getD-set-other (setIn m f 0 l) (at f 1) (at f 0) 0 0 (
 -- word 1 cleared: it is no table any more
 level-cleared : (m : List ℕ) (f : ℕ) → at f 1 < length m → levelOf (setIn m f 1 0) f ≡ 0
 unfolding levelOf highOf
-level-cleared m f h = ap (λ w. w / 4503599627370496 / 16 % 8) (getD-set-same m (at f 1) 0 0 h)
+level-cleared m f h = ap (λ w. w / entryLimit / 16 % 8) (getD-set-same m (at f 1) 0 0 h)
 
 pub free-words-level : (m : List ℕ) (f l : ℕ) → at f 1 < length m → levelOf (freeWords m f l) f ≡ 0
 unfolding freeWords

@@ -11,7 +11,7 @@ use mathlib.Core.Option.{Option, none, some, IsSome}
 use lib.Dec.{T}
 use lib.ListN.{length, length-set}
 use Rattle.words.specs.Words.{at, setIn}
-use Rattle.spec.specs.Entry.{present}
+use Rattle.spec.specs.Entry.{present, entryLimit}
 use Rattle.pool.specs.declared.Area.{Area}
 use Rattle.pool.specs.declared.Pool.{Pool}
 use Rattle.pool.specs.declared.Way.the-variants.{To, Not}
@@ -232,7 +232,7 @@ module _ {a : Area} {stays : Bool} {p : Pool} {m : List ℕ} {lv guest : List �
   pub holds-crowded : (is : List ℕ) → Fits a lv is → a .size < p .used + lacks (h .tabs) [] is → roomOf a p m is ≡ Not
   holds-crowded is f room = room-full (h .tables) is (on-way h is f) (f .small) (at-end h is f) room
 
-  pub holds-place : (gs : List ℕ) (i : ℕ) (is : List ℕ) (e : ℕ) → Fits a lv (i ∷ is) → Guests guest gs 0 [] (i ∷ is) → e < 4503599627370496 → present e ≡ true
+  pub holds-place : (gs : List ℕ) (i : ℕ) (is : List ℕ) (e : ℕ) → Fits a lv (i ∷ is) → Guests guest gs 0 [] (i ∷ is) → e < entryLimit → present e ≡ true
       → p .used + lacks (h .tabs) [] (i ∷ is) ≤ a .size → Next a stays p m (upd lv (onto [] (i ∷ is)) e) guest (placeOf a gs p m i is e)
   holds-place gs i is e f gg thin set room = made (place-is (h .tables) gs i is e (route gs (i ∷ is) f gg) thin set room)
     where
@@ -270,7 +270,7 @@ module _ {a : Area} {stays : Bool} {p : Pool} {m : List ℕ} {lv guest : List �
           top none q k = absurd k
           top (some b) q k = is-some (d .kept [] b q)
 
-  pub holds-insert : (gs is : List ℕ) (e : ℕ) → Fits a lv is → Guests guest gs 0 [] is → e < 4503599627370496 → present e ≡ true
+  pub holds-insert : (gs is : List ℕ) (e : ℕ) → Fits a lv is → Guests guest gs 0 [] is → e < entryLimit → present e ≡ true
       → p .used + lacks (h .tabs) [] is ≤ a .size → Next a stays p m (upd lv (onto [] is) e) guest (insertOf a gs p m is e)
   holds-insert gs [] e f gg thin set room = absurd (let l = f .nonempty in omega arith)
   holds-insert gs (i ∷ is) e f gg thin set room =
@@ -294,7 +294,7 @@ module _ {a : Area} {stays : Bool} {p : Pool} {m : List ℕ} {lv guest : List �
 
 -- ---- a path in an area with nothing in it: "If a new path would make them more than S, all held paths are dropped first"
 pub first-insert : (a : Area) (guest : List ℕ → ℕ) (gs m is : List ℕ) (e : ℕ) → a .base + a .size ≤ 65536 → a .levels < 8 → (a .base + a .size) * 512 ≤ length m
-    → 0 < length is → length is ≤ a .levels → length is ≤ a .size → Small is → Guests guest gs 0 [] is → e < 4503599627370496 → present e ≡ true
+    → 0 < length is → length is ≤ a .levels → length is ≤ a .size → Small is → Guests guest gs 0 [] is → e < entryLimit → present e ≡ true
     → Next a false noneOf m (upd (λ x. 0) (onto [] is) e) guest (insertOf a gs noneOf m is e)
 unfolding noneOf
 first-insert a guest gs m is e sm fl lo nonempty short room small gg thin set =

@@ -1,9 +1,8 @@
 // One bit of a u64, the lowest set one, and the count.
 ghost use mathlib.Core.Path.{_≡_};
-ghost use Prim.Native.Nat.{_-_, _%_, _^_, _<_};
+ghost use Prim.Native.Nat.{_-_, _^_, _<_};
 ghost use lib.Bits.{bitAnd};
 ghost use lib.Count.{ones, trailingZeros};
-ghost use Rattle.bits.specs.Bit.{bit};
 
 // Two to the power i.
 pub fn power(i: u64) -> u64
@@ -11,14 +10,6 @@ pub fn power(i: u64) -> u64
     ensures { λ r. ⌜ r ≡ 2 ^ i ⌝ }
 {
     1u64 << i
-}
-
-// The bit at the place i.
-pub fn get(x: u64, i: u64) -> u64
-    requires { ⌜ i < 64 ⌝ }
-    ensures { λ r. ⌜ r ≡ bit x i ⌝ }
-{
-    (x >> i) % 2
 }
 
 // How many bits are set.

@@ -11,7 +11,7 @@ use borrow.Author.Tests.{lt-ltb, ltb-false, ne-eqb}
 use lib.ListN.{length}
 use Rattle.spec.specs.declared.Fault.{Fault}
 use Rattle.spec.specs.Config.{Config, frameBits}
-use Rattle.spec.specs.Entry.{frameOf, writable, indexes, pageOf}
+use Rattle.spec.specs.Entry.{frameOf, writable, indexes, pageOf, frameLimit}
 use Rattle.spec.specs.Prefix.{same}
 use Rattle.spec.specs.Walk.{granted, trace}
 use Rattle.spec.specs.Plain.{Place, hosted, levels, walk}
@@ -136,7 +136,7 @@ module _ (s : State) (r : Record) (m : List ℕ) (inv : Inv s r m) where
       unfolding indexes
       path-empty l = let z : cfg .levels - deep ≡ 0 = omega arith in ap (λ n. indexes n (pageOf a / 2 ^ (9 * deep))) z
 
-      frame-thin : (q : List ℕ) → frames r m q < 1099511627776
+      frame-thin : (q : List ℕ) → frames r m q < frameLimit
       frame-thin q = let k = frame-small cfg (hostTop r) m few (r .guest .root .0) q in omega arith
 
       -- a held path of no index: every guest entry so far is writable, and it leads to the root's frame, which is not 0

@@ -14,7 +14,7 @@ use lib.ListN.{length}
 use Rattle.spec.specs.declared.Fault.{Fault}
 use Rattle.spec.specs.declared.Fault.the-variants.{Absent, Malformed, Protected, HostAbsent, HostReadOnly}
 use Rattle.spec.specs.Config.{Config}
-use Rattle.spec.specs.Entry.{present, writable, frameOf, malformed, pageOf, indexes}
+use Rattle.spec.specs.Entry.{present, writable, frameOf, malformed, pageOf, indexes, entryLimit}
 use Rattle.spec.specs.Walk.{Walk, done, fail, host, word, _>>=_, World, Trace, trace}
 use Rattle.spec.specs.Plain.{Place, must, hosted, entry, next, levels, walk}
 use Rattle.spec.specs.Refusal.{inGuestArea}
@@ -66,7 +66,7 @@ length-both (x ∷ xs) ys = let k = length-both xs ys in let z : suc (length (xs
 -- equal words have equal entries
 same-entries : (m n : List ℕ) (xs : List Word) → SameWords m n xs → All (SameEntry m n) xs
 unfolding entryIn
-same-entries m n xs h = all-map _ _ xs (λ x e. ap (λ k. k % 4503599627370496) e) h
+same-entries m n xs h = all-map _ _ xs (λ x e. ap (λ k. k % entryLimit) e) h
 
 -- ---- walks that end with fault H exactly where a frame is not mapped
 

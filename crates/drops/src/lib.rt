@@ -1,7 +1,7 @@
 // Held paths dropped: at which entries of the shadow tables they are cut, and the scan that clears them.
 ghost use mathlib.Core.Path.{_≡_};
 ghost use Prim.Native.Nat.{_+_, _-_, _<_, _≤_};
-ghost use Rattle.spec.specs.Entry.{index, indexes};
+ghost use Rattle.spec.specs.Entry.{index, indexes, frameLimit};
 ghost use Rattle.layout.specs.Layout.{LayoutFits, config};
 ghost use Rattle.drops.specs.Cut.{isLeaf, kindOf, cutOf, lowOf, endOf, touchOf, aboveOf, upFrom};
 ghost use Rattle.drops.specs.Drop.{goesOf, clearOne, clearFrom, settleOf, sweepOf, visitOf, scanOf, tableNamed, holderFrom, dropPrefixOf};
@@ -44,14 +44,14 @@ pub struct Left {
 // ---- entries
 
 // Whether a present entry ends a held path; lowest: its table is of level 1.
-pub fn is_leaf(lowest: bool, e: u64) -> bool
+fn is_leaf(lowest: bool, e: u64) -> bool
     ensures { λ r. ⌜ r ≡ isLeaf lowest e ⌝ }
 {
     if lowest { true } else { entry::switch(e) }
 }
 
 // What an entry says.
-pub fn kind_of(l: Layout, lowest: bool, e: u64) -> Kind
+fn kind_of(l: Layout, lowest: bool, e: u64) -> Kind
     requires { ⌜ LayoutFits l ⌝ }
     ensures { λ r. ⌜ r ≡ kindOf (config l) lowest e ⌝ }
 {
@@ -78,8 +78,8 @@ pub fn kind_of(l: Layout, lowest: bool, e: u64) -> Kind
 // ---- cuts
 
 // Whether entry i of the table in frame f is cut.
-pub fn cut_at(mem: &[u64], cut: Cut, f: u64, i: u64) -> bool
-    requires { ⌜ (f < 1099511627776) × (i < 512) ⌝ }
+fn cut_at(mem: &[u64], cut: Cut, f: u64, i: u64) -> bool
+    requires { ⌜ (f < frameLimit) × (i < 512) ⌝ }
     ensures { λ r. ⌜ r ≡ cutOf (now (mem .entry)) cut f i ⌝ }
 {
     match cut {
@@ -105,7 +105,7 @@ pub fn cut_at(mem: &[u64], cut: Cut, f: u64, i: u64) -> bool
 }
 
 // The first entry of a table at which it may be cut.
-pub fn low(cut: Cut) -> u64
+fn low(cut: Cut) -> u64
     ensures { λ r. ⌜ r ≡ lowOf cut ⌝ }
 {
     match cut {
@@ -116,7 +116,7 @@ pub fn low(cut: Cut) -> u64
 }
 
 // The end of these entries.
-pub fn end(cut: Cut) -> u64
+fn end(cut: Cut) -> u64
     ensures { λ r. ⌜ r ≡ endOf cut ⌝ }
 {
     match cut {
@@ -127,8 +127,8 @@ pub fn end(cut: Cut) -> u64
 }
 
 // Whether the table in frame f may have an entry that is cut.
-pub fn touches(mem: &[u64], cut: Cut, f: u64) -> bool
-    requires { ⌜ f < 1099511627776 ⌝ }
+fn touches(mem: &[u64], cut: Cut, f: u64) -> bool
+    requires { ⌜ f < frameLimit ⌝ }
     ensures { λ r. ⌜ r ≡ touchOf (now (mem .entry)) cut f ⌝ }
 {
     match cut {
@@ -139,8 +139,8 @@ pub fn touches(mem: &[u64], cut: Cut, f: u64) -> bool
 }
 
 // One link up from the table in frame f.
-pub fn link_up(mem: &[u64], l: Layout, cut: Cut, f: u64) -> Above
-    requires { ⌜ f < 1099511627776 ⌝ }
+fn link_up(mem: &[u64], l: Layout, cut: Cut, f: u64) -> Above
+    requires { ⌜ f < frameLimit ⌝ }
     ensures { λ r. ⌜ r ≡ aboveOf (config l) cut (now (mem .entry)) f ⌝ }
 {
     let p = pool::parent(mem, f);
@@ -156,8 +156,8 @@ pub fn link_up(mem: &[u64], l: Layout, cut: Cut, f: u64) -> Above
 }
 
 // Whether one of the k entries above the table in frame f is cut.
-pub fn links_up(mem: &[u64], l: Layout, cut: Cut, k: u64, f: u64) -> Above
-    requires { ⌜ f < 1099511627776 ⌝ }
+fn links_up(mem: &[u64], l: Layout, cut: Cut, k: u64, f: u64) -> Above
+    requires { ⌜ f < frameLimit ⌝ }
     ensures { λ r. ⌜ r ≡ upFrom (config l) cut (now (mem .entry)) k f ⌝ }
 {
     let mut t = f;
@@ -189,24 +189,16 @@ pub fn links(levels: u64, level: u64) -> u64
 // ---- one table
 
 // Whether a leaf at index i of the table in frame f goes.
-pub fn goes(mem: &[u64], cut: Cut, all: bool, f: u64, i: u64) -> bool
-    requires { ⌜ (f < 1099511627776) × (i < 512) ⌝ }
+fn goes(mem: &[u64], cut: Cut, all: bool, f: u64, i: u64) -> bool
+    requires { ⌜ (f < frameLimit) × (i < 512) ⌝ }
     ensures { λ r. ⌜ r ≡ goesOf (now (mem .entry)) cut all f i ⌝ }
 {
     if all { true } else { cut_at(mem, cut, f, i) }
 }
 
 // The entry at index i is cleared if it is a leaf that goes; false if it is damaged.
-pub fn clear_one(
-    mem: &mut [u64],
-    l: Layout,
-    cut: Cut,
-    all: bool,
-    lowest: bool,
-    f: u64,
-    i: u64,
-) -> bool
-    requires { ⌜ (LayoutFits l) × (f < 1099511627776) × (i < 512) ⌝ }
+fn clear_one(mem: &mut [u64], l: Layout, cut: Cut, all: bool, lowest: bool, f: u64, i: u64) -> bool
+    requires { ⌜ (LayoutFits l) × (f < frameLimit) × (i < 512) ⌝ }
     ensures { λ r. ⌜ yields r (now (mem .exit)) ≡ clearOne (config l) cut all lowest f (now (mem .entry)) i ⌝ }
 {
     match kind_of(l, lowest, pool::entry_at(mem, f, i)) {
@@ -225,7 +217,7 @@ pub fn clear_one(
 }
 
 // The entries from lo on below hi.
-pub fn clear_leaves(
+fn clear_leaves(
     mem: &mut [u64],
     l: Layout,
     cut: Cut,
@@ -235,7 +227,7 @@ pub fn clear_leaves(
     lo: u64,
     hi: u64,
 ) -> bool
-    requires { ⌜ (LayoutFits l) × (f < 1099511627776) × (hi ≤ 512) × (lo ≤ hi) ⌝ }
+    requires { ⌜ (LayoutFits l) × (f < frameLimit) × (hi ≤ 512) × (lo ≤ hi) ⌝ }
     ensures { λ r. ⌜ yields r (now (mem .exit)) ≡ clearFrom (config l) cut all lowest f (hi - lo) lo (now (mem .entry)) ⌝ }
 {
     let mut i = lo;
@@ -250,8 +242,8 @@ pub fn clear_leaves(
 }
 
 // The table in frame f, of level n, and those above it are given back as far as they are empty.
-pub fn settle(mem: &mut [u64], l: Layout, p: Pool, n: u64, f: u64) -> Left
-    requires { ⌜ (LayoutFits l) × (f < 1099511627776) ⌝ }
+fn settle(mem: &mut [u64], l: Layout, p: Pool, n: u64, f: u64) -> Left
+    requires { ⌜ (LayoutFits l) × (f < frameLimit) ⌝ }
     ensures { λ r. ⌜ yields r (now (mem .exit)) ≡ settleOf (config l) p (now (mem .entry)) n f ⌝ }
 {
     let went = area::release(shadow::shadow_area(l), false, p, mem, links(l.levels, n), f);
@@ -274,7 +266,7 @@ pub fn settle(mem: &mut [u64], l: Layout, p: Pool, n: u64, f: u64) -> Left
 }
 
 // The leaves that go are cleared, and emptied tables given back.
-pub fn sweep(
+fn sweep(
     mem: &mut [u64],
     l: Layout,
     cut: Cut,
@@ -285,7 +277,7 @@ pub fn sweep(
     hi: u64,
     p: Pool,
 ) -> Left
-    requires { ⌜ (LayoutFits l) × (f < 1099511627776) × (hi ≤ 512) × (lo ≤ hi) ⌝ }
+    requires { ⌜ (LayoutFits l) × (f < frameLimit) × (hi ≤ 512) × (lo ≤ hi) ⌝ }
     ensures { λ r. ⌜ yields r (now (mem .exit)) ≡ sweepOf (config l) cut all n f (hi - lo) lo p (now (mem .entry)) ⌝ }
 {
     if clear_leaves(mem, l, cut, all, n == 1, f, lo, hi) {
@@ -298,8 +290,8 @@ pub fn sweep(
 // ---- the scan
 
 // One frame: all leaves of a table under a cut go, else those that are cut.
-pub fn visit(mem: &mut [u64], l: Layout, cut: Cut, p: Pool, f: u64) -> Left
-    requires { ⌜ (LayoutFits l) × (f < 1099511627776) ⌝ }
+fn visit(mem: &mut [u64], l: Layout, cut: Cut, p: Pool, f: u64) -> Left
+    requires { ⌜ (LayoutFits l) × (f < frameLimit) ⌝ }
     ensures { λ r. ⌜ yields r (now (mem .exit)) ≡ visitOf (config l) cut p (now (mem .entry)) f ⌝ }
 {
     let n = pool::level(mem, f);
@@ -320,7 +312,7 @@ pub fn visit(mem: &mut [u64], l: Layout, cut: Cut, p: Pool, f: u64) -> Left
 }
 
 // Every path that is cut is dropped.
-pub fn scan(mem: &mut [u64], l: Layout, cut: Cut, p: Pool) -> Left
+fn scan(mem: &mut [u64], l: Layout, cut: Cut, p: Pool) -> Left
     requires { ⌜ (LayoutFits l) × (p .fresh ≤ l .shadows) ⌝ }
     ensures { λ r. ⌜ yields r (now (mem .exit)) ≡ scanOf (config l) cut p (now (mem .entry)) ⌝ }
 {
@@ -361,7 +353,7 @@ pub fn drop_mapping(mem: &mut [u64], l: Layout, p: Pool, g: GuestPhysical) -> Le
 // ---- a prefix
 
 // The table that an entry above the lowest level names.
-pub fn table_named(l: Layout, e: u64) -> Way
+fn table_named(l: Layout, e: u64) -> Way
     requires { ⌜ LayoutFits l ⌝ }
     ensures { λ r. ⌜ r ≡ tableNamed (config l) e ⌝ }
 {
@@ -374,7 +366,7 @@ pub fn table_named(l: Layout, e: u64) -> Way
 }
 
 // The table that holds the last entry of the prefix of the k low indexes of path, on from the entry e.
-pub fn holder(mem: &[u64], l: Layout, e: u64, path: u64, k: u64) -> Way
+fn holder(mem: &[u64], l: Layout, e: u64, path: u64, k: u64) -> Way
     requires { ⌜ (LayoutFits l) × (1 ≤ k) × (k ≤ l .levels) ⌝ }
     ensures { λ r. ⌜ r ≡ holderFrom (config l) (now (mem .entry)) e (index (k - 1) path) (indexes (k - 1) path) ⌝ }
 {

@@ -10,7 +10,7 @@ use lib.Dec.{leb}
 use lib.ListN.{length, getD, take, replicate}
 use borrow.Author.Tests.{leb-true, leb-false}
 use Rattle.spec.specs.Config.{Config}
-use Rattle.spec.specs.Entry.{present, frameOf}
+use Rattle.spec.specs.Entry.{present, frameOf, entryLimit}
 use Rattle.spec.specs.Book.{Held, paths, shadowTables, fill}
 use Rattle.spec_laws.proofs.Lists.{All, all-map}
 use Rattle.spec.specs.Walk.{trace, granted}
@@ -121,7 +121,7 @@ leaf-only w k y = leaves-put [] (k .path) (w k) y
 
 module _ {c : Config} {p : Pool} {m : List ℕ} {guest G : List ℕ → ℕ} {root : ℕ} {w : Held → ℕ} {hs : List Held} (h : Holds (shadowArea c) false p m (leafAt w hs) guest)
     (a : HeldEntries c guest G root w hs) (k : Held) (f : Fits (shadowArea c) (leafAt w hs) (k .path)) (gs : List ℕ) (gg : Guests guest gs 0 [] (k .path))
-    (thin : w k < 4503599627370496) (present-new : present (w k) ≡ true) (room : c .levels ≤ c .shadows) where
+    (thin : w k < entryLimit) (present-new : present (w k) ≡ true) (room : c .levels ≤ c .shadows) where
   listed : Lists (upd (leafAt w hs) (onto [] (k .path)) (w k)) (paths (k ∷ hs))
   listed = subst (Lists (upd (leafAt w hs) (onto [] (k .path)) (w k))) (entries-paths w (k ∷ hs))
       (subst (λ lw. Lists lw (run.paths (entries w (k ∷ hs)))) (λ i y. sym (leaf-put w k hs y) i)
@@ -149,7 +149,7 @@ module _ {c : Config} {p : Pool} {m : List ℕ} {guest G : List ℕ → ℕ} {ro
 -- the new tables' headers name the guest tables of the walk over memory
 pub fill-is : {c : Config} {p : Pool} {m : List ℕ} {guest G : List ℕ → ℕ} {root : ℕ} {w : Held → ℕ} {hs : List Held} → Holds (shadowArea c) false p m (leafAt w hs) guest
     → HeldEntries c guest G root w hs → (k : Held) → Fits (shadowArea c) (leafAt w hs) (k .path) → (F : List ℕ → ℕ) (gs : List ℕ) → Guests F gs 0 [] (k .path)
-    → ((y : List ℕ) → Ext y (onto [] (k .path)) → guest y ≡ F y) → w k < 4503599627370496 → present (w k) ≡ true → c .levels ≤ c .shadows
+    → ((y : List ℕ) → Ext y (onto [] (k .path)) → guest y ≡ F y) → w k < entryLimit → present (w k) ≡ true → c .levels ≤ c .shadows
     → Next (shadowArea c) false p m (leafAt w (fill c k hs)) guest (fillOf c gs p m (k .path) (w k))
 fill-is {guest = guest} h a k f F gs gg e thin set room =
     inserted-is h a k f gs (guests-agree F guest gs 0 [] (k .path) (λ y q. e y (pre-ext y [] (k .path) q)) gg) thin set room

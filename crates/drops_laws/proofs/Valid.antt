@@ -11,7 +11,7 @@ use lib.ListN.{length}
 use borrow.Author.Tests.{le-leb, lt-ltb}
 use Rattle.spec.specs.declared.Fault.{Fault}
 use Rattle.spec.specs.Config.{Config, guestBase, frameBits}
-use Rattle.spec.specs.Entry.{frameOf}
+use Rattle.spec.specs.Entry.{frameOf, frameLimit, entryLimit}
 use Rattle.spec.specs.Refusal.{inGuestArea}
 use Rattle.spec.specs.Walk.{World, Trace, granted, trace}
 use Rattle.spec.specs.Plain.{Place, walk}
@@ -57,7 +57,7 @@ holds-retraced {c = c} {F = F} {G = G} {F' = F'} {G' = G'} {root = root} {root' 
 unfoldable pub entryOf : Config → (List ℕ → ℕ) → Held → ℕ
 entryOf c F h = entryFor (F (onto [] (h .path))) (ltb (length (h .path)) (c .levels)) (h .right)
 
-pub entry-thin : (c : Config) (F : List ℕ → ℕ) (h : Held) → F (onto [] (h .path)) < 1099511627776 → entryOf c F h < 4503599627370496
+pub entry-thin : (c : Config) (F : List ℕ → ℕ) (h : Held) → F (onto [] (h .path)) < frameLimit → entryOf c F h < entryLimit
 unfolding entryOf
 entry-thin c F h l = entry-small (F (onto [] (h .path))) (ltb (length (h .path)) (c .levels)) (h .right) l
 
@@ -124,7 +124,7 @@ module _ (c : Config) (s : Machine) (ht : ℕ) (m : List ℕ) (st : Stands c s h
           (all-map _ _ (part .reads) (λ x k. k .0 .0) (shadow-asked c s false (h .path) (st .inside) small (v .small) .reads));
     }
       where
-        thin : framesAt c ht m (s .root) (onto [] (h .path)) < 1099511627776
+        thin : framesAt c ht m (s .root) (onto [] (h .path)) < frameLimit
         thin = let e = valid-frame in let k = inside-area in omega arith
 
   pub valid-entries : (hs : List Held) → All (Valid c s) hs → HeldEntries c (framesAt c ht m (s .root)) (namedIn m (framesAt c ht m (s .root))) (s .root) (entryOf c (framesAt c ht m (s .root))) hs

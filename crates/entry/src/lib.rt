@@ -4,7 +4,12 @@ ghost use Prim.Native.Nat.{_+_, _*_, _<_};
 ghost use Rattle.spec.specs.Config.{frameBits};
 ghost use Rattle.spec.specs.Refusal.{addressFits};
 ghost use Rattle.entry.specs.Levels.{ofLevels};
-ghost use Rattle.spec.specs.Entry.{present, writable, switch, frameOf, malformed, index, pageOf, wordOf};
+ghost use Rattle.spec.specs.Entry.{present, writable, switch, frameOf, malformed, index, pageOf};
+
+// How many frames an entry can name, and the values of the bits that an entry's rules read.
+pub const FRAME_LIMIT: u64 = 1099511627776;
+
+pub const ENTRY_LIMIT: u64 = 4503599627370496;
 
 // A guest-virtual address.
 pub struct GuestVirtual(pub u64);
@@ -29,41 +34,6 @@ impl GuestVirtual {
         ensures { λ r. ⌜ r ≡ pageOf (self .0) ⌝ }
     {
         self.0 / 4096
-    }
-
-    // The index into the guest table that has `below` levels below it.
-    pub fn index(self, below: u64) -> usize
-        requires { ⌜ below < 8 ⌝ }
-        ensures { λ r. ⌜ r ≡ index below (pageOf (self .0)) ⌝ }
-    {
-        index_of(self.0 / 4096, below)
-    }
-
-    // The word of its page that the address names.
-    pub fn word(self) -> usize
-        ensures { λ r. ⌜ r ≡ wordOf (self .0) ⌝ }
-    {
-        (self.0 % 4096 / 8) as usize
-    }
-}
-
-impl GuestPhysical {
-    // The index into the host table that has `below` levels below it.
-    pub fn index(self, below: u64) -> usize
-        requires { ⌜ below < 8 ⌝ }
-        ensures { λ r. ⌜ r ≡ index below (self .0) ⌝ }
-    {
-        index_of(self.0, below)
-    }
-}
-
-impl HostPhysical {
-    // Where the word i of the frame stands in the memory.
-    pub fn word(self, i: usize) -> usize
-        requires { ⌜ (self .0 < 1099511627776) × (i < 512) ⌝ }
-        ensures { λ r. ⌜ r ≡ self .0 * 512 + i ⌝ }
-    {
-        self.0 as usize * 512 + i
     }
 }
 
@@ -96,7 +66,7 @@ pub fn switch(e: u64) -> bool
 pub fn frame_of(e: u64) -> u64
     ensures { λ r. ⌜ r ≡ frameOf e ⌝ }
 {
-    e / 4096 % 1099511627776
+    e / 4096 % FRAME_LIMIT
 }
 
 // How many bits a guest frame number has: 9 for each level, and never more than the 40 that an entry holds.
@@ -111,7 +81,7 @@ pub fn malformed(levels: u64, level: u64, e: u64) -> bool
     ensures { λ r. ⌜ r ≡ malformed (ofLevels levels) level e ⌝ }
 {
     // The bits of the frame number above those that a guest frame number has.
-    if (e % 4503599627370496) >> (12 + frame_bits(levels)) == 0 {
+    if (e % ENTRY_LIMIT) >> (12 + frame_bits(levels)) == 0 {
         if level <= 1 {
             return false;
         }

@@ -49,7 +49,7 @@ pub fn tables(l: Layout) -> Area
 }
 
 // The entry of a mapped frame.
-pub fn leaf_word(f: HostPhysical, writable: bool) -> u64
+fn leaf_word(f: HostPhysical, writable: bool) -> u64
     requires { ⌜ f .0 < 65536 ⌝ }
     ensures { λ r. ⌜ r ≡ hostEntry (f .0) writable ⌝ }
 {
@@ -61,7 +61,7 @@ pub fn leaf_word(f: HostPhysical, writable: bool) -> u64
 }
 
 // What a step in the area came to; `none` is the refusal where it found nothing. A refusal leaves the pool.
-pub fn settled(before: Pool, after: Pool, way: Way, none: u64) -> Change
+fn settled(before: Pool, after: Pool, way: Way, none: u64) -> Change
     ensures { λ r. ⌜ r ≡ changeBy before after none way ⌝ }
 {
     match way {

@@ -97,7 +97,7 @@ pub fn depth(place: &[u64; 64], set: u64, address: GuestVirtual) -> u64
 }
 
 // The first set place that holds the key; 64 where none does.
-pub fn place_of(place: &[u64; 64], set: u64, key: u64) -> usize
+fn place_of(place: &[u64; 64], set: u64, key: u64) -> usize
     ensures { λ r. ⌜ r ≡ placeOf (now (place .entry)) set key ⌝ }
 {
     let mut rest = set;

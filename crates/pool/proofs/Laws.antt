@@ -7,7 +7,7 @@ use mathlib.Core.Bool.{Bool, true, false, cond}
 use mathlib.Core.List.{List}
 use lib.Dec.{ltb}
 use borrow.Author.Tests.{ltb-true, ltb-false}
-use Rattle.spec.specs.Entry.{present, frameOf}
+use Rattle.spec.specs.Entry.{present, frameOf, frameLimit}
 use Rattle.words.specs.Words.{zeroed}
 use Rattle.pool.specs.declared.Area.{Area}
 use Rattle.pool.specs.declared.Pool.{Pool}
@@ -71,7 +71,7 @@ follow-good b s e = go (present e)
     go false = tt
 
 abbrev pub Small : Way → Type 0
-Small (To f) = f < 1099511627776
+Small (To f) = f < frameLimit
 Small Not = Unit {0}
 Small Damaged = Unit {0}
 

@@ -6,20 +6,20 @@ use Prim.Native.Nat.{ℕ, zero, suc, _+_, _-_, _*_, _/_, _%_}
 use mathlib.Core.List.{List}
 use mathlib.Core.Bool.{Bool, true, false, cond}
 use lib.Dec.{ltb}
-use Rattle.spec.specs.Entry.{present}
+use Rattle.spec.specs.Entry.{present, entryLimit}
 use Rattle.words.specs.Words.{wordIn, setIn}
 
 -- the entry at index i of the table in frame f
 unfoldable pub entryIn : List ℕ → ℕ → ℕ → ℕ
-entryIn m f i = wordIn m f i % 4503599627370496
+entryIn m f i = wordIn m f i % entryLimit
 
 -- the header bits of word k
 unfoldable pub highOf : List ℕ → ℕ → ℕ → ℕ
-highOf m f k = wordIn m f k / 4503599627370496
+highOf m f k = wordIn m f k / entryLimit
 
 -- the memory with entry i of the table in frame f set to e; the header bits stay
 unfoldable pub putOf : List ℕ → ℕ → ℕ → ℕ → List ℕ
-putOf m f i e = setIn m f i (wordIn m f i / 4503599627370496 * 4503599627370496 + e % 4503599627370496)
+putOf m f i e = setIn m f i (wordIn m f i / entryLimit * entryLimit + e % entryLimit)
 
 -- a frame number in the bits of words i and i + 1
 abbrev pub frameAt : List ℕ → ℕ → ℕ → ℕ
@@ -45,11 +45,11 @@ slotOf m f = highOf m f 4 % 512
 unfoldable pub headOf : List ℕ → ℕ → ℕ → ℕ → ℕ → ℕ → List ℕ
 headOf m f guest level parent slot =
     setIn (setIn (setIn (setIn (setIn m
-    f 0 (guest % 4096 * 4503599627370496))
-    f 1 ((guest / 4096 % 16 + level % 8 * 16) * 4503599627370496))
-    f 2 (parent % 4096 * 4503599627370496))
-    f 3 (parent / 4096 % 16 * 4503599627370496))
-    f 4 (slot % 512 * 4503599627370496)
+    f 0 (guest % 4096 * entryLimit))
+    f 1 ((guest / 4096 % 16 + level % 8 * 16) * entryLimit))
+    f 2 (parent % 4096 * entryLimit))
+    f 3 (parent / 4096 % 16 * entryLimit))
+    f 4 (slot % 512 * entryLimit)
 
 -- is f one of the s frames from b on?
 unfoldable pub insideOf : ℕ → ℕ → ℕ → Bool

@@ -1,6 +1,7 @@
 // Frames of an area of the lent memory handed out and given back, and the words of the tables in them.
 ghost use mathlib.Core.Path.{_≡_};
 ghost use Prim.Native.Nat.{_+_, _<_};
+ghost use Rattle.spec.specs.Entry.{frameLimit};
 ghost use Rattle.pool.specs.Header.{frameAt, entryIn, highOf, putOf, guestOf, levelOf, parentOf, slotOf, headOf, insideOf, bareOf};
 ghost use Rattle.pool.specs.Pool.{followOf, noneOf, withTop, freshOf, freedOf, takeOf, withFreed, freeWords};
 ghost use Rattle.words.specs.After.{yields};
@@ -38,23 +39,23 @@ pub struct Went {
 
 // An entry of a table.
 pub fn entry_at(mem: &[u64], f: u64, i: u64) -> u64
-    requires { ⌜ (f < 1099511627776) × (i < 512) ⌝ }
+    requires { ⌜ (f < frameLimit) × (i < 512) ⌝ }
     ensures { λ r. ⌜ r ≡ entryIn (now (mem .entry)) f i ⌝ }
 {
-    words::word_in(mem, f, i) % 4503599627370496
+    words::word_in(mem, f, i) % entry::ENTRY_LIMIT
 }
 
 // The header bits of a word.
-pub fn high(mem: &[u64], f: u64, k: u64) -> u64
-    requires { ⌜ (f < 1099511627776) × (k < 512) ⌝ }
+fn high(mem: &[u64], f: u64, k: u64) -> u64
+    requires { ⌜ (f < frameLimit) × (k < 512) ⌝ }
     ensures { λ r. ⌜ r ≡ highOf (now (mem .entry)) f k ⌝ }
 {
-    words::word_in(mem, f, k) / 4503599627370496
+    words::word_in(mem, f, k) / entry::ENTRY_LIMIT
 }
 
 // An entry is set; the header bits stay.
 pub fn put_entry(mem: &mut [u64], f: u64, i: u64, e: u64)
-    requires { ⌜ (f < 1099511627776) × (i < 512) ⌝ }
+    requires { ⌜ (f < frameLimit) × (i < 512) ⌝ }
     ensures { λ r. ⌜ now (mem .exit) ≡ putOf (now (mem .entry)) f i e ⌝ }
 {
     let w = words::word_in(mem, f, i);
@@ -62,13 +63,13 @@ pub fn put_entry(mem: &mut [u64], f: u64, i: u64, e: u64)
         mem,
         f,
         i,
-        w / 4503599627370496 * 4503599627370496 + e % 4503599627370496,
+        w / entry::ENTRY_LIMIT * entry::ENTRY_LIMIT + e % entry::ENTRY_LIMIT,
     );
 }
 
 // A frame number in the high bits of words i and i + 1.
 fn frame_at(mem: &[u64], f: u64, i: u64) -> u64
-    requires { ⌜ (f < 1099511627776) × (i < 511) ⌝ }
+    requires { ⌜ (f < frameLimit) × (i < 511) ⌝ }
     ensures { λ r. ⌜ r ≡ frameAt (now (mem .entry)) f i ⌝ }
 {
     let a = high(mem, f, i);
@@ -78,7 +79,7 @@ fn frame_at(mem: &[u64], f: u64, i: u64) -> u64
 
 // The host frame of the guest table that a table stands for.
 pub fn guest(mem: &[u64], f: u64) -> u64
-    requires { ⌜ f < 1099511627776 ⌝ }
+    requires { ⌜ f < frameLimit ⌝ }
     ensures { λ r. ⌜ r ≡ guestOf (now (mem .entry)) f ⌝ }
 {
     frame_at(mem, f, 0)
@@ -86,7 +87,7 @@ pub fn guest(mem: &[u64], f: u64) -> u64
 
 // The level of a table; 0 for a frame that is no table.
 pub fn level(mem: &[u64], f: u64) -> u64
-    requires { ⌜ f < 1099511627776 ⌝ }
+    requires { ⌜ f < frameLimit ⌝ }
     ensures { λ r. ⌜ r ≡ levelOf (now (mem .entry)) f ⌝ }
 {
     high(mem, f, 1) / 16 % 8
@@ -94,7 +95,7 @@ pub fn level(mem: &[u64], f: u64) -> u64
 
 // The frame of the table above.
 pub fn parent(mem: &[u64], f: u64) -> u64
-    requires { ⌜ f < 1099511627776 ⌝ }
+    requires { ⌜ f < frameLimit ⌝ }
     ensures { λ r. ⌜ r ≡ parentOf (now (mem .entry)) f ⌝ }
 {
     frame_at(mem, f, 2)
@@ -102,7 +103,7 @@ pub fn parent(mem: &[u64], f: u64) -> u64
 
 // The index of a table's entry in the table above.
 pub fn slot(mem: &[u64], f: u64) -> u64
-    requires { ⌜ f < 1099511627776 ⌝ }
+    requires { ⌜ f < frameLimit ⌝ }
     ensures { λ r. ⌜ r ≡ slotOf (now (mem .entry)) f ⌝ }
 {
     high(mem, f, 4) % 512
@@ -110,19 +111,19 @@ pub fn slot(mem: &[u64], f: u64) -> u64
 
 // A header is written into a frame of zeros.
 pub fn write_header(mem: &mut [u64], f: u64, guest: u64, level: u64, parent: u64, slot: u64)
-    requires { ⌜ f < 1099511627776 ⌝ }
+    requires { ⌜ f < frameLimit ⌝ }
     ensures { λ r. ⌜ now (mem .exit) ≡ headOf (now (mem .entry)) f guest level parent slot ⌝ }
 {
-    words::set_in(mem, f, 0, guest % 4096 * 4503599627370496);
+    words::set_in(mem, f, 0, guest % 4096 * entry::ENTRY_LIMIT);
     words::set_in(
         mem,
         f,
         1,
-        (guest / 4096 % 16 + level % 8 * 16) * 4503599627370496,
+        (guest / 4096 % 16 + level % 8 * 16) * entry::ENTRY_LIMIT,
     );
-    words::set_in(mem, f, 2, parent % 4096 * 4503599627370496);
-    words::set_in(mem, f, 3, parent / 4096 % 16 * 4503599627370496);
-    words::set_in(mem, f, 4, slot % 512 * 4503599627370496);
+    words::set_in(mem, f, 2, parent % 4096 * entry::ENTRY_LIMIT);
+    words::set_in(mem, f, 3, parent / 4096 % 16 * entry::ENTRY_LIMIT);
+    words::set_in(mem, f, 4, slot % 512 * entry::ENTRY_LIMIT);
 }
 
 // Whether a frame lies in an area of frames base to base + size.
@@ -134,7 +135,7 @@ pub fn inside(base: u64, size: u64, f: u64) -> bool
 
 // Whether a table has no present entry.
 pub fn bare(mem: &[u64], f: u64) -> bool
-    requires { ⌜ f < 1099511627776 ⌝ }
+    requires { ⌜ f < frameLimit ⌝ }
     ensures { λ r. ⌜ r ≡ bareOf (now (mem .entry)) f 512 ⌝ }
 {
     let mut k: u64 = 512;
@@ -186,8 +187,8 @@ pub fn with_top(mut p: Pool, top: u64) -> Pool
 }
 
 // The next frame that was never handed out.
-pub fn take_fresh(a: Area, p: Pool, mem: &mut [u64]) -> Went
-    requires { ⌜ (a .base + a .size < 1099511627776) × (p .used < a .size) ⌝ }
+fn take_fresh(a: Area, p: Pool, mem: &mut [u64]) -> Went
+    requires { ⌜ (a .base + a .size < frameLimit) × (p .used < a .size) ⌝ }
     ensures { λ r. ⌜ yields r (now (mem .exit)) ≡ freshOf a p (now (mem .entry)) ⌝ }
 {
     if p.fresh < a.size {
@@ -211,8 +212,8 @@ pub fn take_fresh(a: Area, p: Pool, mem: &mut [u64]) -> Went
 }
 
 // The first of the freed frames.
-pub fn take_freed(p: Pool, mem: &mut [u64], f: u64) -> Went
-    requires { ⌜ (f < 1099511627776) × (p .used < 1099511627776) ⌝ }
+fn take_freed(p: Pool, mem: &mut [u64], f: u64) -> Went
+    requires { ⌜ (f < frameLimit) × (p .used < frameLimit) ⌝ }
     ensures { λ r. ⌜ yields r (now (mem .exit)) ≡ freedOf p (now (mem .entry)) f ⌝ }
 {
     let next = words::word_in(mem, f, 0);
@@ -230,7 +231,7 @@ pub fn take_freed(p: Pool, mem: &mut [u64], f: u64) -> Went
 
 // A frame of zeros; Not if all are in use, Damaged if the list of freed frames leads out of the area.
 pub fn take_frame(a: Area, p: Pool, mem: &mut [u64]) -> Went
-    requires { ⌜ a .base + a .size < 1099511627776 ⌝ }
+    requires { ⌜ a .base + a .size < frameLimit ⌝ }
     ensures { λ r. ⌜ yields r (now (mem .exit)) ≡ takeOf a p (now (mem .entry)) ⌝ }
 {
     if p.used < a.size {
@@ -252,7 +253,7 @@ pub fn take_frame(a: Area, p: Pool, mem: &mut [u64]) -> Went
 
 // The pool after a frame is given back.
 pub fn with_freed(p: Pool, f: u64) -> Pool
-    requires { ⌜ f < 1099511627776 ⌝ }
+    requires { ⌜ f < frameLimit ⌝ }
     ensures { λ r. ⌜ r ≡ withFreed p f ⌝ }
 {
     if p.used == 0 {
@@ -274,7 +275,7 @@ pub fn with_freed(p: Pool, f: u64) -> Pool
 
 // A frame given back links to the next freed one, and is no table any more.
 pub fn free_words(mem: &mut [u64], f: u64, next: u64)
-    requires { ⌜ f < 1099511627776 ⌝ }
+    requires { ⌜ f < frameLimit ⌝ }
     ensures { λ r. ⌜ now (mem .exit) ≡ freeWords (now (mem .entry)) f next ⌝ }
 {
     words::set_in(mem, f, 0, next);

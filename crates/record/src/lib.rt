@@ -50,7 +50,7 @@ pub struct Head {
 }
 
 // How an opening lays out a memory of that many words.
-pub fn layout(words: u64, hosts: u64, shadows: u64) -> Layout
+fn layout(words: u64, hosts: u64, shadows: u64) -> Layout
     ensures { λ r. ⌜ r ≡ layoutOf words hosts shadows ⌝ }
 {
     Layout {

@@ -1,7 +1,7 @@
 // Load, store and device store: from an address and its depth to the word read or written, and the held paths that a store drops.
 ghost use mathlib.Core.Path.{_≡_};
 ghost use Prim.Native.Nat.{_<_, _≤_};
-ghost use Rattle.spec.specs.Entry.{wordOf};
+ghost use Rattle.spec.specs.Entry.{wordOf, frameLimit};
 ghost use Rattle.words.specs.After.{yields};
 ghost use Rattle.words.specs.Words.{wordIn};
 ghost use Rattle.layout.specs.Layout.{LayoutFits, config};
@@ -35,7 +35,7 @@ fn word_of(a: u64) -> u64
 
 // The word of a page that a load at that address yields.
 fn read_word(mem: &[u64], page: HostPhysical, a: u64) -> u64
-    requires { ⌜ page .0 < 1099511627776 ⌝ }
+    requires { ⌜ page .0 < frameLimit ⌝ }
     ensures { λ r. ⌜ r ≡ wordIn (now (mem .entry)) (page .0) (wordOf a) ⌝ }
 {
     words::word_in(mem, page.0, word_of(a))
@@ -51,7 +51,7 @@ pub struct Put {
 // The word of a page that an address names gets v, and the held paths whose shadow part read it are dropped. The drops are
 // found before the word is written, so that damage met on the way has changed no guest word.
 fn put_word(mem: &mut [u64], l: Layout, pool: Pool, page: HostPhysical, a: u64, v: u64) -> Put
-    requires { ⌜ (LayoutFits l) × (pool .fresh ≤ l .shadows) × (page .0 < 1099511627776) ⌝ }
+    requires { ⌜ (LayoutFits l) × (pool .fresh ≤ l .shadows) × (page .0 < frameLimit) ⌝ }
     ensures { λ r. ⌜ yields r (now (mem .exit)) ≡ putOf (config l) (now (mem .entry)) pool (page .0) (wordOf a) v ⌝ }
 {
     let i = word_of(a);
@@ -154,7 +154,7 @@ fn written(
     references: u64,
     exits: u64,
 ) -> Served
-    requires { ⌜ (LayoutFits l) × (held .pool .fresh ≤ l .shadows) × (page .0 < 1099511627776) × (exits ≤ 65536) ⌝ }
+    requires { ⌜ (LayoutFits l) × (held .pool .fresh ≤ l .shadows) × (page .0 < frameLimit) × (exits ≤ 65536) ⌝ }
     ensures { λ r. ⌜ yields r (now (mem .exit)) ≡ writtenBy before held references exits (putOf (config l) (now (mem .entry)) (held .pool) (page .0) (wordOf a) v) ⌝ }
 {
     let put = put_word(mem, l, held.pool, page, a, v);

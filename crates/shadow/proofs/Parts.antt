@@ -7,7 +7,7 @@ use mathlib.Core.Bool.{Bool, true, false, cond}
 use lib.Dec.{eqb}
 use borrow.Author.Tests.{eq-eqb, ne-eqb}
 use Rattle.spec.specs.Config.{Config}
-use Rattle.spec.specs.Entry.{bitSet, present, writable, switch, frameOf}
+use Rattle.spec.specs.Entry.{bitSet, present, writable, switch, frameOf, frameLimit, entryLimit}
 use Rattle.spec.specs.Refusal.{inGuestArea}
 use Rattle.layout.specs.declared.HostWalk.the-variants.{Found}
 use Rattle.layout.specs.Layout.{page, leafOf}
@@ -41,15 +41,15 @@ module _ (f : ℕ) where
   unfolding switch bitSet
   entry-switch s w = is-bit (entryFor f s w / 2 ^ 9 % 2) s (fields s w .2)
 
-  pub entry-frame : (s w : Bool) → f < 1099511627776 → frameOf (entryFor f s w) ≡ f
+  pub entry-frame : (s w : Bool) → f < frameLimit → frameOf (entryFor f s w) ≡ f
   unfolding frameOf
   entry-frame s w l = omega (arith, fields s w .3)
 
   -- it fits below the header bits
-  pub entry-small : (s w : Bool) → f < 1099511627776 → entryFor f s w < 4503599627370496
+  pub entry-small : (s w : Bool) → f < frameLimit → entryFor f s w < entryLimit
   entry-small s w l = omega (arith, fields s w .3)
 
   -- read back, it is the frame and the write right
-  pub entry-found : (c : Config) (s w : Bool) (n : ℕ) → f < 1099511627776 → inGuestArea c f ≡ true → leafOf c (entryFor f s w) n ≡ Found (page f) w
+  pub entry-found : (c : Config) (s w : Bool) (n : ℕ) → f < frameLimit → inGuestArea c f ≡ true → leafOf c (entryFor f s w) n ≡ Found (page f) w
   unfolding leafOf
   entry-found c s w n l g = rw (entry-present s w, entry-frame s w l, entry-writable s w, g)

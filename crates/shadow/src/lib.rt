@@ -2,7 +2,7 @@
 ghost use mathlib.Core.Path.{_≡_};
 ghost use mathlib.Core.Bool.{cond};
 ghost use Prim.Native.Nat.{_+_, _-_, _<_, _≤_};
-ghost use Rattle.spec.specs.Entry.{indexes};
+ghost use Rattle.spec.specs.Entry.{indexes, frameLimit};
 ghost use Rattle.layout.specs.Layout.{LayoutFits, config};
 ghost use Rattle.shadow.specs.Held.{shadowArea, heldOf, entryFor};
 ghost use Rattle.shadow.specs.Fill.{fillOf};
@@ -38,7 +38,7 @@ pub fn held(mem: &[u64], l: Layout, top: u64, path: u64, k: u64) -> HostWalk
 }
 
 // A bit of an entry, by its value.
-pub fn bit_if(set: bool, value: u64) -> u64
+fn bit_if(set: bool, value: u64) -> u64
     ensures { λ r. ⌜ r ≡ cond set value 0 ⌝ }
 {
     if set { value } else { 0 }
@@ -46,7 +46,7 @@ pub fn bit_if(set: bool, value: u64) -> u64
 
 // The entry of a held path.
 pub fn entry_for(frame: HostPhysical, switch: bool, writable: bool) -> u64
-    requires { ⌜ frame .0 < 1099511627776 ⌝ }
+    requires { ⌜ frame .0 < frameLimit ⌝ }
     ensures { λ r. ⌜ r ≡ entryFor (frame .0) switch writable ⌝ }
 {
     frame.0 * 4096 + bit_if(switch, 512) + bit_if(writable, 2) + 1
@@ -81,8 +81,8 @@ pub fn fill(
 // ---- watched frames
 
 // Whether frame f is a table that stands for a guest table in host frame t.
-pub fn watches(mem: &[u64], f: u64, t: u64) -> bool
-    requires { ⌜ f < 1099511627776 ⌝ }
+fn watches(mem: &[u64], f: u64, t: u64) -> bool
+    requires { ⌜ f < frameLimit ⌝ }
     ensures { λ r. ⌜ r ≡ watchesOf (now (mem .entry)) f t ⌝ }
 {
     if pool::level(mem, f) == 0 {

@@ -9,7 +9,7 @@ use mathlib.Core.List.{List, [], _∷_}
 use lib.Dec.{eqb, ltb}
 use Rattle.spec.specs.declared.Fault.the-variants as fault
 use Rattle.spec.specs.Config.{Config}
-use Rattle.spec.specs.Entry.{present, writable, frameOf, indexes, pageOf}
+use Rattle.spec.specs.Entry.{present, writable, frameOf, indexes, pageOf, frameLimit}
 use Rattle.spec.specs.Refusal.{inGuestArea}
 use Rattle.spec.specs.Plain.{next, levels, walk}
 use Rattle.area.specs.declared.Look.{Look}
@@ -104,5 +104,5 @@ module _ (c : Config) (P : ℕ → Type 0) (all : (f : ℕ) → InGuestArea c f 
       go false false q = k q
 
 -- the frame in the record, as a number that a place of a word can be made of
-pub held-small : (c : Config) (h : Held) → HeldFits c h → c .frames ≤ 65536 → h .frame .0 < 1099511627776
+pub held-small : (c : Config) (h : Held) → HeldFits c h → c .frames ≤ 65536 → h .frame .0 < frameLimit
 held-small c h f l = elim (f .1) [ inl z ↦ omega (arith, z) | inr g ↦ omega (arith, g .1) ]

@@ -1,6 +1,7 @@
 // From an address and its depth to a host frame or a fault: a held path is found, or the guest tables are walked and the path filled.
 ghost use mathlib.Core.Path.{_≡_};
 ghost use Prim.Native.Nat.{_<_, _≤_};
+ghost use Rattle.spec.specs.Entry.{frameLimit};
 ghost use Rattle.words.specs.After.{yields};
 ghost use Rattle.layout.specs.Layout.{LayoutFits, config};
 ghost use Rattle.translate.specs.Translate.{exitBy, directOf, servedOf, servesOf, pathOf, foundOf, filledOf, missedOf, plainOf, translateOf};
@@ -61,7 +62,7 @@ pub fn exit_of(walked: Walked) -> u64
 
 // The walk on from the guest table of the request's depth, or from its page at depth 0.
 fn direct(mem: &[u64], s: Space, q: Request, page: HostPhysical, writable: bool) -> Walked
-    requires { ⌜ (LayoutFits (s .layout)) × (q .depth ≤ s .layout .levels) × (page .0 < 1099511627776) ⌝ }
+    requires { ⌜ (LayoutFits (s .layout)) × (q .depth ≤ s .layout .levels) × (page .0 < frameLimit) ⌝ }
     ensures { λ r. ⌜ r ≡ directOf (config (s .layout)) (s .top) (now (mem .entry)) (q .store) (q .address .0) (q .depth) (page .0) writable ⌝ }
 {
     if q.depth == 0 {
@@ -95,7 +96,7 @@ fn serve(
     writable: bool,
     exits: u64,
 ) -> Translated
-    requires { ⌜ (LayoutFits (s .layout)) × (q .depth ≤ s .layout .levels) × (page .0 < 1099511627776) × (exits ≤ 65536) ⌝ }
+    requires { ⌜ (LayoutFits (s .layout)) × (q .depth ≤ s .layout .levels) × (page .0 < frameLimit) × (exits ≤ 65536) ⌝ }
     ensures { λ r. ⌜ r ≡ servedOf (config (s .layout)) (s .top) (now (mem .entry)) held (q .store) (q .address .0) (q .depth) (page .0) writable exits ⌝ }
 {
     let walked = direct(mem, s, q, page, writable);
@@ -166,7 +167,7 @@ fn filled(
     page: HostPhysical,
     writable: bool,
 ) -> Translated
-    requires { ⌜ (LayoutFits (s .layout)) × (q .depth ≤ s .layout .levels) × (page .0 < 1099511627776) ⌝ }
+    requires { ⌜ (LayoutFits (s .layout)) × (q .depth ≤ s .layout .levels) × (page .0 < frameLimit) ⌝ }
     ensures { λ r. ⌜ yields r (now (mem .exit)) ≡ filledOf (config (s .layout)) (s .top) (now (mem .entry)) held (now (guests .entry)) (q .store) (q .address .0) (q .depth) (page .0) writable ⌝ }
 {
     let l = s.layout;
@@ -271,7 +272,7 @@ pub fn translate(
     held: Held,
     q: Request,
 ) -> Translated
-    requires { ⌜ (LayoutFits (s .layout)) × (held .frame .0 < 1099511627776) ⌝ }
+    requires { ⌜ (LayoutFits (s .layout)) × (held .frame .0 < frameLimit) ⌝ }
     ensures { λ r. ⌜ yields r (now (mem .exit)) ≡ translateOf (config (s .layout)) (s .top) (now (mem .entry)) held (root .0) (q .store) (q .address .0) (q .depth) ⌝ }
 {
     if s.layout.levels < q.depth {

@@ -4,7 +4,7 @@ ghost use mathlib.Core.Path.{_≡_};
 ghost use mathlib.Core.Bool.{true, false, _&&_, _||_, not};
 ghost use Prim.Native.Nat.{_+_, _<_, _≤_};
 ghost use lib.Dec.{eqb};
-ghost use Rattle.spec.specs.Entry.{indexes};
+ghost use Rattle.spec.specs.Entry.{indexes, frameLimit};
 ghost use Rattle.spec.specs.Plain.{next, levels, walk};
 ghost use Rattle.layout.specs.Layout.{LayoutFits, config};
 ghost use Rattle.walk.specs.Memory.{foundOf, walkedOf, trailOf, turn};
@@ -35,14 +35,14 @@ pub fn granted(store: bool, right: bool) -> bool
     if store { right } else { true }
 }
 
-pub fn both(a: bool, b: bool) -> bool
+fn both(a: bool, b: bool) -> bool
     ensures { λ r. ⌜ r ≡ (a && b) ⌝ }
 {
     if a { b } else { false }
 }
 
 // On to the guest table in frame g. Reading a table needs no write right.
-pub fn to_table(mem: &[u64], s: Space, g: GuestPhysical, right: bool, read: u64) -> Walked
+fn to_table(mem: &[u64], s: Space, g: GuestPhysical, right: bool, read: u64) -> Walked
     requires { ⌜ (LayoutFits (s .layout)) × (read ≤ 65536) ⌝ }
     ensures { λ r. ⌜ r ≡ walkedOf (config (s .layout)) (s .top) (now (mem .entry)) read (next false false (g .0) right) ⌝ }
 {
@@ -61,7 +61,7 @@ pub fn to_table(mem: &[u64], s: Space, g: GuestPhysical, right: bool, read: u64)
 }
 
 // The page is found: a store needs its write right.
-pub fn to_found(
+fn to_found(
     store: bool,
     g: GuestPhysical,
     page: HostPhysical,
@@ -122,7 +122,7 @@ pub fn to_page(
 }
 
 // On to the frame g that an entry of a level names.
-pub fn to_frame(
+fn to_frame(
     mem: &[u64],
     s: Space,
     store: bool,
@@ -142,7 +142,7 @@ pub fn to_frame(
 }
 
 // One level: the entry at index i of a table, and on to the frame that it names.
-pub fn descend(
+fn descend(
     mem: &[u64],
     s: Space,
     store: bool,
@@ -152,7 +152,7 @@ pub fn descend(
     right: bool,
     read: u64,
 ) -> Walked
-    requires { ⌜ (LayoutFits (s .layout)) × (read ≤ 65535) × (table .0 < 1099511627776) × (i < 512) ⌝ }
+    requires { ⌜ (LayoutFits (s .layout)) × (read ≤ 65535) × (table .0 < frameLimit) × (i < 512) ⌝ }
     ensures { λ r. ⌜ r ≡ walkedOf (config (s .layout)) (s .top) (now (mem .entry)) read (turn (config (s .layout)) store level (table .0) i right) ⌝ }
 {
     let e = words::word_in(mem, table.0, i);
@@ -200,7 +200,7 @@ pub fn walk_tables(
     right: bool,
     read: u64,
 ) -> Trail
-    requires { ⌜ (LayoutFits (s .layout)) × (k + below ≤ s .layout .levels) × (read ≤ 1024) × (table .0 < 1099511627776) ⌝ }
+    requires { ⌜ (LayoutFits (s .layout)) × (k + below ≤ s .layout .levels) × (read ≤ 1024) × (table .0 < frameLimit) ⌝ }
     ensures { λ r. ⌜ r ≡ trailOf (config (s .layout)) (s .top) (now (mem .entry)) read (levels (config (s .layout)) store (below + k) (table .0) right (indexes k path)) ⌝ }
 {
     let mut left = k;

@@ -2,6 +2,7 @@
 ghost use mathlib.Core.Path.{_≡_};
 ghost use Prim.Native.Nat.{_*_, _<_};
 ghost use lib.ListN.{getD, set};
+ghost use Rattle.spec.specs.Entry.{frameLimit};
 ghost use Rattle.words.specs.Words.{wordIn, setIn, zeroed};
 
 // The word at a place, and 0 past the end.
@@ -22,7 +23,7 @@ pub fn set_word(mem: &mut [u64], place: usize, value: u64)
 
 // A word of a frame.
 pub fn word_in(mem: &[u64], frame: u64, i: u64) -> u64
-    requires { ⌜ (frame < 1099511627776) × (i < 512) ⌝ }
+    requires { ⌜ (frame < frameLimit) × (i < 512) ⌝ }
     ensures { λ r. ⌜ r ≡ wordIn (now (mem .entry)) frame i ⌝ }
 {
     word_at(mem, (frame * 512 + i) as usize)
@@ -30,7 +31,7 @@ pub fn word_in(mem: &[u64], frame: u64, i: u64) -> u64
 
 // A store to a word of a frame.
 pub fn set_in(mem: &mut [u64], frame: u64, i: u64, value: u64)
-    requires { ⌜ (frame < 1099511627776) × (i < 512) ⌝ }
+    requires { ⌜ (frame < frameLimit) × (i < 512) ⌝ }
     ensures { λ r. ⌜ now (mem .exit) ≡ setIn (now (mem .entry)) frame i value ⌝ }
 {
     set_word(mem, (frame * 512 + i) as usize, value);
@@ -38,7 +39,7 @@ pub fn set_in(mem: &mut [u64], frame: u64, i: u64, value: u64)
 
 // A whole frame is set to 0.
 pub fn zero_frame(mem: &mut [u64], frame: u64)
-    requires { ⌜ frame < 1099511627776 ⌝ }
+    requires { ⌜ frame < frameLimit ⌝ }
     ensures { λ r. ⌜ now (mem .exit) ≡ zeroed (now (mem .entry)) (frame * 512) 512 ⌝ }
 {
     let base = frame as usize * 512;

@@ -2,7 +2,7 @@ use Prim.Native.Nat.{_+_, _-_, _<_}
 use native.Mathlib.Omega.{arith}
 use mathlib.Core.Path.{_≡_, sym, _∙_}
 use lib.ListN.{length}
-use Rattle.spec.specs.Entry.{index, indexes}
+use Rattle.spec.specs.Entry.{index, indexes, frameLimit}
 use Rattle.area.specs.Tree.{onward, downOf}
 use Rattle.pool.proofs.Laws.{AreaGood}
 use Rattle.area.proofs.Laws.{descend-good, down-step, down-last}
@@ -13,7 +13,7 @@ use Rattle.area.proofs.down.Tie as tie
 use Rattle.words.specs.After.{yields}
 
 abbrev Inv-loop : tie.InvT-loop
-Inv-loop a guests mem₀ f g k e cur₀ t₀ left₀ depth₀ mem cur t left depth = (left + depth ≡ k - 1) × (t < 1099511627776) × (length mem ≡ length mem₀) × (downOf a guests cur mem depth t (index left g) (indexes left g) e ≡ downOf a guests cur₀ mem₀ depth₀ t₀ (index left₀ g) (indexes left₀ g) e)
+Inv-loop a guests mem₀ f g k e cur₀ t₀ left₀ depth₀ mem cur t left depth = (left + depth ≡ k - 1) × (t < frameLimit) × (length mem ≡ length mem₀) × (downOf a guests cur mem depth t (index left g) (indexes left g) e ≡ downOf a guests cur₀ mem₀ depth₀ t₀ (index left₀ g) (indexes left₀ g) e)
 
 abbrev μ-loop : tie.MeasureT-loop
 μ-loop a guests mem₀ f g k e cur₀ t₀ left₀ depth₀ mem cur t left depth = left

@@ -1,4 +1,4 @@
--- 1099511627776 is 2 ^ 40. Assumes nothing.
+-- The constant is 2 ^ 40. Assumes nothing.
 use mathlib.Core.Path.{refl}
 use Rattle.spec.specs.Entry.{frameOf}
 use Rattle.entry.proofs.frame_of.Statement.{statement}

@@ -1,6 +1,7 @@
 use Prim.Native.Nat.{_<_}
 use native.Mathlib.Omega.{arith}
 use borrow.Author.Tests.{lt-ltb, le-ltb}
+use Rattle.spec.specs.Entry.{frameLimit}
 use Rattle.layout.specs.Layout.{config}
 use Rattle.translate.specs.Translate.{translateOf}
 use Rattle.translate.proofs.Fits.{found-is}
@@ -22,7 +23,7 @@ serve-requires c κs =
     let if1 = c .before .before .before .before .before .before .before .before .if1 in
     let found = c .before .before .before .before .before .before .found in
     let page = c .before .before .before .before .page in
-    let at = rw (← found .ensures, page .given .1) at (found-is (config (args .s .layout)) (λ f. f < 1099511627776) (λ f g. omega (arith, g .1, pre .0)) (args .mem .now) (args .held) (args .q .address .0) (args .q .depth) (λ z. pre .1)) in
+    let at = rw (← found .ensures, page .given .1) at (found-is (config (args .s .layout)) (λ f. f < frameLimit) (λ f g. omega (arith, g .1, pre .0)) (args .mem .now) (args .held) (args .q .address .0) (args .q .depth) (λ z. pre .1)) in
     (pre .0, if1 .left, at, omega arith)
 
 returns-2 : tie.Need-returns-2

@@ -3,7 +3,7 @@ use mathlib.Core.Path.{_≡_, refl, sym, _∙_}
 use Prim.Native.Nat.{_+_, _-_, _*_, _≤_, _<_}
 use native.Mathlib.Omega.{arith}
 use lib.ListN.{set}
-use Rattle.spec.specs.Entry.{indexes}
+use Rattle.spec.specs.Entry.{indexes, frameLimit}
 use Rattle.spec.specs.Plain.{levels}
 use Rattle.layout.specs.Layout.{config}
 use Rattle.entry.proofs.Entries.{index-fits}
@@ -16,7 +16,7 @@ use Rattle.walk.proofs.walk_tables.Tie as tie
 
 abbrev Inv-loop : tie.InvT-loop
 Inv-loop mem s store path k below right read left₀ at₀ w₀ n₀ tables₀ depth₀ left at w n tables depth =
-    (left ≤ k) × (at < 1099511627776) × (n + 6 * left ≤ 1024 + 6 * k) × (depth + left ≡ k)
+    (left ≤ k) × (at < frameLimit) × (n + 6 * left ≤ 1024 + 6 * k) × (depth + left ≡ k)
     × (trailFrom (config (s .layout)) (s .top) mem tables depth n (levels (config (s .layout)) store (below + left) at w (indexes left path))
     ≡ trailFrom (config (s .layout)) (s .top) mem tables₀ 0 n₀ (levels (config (s .layout)) store (below + k) at₀ w₀ (indexes k path)))
 
