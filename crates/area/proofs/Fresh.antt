@@ -1,6 +1,6 @@
 -- No more frames are ever handed out than the area has, whatever the memory holds.
 -- Assumes nothing.
-use Prim.Native.Nat.{ℕ, zero, suc, _+_, _*_, _-_, _≤_}
+use Prim.Native.Nat.{ℕ, _+_, _*_, _-_, _≤_}
 use native.Mathlib.Omega.{arith}
 use mathlib.Core.Path.{_≡_, refl}
 use mathlib.Core.Bool.{Bool, true, false, cond}
@@ -13,10 +13,9 @@ use Rattle.pool.specs.declared.Area.{Area}
 use Rattle.pool.specs.declared.Pool.{Pool}
 use Rattle.pool.specs.declared.Way.{Way}
 use Rattle.pool.specs.declared.Way.the-variants as way
-use Rattle.pool.specs.Header.{entryIn, putOf, parentOf, slotOf, insideOf, bareOf}
-use Rattle.pool.specs.Pool.{followOf, onWay, end, poolOf, noneOf, withTop, freshOf, freedOf, takeOf, withFreed, freeWords}
+use Rattle.pool.specs.Header.{entryIn}
+use Rattle.pool.specs.Pool.{followOf, onWay, end, poolOf, noneOf, withTop, freshOf, freedOf, takeOf}
 use Rattle.area.specs.Tree.{roomOf, headed, tableOf, topped, topOf, enterOf, attached, attachOf, descendOf, downOf, placeOf, insertOf}
-use Rattle.area.specs.Remove.{detachOf, releaseTop, releaseOf}
 use Rattle.words.specs.After.{After}
 use Rattle.pool.specs.declared.Went.{Went}
 
@@ -29,7 +28,7 @@ none-fits a = omega arith
 
 -- ---- the area's steps
 module _ (a : Area) where
-  abbrev Fits : After Went → Type 0
+  abbrev pub Fits : After Went → Type 0
   Fits t = PoolFits a (t .result .pool)
 
   fresh-fits : (p : Pool) (m : List ℕ) → PoolFits a p → Fits (freshOf a p m)
@@ -142,39 +141,3 @@ module _ (a : Area) where
       go (way.To n) = place-fits guests p m i is e h
       go way.Not = h
       go way.Damaged = h
-
-  detach-fits : (p : Pool) (m : List ℕ) (f : ℕ) → PoolFits a p → Fits (detachOf a p m f)
-  unfolding detachOf withFreed
-  detach-fits p m f h = go (bareOf m f 512) (insideOf (a .base) (a .size) (parentOf m f))
-    where
-      go : (b d : Bool)
-          → Fits (cond b (cond d (end (withFreed p f) (way.To (parentOf m f)) (freeWords (putOf m (parentOf m f) (slotOf m f) 0) f (p .free))) (end p way.Damaged m)) (end p way.Not m))
-      go true true = h
-      go true false = h
-      go false d = h
-
-  release-top-fits : (stays : Bool) (p : Pool) (m : List ℕ) (f : ℕ) → PoolFits a p → Fits (releaseTop stays p m f)
-  unfolding releaseTop withFreed withTop
-  release-top-fits stays p m f h = go stays (bareOf m f 512)
-    where
-      go : (b d : Bool) → Fits (cond b (end p (way.To f) m) (cond d (end (withFreed (withTop p 0) f) (way.To f) (freeWords m f (p .free))) (end p (way.To f) m)))
-      go true d = h
-      go false true = h
-      go false false = h
-
-  pub release-fits : (k : ℕ) (stays : Bool) (p : Pool) (m : List ℕ) (f : ℕ) → PoolFits a p → Fits (releaseOf a stays p m k f)
-  unfolding releaseOf
-  release-fits zero stays p m f h = release-top-fits stays p m f h
-  release-fits (suc k) stays p m f h =
-      go (t .result .way) (λ g. release-fits k stays (t .result .pool) (t .memory) g (detach-fits p m f h))
-    where
-      t : After Went
-      t = detachOf a p m f
-
-      go : (w : Way) → ((g : ℕ) → Fits (releaseOf a stays (t .result .pool) (t .memory) k g))
-          → Fits (onWay w (end (t .result .pool) (way.To f) (t .memory)) (end (t .result .pool) way.Damaged (t .memory)) (λ g. releaseOf a stays (t .result .pool) (t .memory) k g))
-      go (way.To g) next = next g
-      go way.Not next = detach-fits p m f h
-      go way.Damaged next = detach-fits p m f h
-
--- ---- fill and drops

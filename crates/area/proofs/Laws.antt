@@ -1,7 +1,7 @@
 -- The steps of the loops' definitions, and what tables handed out and lookups always satisfy.
 -- Assumes nothing.
 use mathlib.Core.Path.{_≡_, refl, sym, ap}
-use Prim.Native.Nat.{ℕ, zero, suc, _+_, _-_, _≤_, _<_}
+use Prim.Native.Nat.{ℕ, _+_, _-_, _≤_, _<_}
 use native.Mathlib.Omega.{arith}
 use mathlib.Core.Bool.{Bool, true, false}
 use mathlib.Core.List.{List, [], _∷_}
@@ -18,18 +18,11 @@ use Rattle.pool.specs.declared.Way.the-variants.{To, Not, Damaged}
 use Rattle.area.specs.declared.Look.{Look}
 use Rattle.area.specs.declared.Look.the-variants.{Seen}
 use Rattle.area.specs.declared.Look.the-variants as look
-use Rattle.pool.specs.Header.{entryIn, putOf, parentOf, insideOf, bareOf}
+use Rattle.pool.specs.Header.{entryIn, putOf}
 use Rattle.spec_laws.proofs.Indexes.{indexes-step}
 use Rattle.pool.specs.Pool.{followOf, onWay, end, takeOf}
 use Rattle.area.specs.Tree.{lookOf, headed, tableOf, topped, topOf, enterOf, attached, attachOf, descendOf, onward, downOf}
-use Rattle.area.specs.Remove.{detachOf, releaseTop, releaseOf, lastOf, lastIndex}
-use Rattle.pool.proofs.Laws.{inside-true, follow-good, Small, follow-small, AreaGood, take-good}
-
--- ---- indexes
-pub indexes-last : (k g : ℕ) → lastIndex (index k g) (indexes k g) ≡ index 0 g
-unfolding lastIndex indexes
-indexes-last zero g = refl
-indexes-last (suc k) g = indexes-last k g
+use Rattle.pool.proofs.Laws.{follow-good, AreaGood, take-good}
 
 -- ---- what is handed out lies in the area
 pub table-good : (a : Area) (p : Pool) (m : List ℕ) (guest level parent slot : ℕ) → AreaGood a (tableOf a p m guest level parent slot .result .way)
@@ -78,15 +71,6 @@ enter-good a p m guest = go (followOf (a .base) (a .size) (p .top)) (follow-good
     go Not g = top (new .result .way) (table-good a p m guest (a .levels) 0 0)
     go Damaged g = tt
 
-pub detach-good : (a : Area) (p : Pool) (m : List ℕ) (f : ℕ) → AreaGood a (detachOf a p m f .result .way)
-unfolding detachOf
-detach-good a p m f = go (bareOf m f 512) (insideOf (a .base) (a .size) (parentOf m f)) refl refl
-  where
-    go : (t u : Bool) → bareOf m f 512 ≡ t → insideOf (a .base) (a .size) (parentOf m f) ≡ u → AreaGood a (detachOf a p m f .result .way)
-    go true true q r = rw (q, r) (inside-true (a .base) (a .size) (parentOf m f) r)
-    go true false q r = rw (q, r) tt
-    go false u q r = rw q tt
-
 -- ---- loops
 pub look-step : (b s : ℕ) (m : List ℕ) (e g left n : ℕ) → 0 < left
     → lookOf b s m e (indexes left g) n
@@ -125,40 +109,6 @@ pub down-last : (a : Area) (guests : List ℕ) (p : Pool) (m : List ℕ) (d f g 
     → downOf a guests p m d f (index 0 g) (indexes 0 g) e ≡ end p (To f) (putOf m f (index 0 g) e)
 unfolding downOf indexes
 down-last a guests p m d f g e = refl
-
-pub release-step : (a : Area) (stays : Bool) (p : Pool) (m : List ℕ) (k f : ℕ) → 0 < k
-    → releaseOf a stays p m k f
-    ≡ (let t = detachOf a p m f in
-    onWay (t .result .way) (end (t .result .pool) (To f) (t .memory)) (end (t .result .pool) Damaged (t .memory)) (λ h. releaseOf a stays (t .result .pool) (t .memory) (k - 1) h))
-unfolding releaseOf
-release-step a stays p m zero f l = absurd (omega arith)
-release-step a stays p m (suc k) f l =
-    let d : suc k - 1 ≡ k = omega arith in
-    simp d
-
-pub release-none : (a : Area) (stays : Bool) (p : Pool) (m : List ℕ) (f : ℕ) → releaseOf a stays p m 0 f ≡ releaseTop stays p m f
-unfolding releaseOf
-release-none a stays p m f = refl
-
-pub last-step : (b s : ℕ) (m : List ℕ) (e g left : ℕ) → 0 < left
-    → lastOf b s m e (index left g) (indexes left g)
-    ≡ onWay (followOf b s e) Not Damaged (λ f. lastOf b s m (entryIn m f (index left g)) (index (left - 1) g) (indexes (left - 1) g))
-unfolding lastOf
-last-step b s m e g left l = ap (λ is. lastOf b s m e (index left g) is) (indexes-step left g l)
-
-pub last-none : (b s : ℕ) (m : List ℕ) (e g : ℕ) → lastOf b s m e (index 0 g) (indexes 0 g) ≡ followOf b s e
-unfolding lastOf indexes
-last-none b s m e g = refl
-
-pub last-small : (b s : ℕ) (m : List ℕ) (e i : ℕ) (is : List ℕ) → Small (lastOf b s m e i is)
-unfolding lastOf
-last-small b s m e i [] = follow-small b s e
-last-small b s m e i (j ∷ is) = go (followOf b s e) (λ f. last-small b s m (entryIn m f i) j is)
-  where
-    go : (w : Way) → ((f : ℕ) → Small (lastOf b s m (entryIn m f i) j is)) → Small (onWay w Not Damaged (λ f. lastOf b s m (entryIn m f i) j is))
-    go (To f) h = h f
-    go Not h = tt
-    go Damaged h = tt
 
 pub leb-same : (a b c d : ℕ) → (a ≤ b → c ≤ d) → (b < a → d < c) → leb a b ≡ leb c d
 leb-same a b c d f g = go (leb a b) refl

@@ -1,3 +1,2 @@
 pub mod Tree
-pub mod Remove
 pub mod Outside

@@ -13,7 +13,7 @@ use Rattle.pool.specs.declared.Area.{Area}
 use Rattle.pool.specs.declared.Way.the-variants.{Not}
 use Rattle.pool.specs.Pool.{end}
 use Rattle.area.specs.Tree.{lookOf, insertOf}
-use Rattle.area.specs.Remove.{removeOf}
+use Rattle.prune.specs.Remove.{removeOf}
 use Rattle.area_laws.specs.Run.{Op, put, cut, see, did, saw, State, told, seen, left, answers, after, Map, get, without, paths, wordsRead, specified}
 use Rattle.spec_laws.proofs.Lists.{same-is, same-refl, or-cases, or-left, or-right, is-true}
 use Rattle.spec_laws.proofs.Distinct.{In}

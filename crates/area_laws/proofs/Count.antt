@@ -205,7 +205,7 @@ module _ (ts : List ℕ → Option ℕ) (ps : List (List ℕ)) (once : Once ps) 
       )
 
 module _ {a : Area} {stays : Bool} {p : Pool} {m : List ℕ} {lv guest : List ℕ → ℕ} (h : Holds a stays p m lv guest) where
-  -- ---- tables in use: "the different proper prefixes", and the empty one where the top table stays
+  -- ---- tables in use: one for each different proper prefix, and for the empty one also without a path where the top table stays
   pub used-is : (xs : List (List ℕ)) → Lists lv xs → p .used ≡ distinct (cond stays ([] ∷ allPropers xs) (allPropers xs))
   unfolding onto
   used-is xs l = h .tables .used ∙ sym (by-prefixes (cond stays ([] ∷ allPropers xs) (allPropers xs)) (h .pres) (h .tables .once) from to)
@@ -243,7 +243,7 @@ module _ {a : Area} {stays : Bool} {p : Pool} {m : List ℕ} {lv guest : List �
   pub used-all : (xs : List (List ℕ)) → Lists lv xs → stays ≡ false → p .used ≡ tablesOf xs
   used-all xs l e = used-is xs l ∙ ap (λ t. distinct (cond t ([] ∷ allPropers xs) (allPropers xs))) e
 
-  -- the same wherever there is a path: "The empty prefix counts once"
+  -- the same wherever there is a path: then the empty prefix is among those of the paths
   pub used-some : (w : List ℕ) (xs : List (List ℕ)) → Lists lv xs → In w xs → p .used ≡ tablesOf xs
   unfolding onto
   used-some w xs l k = used-is xs l ∙ go stays (top w k)

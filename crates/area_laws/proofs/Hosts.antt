@@ -20,7 +20,7 @@ use Rattle.pool.specs.declared.Way.the-variants.{Not}
 use Rattle.area.specs.declared.Look.the-variants.{Seen}
 use Rattle.pool.specs.Pool.{end}
 use Rattle.area.specs.Tree.{lookOf, insertOf}
-use Rattle.area.specs.Remove.{removeOf}
+use Rattle.prune.specs.Remove.{removeOf}
 use Rattle.area_laws.specs.Run.{get, without, paths, wordsRead}
 use Rattle.area_laws.specs.Host.{hostEntry, entryBy, hostMap}
 use Rattle.spec_laws.proofs.Lists.{All}
@@ -109,7 +109,7 @@ module _ (c : Config) (g : ℕ) (small : g < 2 ^ (9 * c .levels)) where
       go true q ih = rw q ih
       go false q ih = rw q (ap (λ l. (indexes (c .levels) (x .guest), hostEntry (x .to) (x .right)) ∷ l) ih)
 
-  -- "A mapped frame is mapped anew"
+  -- the entry that is set takes the place of the one that the frame had
   leaves-with : (xs : List Mapping) → Frames c xs → (f : ℕ) (w : Bool) (y : List ℕ)
       → upd (leaves (hostMap c xs)) (onto [] is) (hostEntry f w) y ≡ leaves (hostMap c (with g f w xs)) y
   unfolding get hostMap is
@@ -143,7 +143,7 @@ module _ (c : Config) (g : ℕ) (small : g < 2 ^ (9 * c .levels)) where
             reads-leaf h is fits (λ z. present-set (hostEntry (r .0) (r .1)) (entry-present (r .0) (r .1)) (sym (there ∙ ap entryBy e) ∙ z))
             ∙ indexes-length (c .levels) g
 
-    -- ---- a frame is mapped: "10 exactly if the host tables, counted as different proper prefixes of mapped frames, would exceed H"
+    -- ---- a frame is mapped if the mappings with it need at most H host tables; else nothing is done: 10
     module _ (f : ℕ) (w : Bool) where
       listed : Lists (upd (leaves (hostMap c xs)) (onto [] is) (hostEntry f w)) (hostPaths c (with g f w xs))
       listed = subst (Lists (upd (leaves (hostMap c xs)) (onto [] is) (hostEntry f w))) (host-paths c (with g f w xs))
@@ -160,7 +160,7 @@ module _ (c : Config) (g : ℕ) (small : g < 2 ^ (9 * c .levels)) where
       unfolding is
       host-full l = insert-not h is (hostEntry f w) fits (entry-present f w) (hostPaths c (with g f w xs)) listed [] (no-guests 0 [] is) l
 
-    -- ---- a frame is unmapped: "12 if not mapped. Emptied host tables can be used again"
+    -- ---- a frame is unmapped, and tables that are empty then are free again; if it is not mapped nothing is done: 12
     pub host-unmap : (r : ℕ × Bool) → lookup g xs ≡ some r → Next a true p m (leaves (hostMap c (machine.without g xs))) (λ y. 0) (removeOf a true p m (indexes (c .levels) g))
     unfolding is
     host-unmap r e = next-leaves (leaves (hostMap c (machine.without g xs))) (leaves-without xs k)

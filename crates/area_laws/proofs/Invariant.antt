@@ -36,7 +36,7 @@ pub present-link : (f : ℕ) → present (link f) ≡ true
 unfolding present bitSet link
 present-link f = let o : (f * 4096 + 1) / 2 ^ 0 % 2 ≡ 1 = omega arith in rw (eq-eqb _ _ o)
 
--- "Bit 9 is the switch bit": no entry that names a table has it
+-- an entry that names a table has no switch bit
 pub switch-link : (f : ℕ) → switch (link f) ≡ false
 unfolding switch bitSet link
 switch-link f = let o : (f * 4096 + 1) / 2 ^ 9 % 2 ≡ 0 = omega arith in rw o

@@ -15,7 +15,7 @@ use Rattle.pool.specs.declared.Pool.{Pool}
 use Rattle.pool.specs.declared.Way.the-variants.{To, Not}
 use Rattle.pool.specs.Header.{levelOf, parentOf, bareOf}
 use Rattle.pool.specs.Pool.{end, withTop, withFreed, freeWords}
-use Rattle.area.specs.Remove.{detachOf, releaseTop, releaseOf}
+use Rattle.prune.specs.Remove.{detachOf, releaseTop, releaseOf}
 use Rattle.spec_laws.proofs.Distinct.{without}
 use Rattle.area_laws.proofs.Change.{differ, eq?, upd, upd-on, upd-other, longer, not-some, is-some}
 use Rattle.area_laws.proofs.Stores.{Beside, beside-refl, beside-trans}

@@ -14,7 +14,7 @@ use Rattle.pool.specs.declared.Way.{Way}
 use Rattle.pool.specs.declared.Way.the-variants.{To, Not, Damaged}
 use Rattle.pool.specs.Header.{entryIn, putOf}
 use Rattle.pool.specs.Pool.{followOf, onWay, end}
-use Rattle.area.specs.Remove.{releaseOf, lastOf, lastIndex, clearOf, removeOf}
+use Rattle.prune.specs.Remove.{releaseOf, lastOf, lastIndex, clearOf, removeOf}
 use Rattle.area_laws.proofs.Change.{upd}
 use Rattle.area_laws.proofs.Stores.{beside-trans}
 use Rattle.area_laws.proofs.Paths.{onto, Small, Clear}

@@ -19,7 +19,7 @@ use Rattle.pool.specs.declared.Pool.{Pool}
 use Rattle.pool.specs.declared.Way.the-variants.{To, Not}
 use Rattle.pool.specs.Header.{entryIn, putOf, levelOf, parentOf, slotOf, bareOf}
 use Rattle.pool.specs.Pool.{end, noneOf, withTop, withFreed, freeWords}
-use Rattle.area.specs.Remove.{detachOf, releaseTop}
+use Rattle.prune.specs.Remove.{detachOf, releaseTop}
 use Rattle.spec_laws.proofs.Lists.{same-is, same-refl}
 use Rattle.spec_laws.proofs.Distinct.{In, without, without-in, without-out, without-once, without-one}
 use Rattle.area_laws.proofs.Change.{differ, eq?, upd, upd-on, upd-other, no-empty, some-inj, not-some, is-some}
@@ -55,7 +55,7 @@ bare-false m f (suc n) e = go (present (entryIn m f n)) refl e (bare-false m f n
     go true q k ih = record { index = n; less = omega arith; set = q }
     go false q k ih = let s = ih k in let l = s .less in record { index = s .index; less = omega arith; set = s .set }
 
--- ---- nothing is in use, whatever the words are: "all held paths are dropped"
+-- ---- nothing is in use, whatever the words are: so it is once all paths are dropped
 pub dropped : (a : Area) (guest : List ℕ → ℕ) (m : List ℕ) → a .base + a .size ≤ 65536 → a .levels < 8 → (a .base + a .size) * 512 ≤ length m
     → Tables a noneOf (λ x. none) (λ x. 0) guest [] [] m
 unfolding noneOf

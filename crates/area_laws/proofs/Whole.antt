@@ -18,7 +18,7 @@ use Rattle.pool.specs.declared.Way.the-variants.{To, Not}
 use Rattle.area.specs.declared.Look.the-variants.{Seen}
 use Rattle.pool.specs.Pool.{end, noneOf}
 use Rattle.area.specs.Tree.{lookOf, roomOf, enterOf, placeOf, insertOf}
-use Rattle.area.specs.Remove.{removeOf}
+use Rattle.prune.specs.Remove.{removeOf}
 use Rattle.area_laws.proofs.Change.{eq?, upd, upd-at, upd-other, is-some}
 use Rattle.area_laws.proofs.Stores.{SameFrame, frame-head, frame-entry, Beside, set-else}
 use Rattle.area_laws.proofs.Paths.{onto, onto-long, Small, Ext, pre-ext, Clear, clear-by, Guests}
@@ -292,7 +292,7 @@ module _ {a : Area} {stays : Bool} {p : Pool} {m : List ℕ} {lv guest : List �
   holds-absent [] f gone = absurd (let l = f .nonempty in omega arith)
   holds-absent (i ∷ is) f gone = remove-absent (h .tables) stays i is (f .small) (on-way h (i ∷ is) f) (at-end h (i ∷ is) f) gone
 
--- ---- a path in an area with nothing in it: "If a new path would make them more than S, all held paths are dropped first"
+-- ---- a path in an area with nothing in it, as after all paths were dropped for want of tables
 pub first-insert : (a : Area) (guest : List ℕ → ℕ) (gs m is : List ℕ) (e : ℕ) → a .base + a .size ≤ 65536 → a .levels < 8 → (a .base + a .size) * 512 ≤ length m
     → 0 < length is → length is ≤ a .levels → length is ≤ a .size → Small is → Guests guest gs 0 [] is → e < entryLimit → present e ≡ true
     → Next a false noneOf m (upd (λ x. 0) (onto [] is) e) guest (insertOf a gs noneOf m is e)

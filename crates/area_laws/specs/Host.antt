@@ -9,7 +9,7 @@ use Rattle.spec.specs.Entry.{indexes}
 use Rattle.spec.specs.Machine.{Mapping}
 use Rattle.area_laws.specs.Run.{Map}
 
--- the level 1 host entry of a frame: "bit 0 present, bit 1 writable, bits 12 to 51 frame number"
+-- the level 1 host entry of a frame: bit 0 set, bit 1 if it may be written, the frame number from bit 12 on
 unfoldable pub hostEntry : ℕ → Bool → ℕ
 hostEntry f w = f * 4096 + cond w 3 1
 

@@ -15,7 +15,7 @@ use Rattle.area.specs.declared.Look.{Look}
 use Rattle.area.specs.declared.Look.the-variants.{Seen}
 use Rattle.area.specs.declared.Look.the-variants as look
 use Rattle.area.specs.Tree.{lookOf, insertOf}
-use Rattle.area.specs.Remove.{removeOf}
+use Rattle.prune.specs.Remove.{removeOf}
 use Rattle.words.specs.After.{After}
 use Rattle.pool.specs.declared.Went.{Went}
 

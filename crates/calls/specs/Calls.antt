@@ -1,12 +1,14 @@
 -- The calls of the unit, as total definitions over any record, any memory and any numbers.
 -- Assumes nothing.
 use Prim.Native.Nat.{ℕ, _-_, _*_, _/_, _^_, _≤_}
+use mathlib.Core.Path.{_≡_}
 use mathlib.Core.Bool.{Bool, true, false, _&&_, cond}
 use mathlib.Core.List.{List}
 use lib.Dec.{eqb, ltb}
 use lib.ListN.{length}
 use Rattle.spec.specs.declared.Answer.{Answer}
 use Rattle.spec.specs.declared.Answer.the-variants as answer
+use Rattle.spec.specs.Answer.{line}
 use Rattle.spec.specs.declared.Call.{Call}
 use Rattle.spec.specs.declared.Call.the-variants.{Root as root, Map as map, Unmap as unmap, SetMark as setMark, ClearMark as clearMark, Load as load, Store as store, Device as device}
 use Rattle.spec.specs.Entry.{pageOf, indexes}
@@ -84,9 +86,14 @@ withHost r p = withHead r (headHost (headOf r) p)
 abbrev pub ended : Record → Answer → List ℕ → After Reply
 ended r x m = yields (record { unit = r; answer = x }) m
 
--- "A refusal returns its number with the record given"
+-- a refusal says its number and hands the record back as it was given
 abbrev pub refused : Record → ℕ → List ℕ → After Reply
 refused r n m = ended r (answer.Refused n) m
+
+-- what a call by value promises: its reply and its memory are those of the definition, and so is its line, in document 01's numbers
+pub record Promises (r : Reply) (m : List ℕ) (e : After Reply) : Type 0 where
+  pub leaves : yields r m ≡ e
+  pub says : line (r .answer) ≡ line (e .result .answer)
 
 abbrev pub servedReply : Record → Served → Reply
 servedReply r s = record { unit = withHeld r (s .held); answer = s .answer }
@@ -102,7 +109,7 @@ servedBy r s = yields (servedReply r (s .result)) (s .memory)
 abbrev pub Sound : Record → Type 0
 Sound r = LayoutFits (r .layout) × (r .pools .shadow .fresh ≤ r .layout .shadows)
 
--- "3 first, if the memory's length is another or the record breaks a rule"
+-- 3 comes before all else: the memory has not the length that the record says, or the record breaks a rule
 abbrev pub judged : Record → List ℕ → After Reply → After Reply
 judged r m next = cond (fitsOf r (length m)) next (refused r 3 m)
 
@@ -146,7 +153,7 @@ deviceCall r m a v = judged r m (cond (deviceOk r a) (servedBy r (deviceOf (conf
 
 -- ---- root, map, unmap
 
--- "A root load drops all"
+-- a root is loaded: every path is dropped, the one in the record too
 unfoldable pub rootCall : Record → List ℕ → ℕ → After Reply
 rootCall r m g = judged r m (cond (frameFits (configOf r) g) (ended (withHead r (headRoot (headHeld (headOf r) nothing) g)) answer.Ok m) (refused r 8 m))
 
@@ -155,7 +162,7 @@ abbrev pub droppedBy : Record → Record → HostPhysical → After Left → Aft
 droppedBy r next f o =
     cond (o .result .ok) (ended (withHeld next (record { pool = o .result .pool; frame = f })) answer.Ok (o .memory)) (refused r 11 (o .memory))
 
--- the mapping of g changed, and the host tables have the pool p: "drops every held path whose shadow part used its mapping",
+-- the mapping of g changed, and the host tables have the pool p: the paths whose shadow part used that mapping are dropped,
 -- which is every one if the frame is the root's
 unfoldable pub unmappedOf : Record → Pool → List ℕ → ℕ → After Reply
 unmappedOf r p m g =
@@ -184,7 +191,7 @@ unmapCall r m g = judged r m (changedBy r g (hostWalkOf (configOf r) (hostTop r)
 abbrev pub heldAfter : ℕ → ℕ → HostPhysical → HostPhysical
 heldAfter levels n f = cond (ltb n levels) f (page 0)
 
--- "A mark set or cleared drops the paths that begin with its prefix"
+-- a mark of level n at the address a was set or cleared, which left the marks t: the paths that begin with its indexes are dropped
 unfoldable pub markedOf : Record → List ℕ → ℕ → ℕ → Marks → After Reply
 markedOf r m a n t =
     droppedBy r (withMarks r t) (heldAfter (r .layout .levels) n (r .guest .held))

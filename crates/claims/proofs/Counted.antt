@@ -1,5 +1,5 @@
--- "The count is no mere report": a load or a store through a held path, or at depth N + 1, rests on the words that it counts
--- and, a load, on the word that it loads; any other word of the memory may be altered. Document 01, "Words counted".
+-- A load or a store through a held path, or at depth N + 1, rests on the words that it counts and, a load, on the word that it
+-- loads; any other word of the memory may be altered. Document 01, "Words counted".
 -- Assumes nothing.
 use mathlib.Core.Path.{_≡_, refl, sym, ap, ap₂, _∙_, subst}
 use mathlib.Core.Logic.{_⊎_, inl, inr}
@@ -129,7 +129,7 @@ module _ (s : State) (r : Record) (m : List ℕ) (inv : Inv s r m) (a : ℕ) whe
   unfolding loadCall loadOf translatedOf
   load-fits n e = ap (λ b. cond b (cond (addressOk r a) (loadedBy r a (translatedOf r n false a) (translatedOf r n false a .result .walked)) (refused r 4 n)) (refused r 3 n)) (ap (fitsOf r) e ∙ inv .fits)
 
-  -- "its value or fault, its references and its exits stay the same", whatever memory n of that length holds elsewhere; and the
+  -- the load says the same value or fault with the same counts, whatever memory n of that length holds elsewhere; and the
   -- record and the memory stay as they are
   pub words-counted-load : HeldOrPlain c (s .book) false a → (n : List ℕ) → length n ≡ length m → SameWords m n (countedOf r m false a) → SameWords m n (touchedOf r m false a)
       → loadCall r n a ≡ ended r (loadCall r m a .result .answer) n
@@ -309,7 +309,7 @@ held-load c b a h e = inl (subst (λ o. T (serves false (depth (b .marks) (addre
     go zero = tt
     go (suc d) = tt
 
--- ---- "After any run that demand 3 covers": a granted opening, on any memory, and any list of calls
+-- ---- after any run: a granted opening, on any memory, and any list of calls
 module _ (m : List ℕ) (h s : ℕ) (xs : List Call) (granted : refusalOf (length m) h s ≡ 0) where
   -- the book of that run
   abbrev pub book : Book
@@ -335,15 +335,15 @@ module _ (m : List ℕ) (h s : ℕ) (xs : List Call) (granted : refusalOf (lengt
   here : (st : Bool) (a : ℕ) → HeldOrPlain config book st a → HeldOrPlain (configOf unit) book st a
   here st a k = subst (λ c. HeldOrPlain c book st a) (after-run m h s xs granted .0) k
 
-  -- "take a load whose path is held or whose d is 5, and alter at will any words of the memory but those it counts .. and the
-  -- word it loads: its value or fault, its references and its exits stay the same"
+  -- a load whose path is held, or at depth N + 1: any words of the memory but those that it counts and the one that it loads may be
+  -- altered, and its answer is the same
   pub run-counted-load : (a : ℕ) → HeldOrPlain config book false a
       → (n : List ℕ) → length n ≡ length memory → SameWords memory n (countedOf unit memory false a) → SameWords memory n (touchedOf unit memory false a)
       → loadCall unit n a ≡ ended unit (loadCall unit memory a .result .answer) n
   run-counted-load a k = words-counted-load (after xs (opened (configBy (length m) h s) m)) unit memory stands a (here false a k)
 
-  -- "A store that is granted through a held path or at d = 5 touches, after such a change, the same word or, only if host or
-  -- shadow words are among those altered, is refused with 11"
+  -- a store that is granted through a held path or at depth N + 1: after such a change it stores to the same word, or is refused
+  -- with 11, which happens only if a host or shadow word was altered
   pub run-counted-store : (a v k e : ℕ) → HeldOrPlain config book true a → storeCall unit memory a v .result .answer ≡ answer.Done k e
       → (n : List ℕ) → length n ≡ length memory → SameWords memory n (countedOf unit memory true a) → SameStore unit memory n a v k e
   run-counted-store a v k e q = words-counted-store (after xs (opened (configBy (length m) h s) m)) unit memory stands a v (here true a q) k e

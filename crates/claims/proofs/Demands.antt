@@ -78,8 +78,8 @@ after-run m h s xs g =
     after-follow xs (opened c m) (o .result .unit) (o .memory) o (sym (ap (λ (e : After Reply). configOf (e .result .unit)) q ∙ opened-config m h s))
     (subst (λ (e : After Reply). Inv (opened c m) (e .result .unit) (e .memory)) (sym q) (opened-inv m h s g)) refl refl
 
--- Demand 3. "For every granted opening, on any memory, and every list of calls after it: each value, fault, refusal, count and
--- the guest words equal those of document 01's machine without shadow and its book"
+-- Demand 3. After a granted opening on any memory, over any list of calls: what the unit says at each call (value, fault, refusal,
+-- counts) and the guest area after it are those of the specification's machine and book
 pub demand-3 : (m : List ℕ) (h s : ℕ) (xs : List Call) → refusalOf (length m) h s ≡ 0
     → let e = openCall m h s in
     let c = configBy (length m) h s in

@@ -13,4 +13,5 @@ pub mod WordsRead
 pub mod Counted
 pub mod Safety
 pub mod Plain
+pub mod ByDepth
 pub mod Numbers

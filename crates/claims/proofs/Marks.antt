@@ -185,7 +185,7 @@ module _ (s : State) (r : Record) (m : List ℕ) (h : Inv s r m) (a n : ℕ) (t 
       go true = inv-fits h .held
       go false = inl refl
 
-  -- "4 and 5 keep none": then the path of no index goes
+  -- a mark of level N or N + 1 keeps no index: then the path of no index goes
   top-is : top .0 ≡ topBy (F []) (find [] left)
   unfolding top F left held
   top-is = go (ltb n (r .layout .levels)) refl

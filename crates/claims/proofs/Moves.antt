@@ -246,7 +246,7 @@ pub at-inv : {c : Config} {s : State} {r : Record} {m : List ℕ} → Inv s r m 
 at-inv h = record { fits = h .fits; word = h .word; root = h .root; maps = h .maps; area = h .area; book = h .book; valid = h .valid; marks = h .marks; shadow = h .shadow; top = h .top }
 
 -- ---- a call
--- "A refused call changes nothing"
+-- a refused call leaves record and memory, machine and book as they are
 pub follows-no : (x : Call) {s : State} {r : Record} {m : List ℕ} (n : ℕ) → Inv s r m → refusal (configOf r) x (s .machine) (s .book) ≡ some n
     → Follows x s r (refused r n m)
 unfolding step

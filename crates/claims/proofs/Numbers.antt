@@ -1,4 +1,4 @@
--- "No run that demand 3 covers meets 3 or 11": no call of a run is refused with either.
+-- No call of a run, after a granted opening on any memory, is refused with 3 or 11.
 -- Assumes nothing.
 use mathlib.Core.Path.{_≡_, refl, sym, subst}
 use mathlib.Core.Logic.{_≢_}

@@ -28,7 +28,7 @@ use Rattle.drops_laws.proofs.Valid.{framesAt, entryOf}
 use Rattle.calls.specs.Calls.{hostTop, ended, refused, openCall}
 use Rattle.claims.proofs.Invariant.{Inv}
 
--- "a refused one returns one of zeros"
+-- a refused opening hands back a record of zeros and leaves the memory
 pub refused-call : (m : List ℕ) (h s : ℕ) → refusalOf (length m) h s ≢ 0 → openCall m h s ≡ refused zeros (refusalOf (length m) h s) m
 unfolding openCall
 refused-call m h s n = rw (refused-open m h s n, ne-eqb (refusalOf (length m) h s) 0 n)
@@ -45,7 +45,7 @@ open-says m h s = go (ℕ-discrete (refusalOf (length m) h s) 0)
     go (yes e) = rw (granted-call m h s e, granted-opening m h s e)
     go (no n) = rw (refused-call m h s n, refused-opening m h s n)
 
--- "It starts with the opening's H, S and guest area, nothing mapped, root 0"
+-- after a granted opening the invariant holds for a machine with nothing mapped and root 0, and an empty book
 module _ (m : List ℕ) (h s : ℕ) (grant : refusalOf (length m) h s ≡ 0) where
   maps : let k = grantedOf m h s in Maps (configBy (length m) h s) [] (k .result .pools .host) (k .memory)
   maps = record {

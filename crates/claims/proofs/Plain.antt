@@ -69,8 +69,8 @@ touched (some v) area k = set area k v
 abbrev pub plainWalk : Record → List ℕ → Bool → ℕ → Walked
 plainWalk r m st a = walkedOf (configOf r) (hostTop r) m 0 (walk (configOf r) st (rootOf r) (indexes (configOf r .levels) (pageOf a)))
 
--- e is what a request leaves that is granted at its word of host frame t. "A granted request reads (4 − d) + 5d words": N + N·d with
--- the depth d of its address, and at most 24 with four levels
+-- e is what a request leaves that is granted at its word of host frame t. It read N + N·d words for the depth d of its address, at
+-- most 24 with four levels
 pub record Granted (r : Record) (m : List ℕ) (a : ℕ) (v : Option ℕ) (e : After Reply) (t : ℕ) : Type 0 where
   pub exits : ℕ
   pub says : line (e .result .answer) ≡ grantedLine v (words.wordIn m t (wordOf a)) (configOf r .levels + configOf r .levels * depthAt r a) exits
@@ -112,7 +112,7 @@ module _ (s : State) (r : Record) (m : List ℕ) (inv : Inv s r m) where
       ∙ root-walked c mach (hostTop r) m (memory-stands s r m inv) st (mach .root) (addressIndexes c a) (root-small s r m inv) (indexes-all (c .levels) (pageOf a))
 
   module _ (a : ℕ) (ok : addressOk r a ≡ true) where
-    deep : depthAt r a ≡ depth (s .book .marks) (addressIndexes c a)
+    pub deep : depthAt r a ≡ depth (s .book .marks) (addressIndexes c a)
     deep = depth-book c (r .guest .marks) (s .book) (let z = rules s r m inv .sizes .deep in omega arith) (inv .word) (inv .marks) a (fits-of s r m inv a ok)
 
     -- the book's count before a word is stored
@@ -192,7 +192,7 @@ module _ (s : State) (r : Record) (m : List ℕ) (inv : Inv s r m) where
         go (failed y) q = faulted-by v y q
 
   -- an address that does not fit is refused
-  unfit-refused : (a : ℕ) (v : Option ℕ) → addressOk r a ≡ false → callOf (requestAt a v) r m ≡ refused r 4 m
+  pub unfit-refused : (a : ℕ) (v : Option ℕ) → addressOk r a ≡ false → callOf (requestAt a v) r m ≡ refused r 4 m
   unfolding callOf loadCall storeCall
   unfit-refused a none q = rw (inv .fits, q)
   unfit-refused a (some v) q = rw (inv .fits, q)
@@ -204,8 +204,8 @@ module _ (s : State) (r : Record) (m : List ℕ) (inv : Inv s r m) where
       go true q = fits-walked a q v
       go false q = absurd (subst (λ (e : After Reply). Unrefused (e .result .answer)) (unfit-refused a v q) u)
 
--- ---- Demand 2. "While only the unit's own calls touched record and memory since an opening, a load or store that is not refused is
--- granted exactly when the plain two-level walk grants it, and touches the same word; otherwise its fault is that walk's"
+-- ---- Demand 2. After an opening and any calls, a load or store that is not refused is granted exactly where the plain walk over
+-- that memory is granted, and touches the word that this walk comes to; else it says the fault that the walk meets
 
 pub demand-2 : (m : List ℕ) (h s : ℕ) (xs : List Call) → refusalOf (length m) h s ≡ 0 → (a : ℕ) (v : Option ℕ)
     → let u = runOf m h s xs in

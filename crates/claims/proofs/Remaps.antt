@@ -35,7 +35,7 @@ use Rattle.words.specs.Words.{at}
 use Rattle.pool.specs.declared.Pool.{Pool}
 use Rattle.pool.specs.Pool.{noneOf}
 use Rattle.area.specs.Tree.{insertOf}
-use Rattle.area.specs.Remove.{removeOf}
+use Rattle.prune.specs.Remove.{removeOf}
 use Rattle.area_laws.specs.Host.{hostEntry}
 use Rattle.area_laws.proofs.Change.{some-inj, not-some}
 use Rattle.area_laws.proofs.Stores.{Beside, beside-refl, beside-place}
@@ -84,7 +84,7 @@ root-left s r m h g e =
           (h .word) refl (h .maps) (h .area) (after-fits (configOf r) (root g) s (rw e) (h .book)) tt (h .marks) none refl;
     }
 
--- "A root load drops all"
+-- a root is loaded: every path goes
 pub root-follows : (s : State) (r : Record) (m : List ℕ) → Inv s r m → (g : ℕ) → Follows (root g) s r (rootCall r m g)
 unfolding rootCall refusal tests machineStep
 root-follows s r m h g = rw (h .fits) (go (frameFits (configOf r) g) refl)
@@ -174,7 +174,7 @@ module _ (s : State) (r : Record) (m : List ℕ) (h : Inv s r m) (g : ℕ) (ys :
   unfolding F
   entries hs a = valid-entries (configOf r) (s .machine) (hostTop r) m (inv-stands h) (inv-root h) (h .maps .few) hs a
 
-  -- "every one if the frame is the root's"
+  -- if the frame is the root's, every path used its mapping and goes
   all-left : g ≡ s .machine .root → Inv changedState (withHeld (withHost r p) nothing) n
   unfolding left held
   all-left e =
@@ -282,7 +282,7 @@ module _ (s : State) (r : Record) (m : List ℕ) (h : Inv s r m) (g : ℕ) where
   walked : T (frameFits (configOf r) g) → hostWalkOf (configOf r) (hostTop r) m g ≡ answerOf (configOf r) (s .machine .mappings) g
   walked a = walk-is (configOf r) (s .machine .mappings) (r .pools .host) m (h .maps) g (ltb-true g (2 ^ frameBits (configOf r)) (is-true (frameFits (configOf r) g) a))
 
-  -- "A mapped frame is mapped anew": then the paths that used its mapping go
+  -- a frame is mapped: if it was mapped before, the paths that used that mapping go
   module _ (f : ℕ) (w : Bool) where
     mapped-left : (p : Pool) (n : List ℕ) → Maps (configOf r) (with g f w (s .machine .mappings)) p n → Beside (hostArea (configOf r)) m n
         → refusal (configOf r) (map g f w) (s .machine) (s .book) ≡ none

@@ -33,10 +33,11 @@ use Rattle.words.specs.Words.{at, setIn}
 use Rattle.pool.specs.Header.{entryIn, putOf as entryPut, bareOf}
 use Rattle.pool.specs.Pool.{onWay, end, withTop, withFreed, freeWords}
 use Rattle.area.specs.Tree.{roomOf, enterOf, descendOf, downOf, placeOf, insertOf}
-use Rattle.area.specs.Remove.{detachOf, releaseTop, releaseOf, lastOf, lastIndex, clearOf, removeOf}
+use Rattle.prune.specs.Remove.{detachOf, releaseTop, releaseOf, lastOf, lastIndex, clearOf, removeOf}
 use Rattle.pool.specs.Outside.{SameOutside}
 use Rattle.pool.proofs.Outside.{out-refl, out-trans}
-use Rattle.area.proofs.Outside.{indexes-narrow, insert-out, remove-out}
+use Rattle.prune.proofs.Outside.{remove-out}
+use Rattle.area.proofs.Outside.{indexes-narrow, insert-out}
 use Rattle.area_laws.specs.Host.{hostEntry}
 use Rattle.area_laws.proofs.Change.{some-inj, not-some}
 use Rattle.layout.specs.declared.HostWalk.{HostWalk}
@@ -102,14 +103,14 @@ pub record OneWord (r : Record) (m : List ℕ) (e : After Reply) : Type 0 where
 abbrev pub Numbered : ℕ → Type 0
 Numbered n = (3 ≤ n) × (n ≤ 12)
 
--- "A refusal changes nothing, but for the tables of a memory found damaged": that is 11
+-- a refusal keeps the record and all of the memory, but that 11, for damaged tables, may alter host and shadow frames
 pub record RefusalKept (r : Record) (m : List ℕ) (e : After Reply) (n : ℕ) : Type 0 where
   pub numbered : Numbered n
   pub unit : e .result .unit ≡ r
   pub guest : GuestKept r m e
   pub whole : n ≢ 11 → e .memory ≡ m
 
--- "A fault changes no guest word"; nor does a load or a call that yields no number. A store changes one
+-- a granted store changes one guest word; a fault, a refusal, a load and a call without a value change none
 abbrev pub Keeps : Record → List ℕ → After Reply → Answer → Type 0
 Keeps r m e answer.Ok = GuestKept r m e
 Keeps r m e (answer.Value v n x) = GuestKept r m e
@@ -514,9 +515,9 @@ module _ (r : Record) (m : List ℕ) where
       let l : (Numbered 4 × (Numbered 5 × (Numbered 6 × Unit {0}))) = ((omega arith, omega arith), ((omega arith, omega arith), ((omega arith, omega arith), tt))) in
       marked-kept (number (clearRefusal (r .layout .levels) (keysOf r) a n)) a n (withoutKey (r .guest .marks) (keyOf n (pageOf a))) (number-in Numbered (clearTests (r .layout .levels) (keysOf r) a n) l)
 
--- ---- Demand 1. "Any request, with numbers, record and memory sound or spoiled, ends inside the memory lent with an answer, a named
--- fault or a numbered refusal. A fault changes no guest word. A refusal changes nothing, but for the tables of a memory found
--- damaged"
+-- ---- Demand 1. Any call, whatever its numbers, the record and the memory are, comes to an answer, a fault or a numbered refusal,
+-- and the memory keeps its length. A fault leaves every guest word. A refusal leaves everything, but that 11, for damaged tables,
+-- may alter host and shadow frames
 pub demand-1 : (x : Call) (r : Record) (m : List ℕ) → Keeps r m (callOf x r m) (callOf x r m .result .answer)
 unfolding callOf
 demand-1 (root g) r m = root-kept r m g
@@ -571,18 +572,18 @@ same-length-open m h s = go (openCall m h s .result .answer) (demand-1-open m h 
     go (answer.Refused n) k = ap length (k .2)
 
 module _ (x : Call) (r : Record) (m : List ℕ) where
-  -- "A fault changes no guest word"
+  -- a fault leaves the guest area
   pub fault-keeps : (y : Fault) (n k : ℕ) → callOf x r m .result .answer ≡ answer.Faulted y n k → guestArea r (callOf x r m .memory) ≡ guestArea r m
   fault-keeps y n k e = subst (Keeps r m (callOf x r m)) e (demand-1 x r m) .area
 
-  -- "A refusal changes nothing"
+  -- a refusal other than 11 leaves the record and every word
   pub refusal-keeps : (n : ℕ) → callOf x r m .result .answer ≡ answer.Refused n → n ≢ 11 → callOf x r m ≡ refused r n m
   refusal-keeps n e z =
       let k : RefusalKept r m (callOf x r m) n = subst (Keeps r m (callOf x r m)) e (demand-1 x r m) in
       let u = callOf x r m in
       ap (λ q. ended q (u .result .answer) (u .memory)) (k .unit) ∙ ap (λ q. ended r q (u .memory)) e ∙ ap (refused r n) (k .whole z)
 
-  -- "but for the tables of a memory found damaged"
+  -- 11 leaves the record and the guest area
   pub damage-keeps : callOf x r m .result .answer ≡ answer.Refused 11 → (callOf x r m .result .unit ≡ r) × GuestKept r m (callOf x r m)
   damage-keeps e =
       let k : RefusalKept r m (callOf x r m) 11 = subst (Keeps r m (callOf x r m)) e (demand-1 x r m) in

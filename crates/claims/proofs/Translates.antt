@@ -506,7 +506,7 @@ module _ (s : State) (r : Record) (m : List ℕ) (inv : Inv s r m) (st : Bool) (
               (cond b (yields (servedOf c ht m hold st a deep (frames r m (onto [] path)) (h .right) 0) m) (missedOf c ht m hold (r .guest .root .0) st a deep))) (sym q)
               (missed-path low (ap (serves st deep) e ∙ serves-is deep h ∙ q))
 
-  -- at depth N + 1 "nothing is shadowed"
+  -- at depth N + 1 the whole plain walk; what is held stays as it is
   plain-translates : c .levels < deep → Translates s r m st a (request c mach (s .book) st a deep) (yields (plainOf c ht m hold (r .guest .root .0) st a) m)
   unfolding plainOf request plain
   plain-translates high =

@@ -344,7 +344,7 @@ module _ (r : Record) (st : Bool) (a : ℕ) where
       ap (λ b. cond b (pathWords r m a d ++ directWords c ht m st a d (foundIn m)) (walkWords c ht m whole))
       (is-false (leb d (c .levels)) (λ z. let k = leb→le d (c .levels) z in omega arith))
 
-  -- "the shadow entries on its path": N − d where it is held
+  -- the shadow entries on the path are N − d words where it is held
   path-reads : (m : List ℕ) (t : HostPhysical) (w : Bool) → d ≤ c .levels → foundIn m ≡ hosts.Found t w → length (pathWords r m a d) ≡ c .levels - d
   unfolding pathWords foundOf shadowed
   path-reads m t w l f = go (ltb d (c .levels)) refl f

@@ -55,20 +55,20 @@ walkWords c ht m (fail x) = []
 walkWords c ht m (host g k) = hostWords c ht m g ++ walkWords c ht m (k (placeOf (hostWalkOf c ht m g)))
 walkWords c ht m (word t i k) = (t, i) ∷ walkWords c ht m (k (wordIn m t i))
 
--- "the shadow entries on its path"; at depth N the path stands in the record
+-- the shadow entries that lead to the end of the path; at depth N there are none, since the path stands in the record
 unfoldable pub pathWords : Record → List ℕ → ℕ → ℕ → List Word
 pathWords r m a d =
     let c = configOf r in
     cond (ltb d (c .levels)) (entriesRead (c .hosts) (c .shadows) m (r .pools .shadow .top) (pathIndexes c d a)) []
 
--- "the words of the direct part", from the guest table of level d that the held path leads to
+-- the words that the direct part reads, from the guest table of level d that the held path leads to
 abbrev pub directWords : Config → ℕ → List ℕ → Bool → ℕ → ℕ → HostWalk → List Word
 directWords c ht m st a d (hosts.Found t w) = walkWords c ht m (levels c st d (t .0) w (indexes d (pageOf a)))
 directWords c ht m st a d (hosts.Absent n) = []
 directWords c ht m st a d hosts.Damaged = []
 
--- "those it counts (the shadow entries on its path, then the words of the direct part)": of a load or a store whose path is
--- held, or whose depth is N + 1, where the direct part is the whole plain walk
+-- the words that a load or a store counts: where its path is held, the shadow entries on it and then the words of the direct part;
+-- at depth N + 1 those of the whole plain walk
 unfoldable pub countedOf : Record → List ℕ → Bool → ℕ → List Word
 countedOf r m st a =
     let c = configOf r in
@@ -87,7 +87,7 @@ touchedBy a walked.Damaged = []
 unfoldable pub touchedOf : Record → List ℕ → Bool → ℕ → List Word
 touchedOf r m st a = touchedBy a (translatedOf r m st a .result .walked)
 
--- "whose path is held or whose d is 5", on the book; a store's held path must not forbid the store
+-- the address's path is held, or its depth is N + 1, on the book; a store's held path must not forbid the store
 unfoldable pub HeldOrPlain : Config → Book → Bool → ℕ → Type 0
 HeldOrPlain c b st a =
     let is = addressIndexes c a in
@@ -118,8 +118,8 @@ pub record Refuses (r : Record) (m : List ℕ) (e : After Reply) : Type 0 where
 abbrev pub SameTables : Config → List ℕ → List ℕ → Type 0
 SameTables c m n = (f : ℕ) → f < guestBase c → SameFrame m n f
 
--- a store that is granted on memory m, and the same store on memory n: "touches, after such a change, the same word or, only
--- if host or shadow words are among those altered, is refused with 11"; else its exits stay the same too
+-- a store that is granted on memory m, and the same store on memory n: there it touches the same word with as many references, or
+-- is refused with 11; if no host or shadow word differs it touches the word, and its exits stay the same too
 pub record SameStore (r : Record) (m n : List ℕ) (a v k x : ℕ) : Type 0 where
   pub frame : ℕ
   pub touched : touchedOf r m true a ≡ (frame, wordOf a) ∷ []

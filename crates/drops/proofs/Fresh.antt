@@ -10,7 +10,7 @@ use Rattle.pool.specs.declared.Way.{Way}
 use Rattle.pool.specs.declared.Way.the-variants as way
 use Rattle.pool.specs.Header.{levelOf}
 use Rattle.pool.specs.Pool.{onWay}
-use Rattle.area.specs.Remove.{releaseOf, lastIndex}
+use Rattle.prune.specs.Remove.{releaseOf, lastIndex}
 use Rattle.layout.specs.Layout.{page}
 use Rattle.drops.specs.declared.Cut.{Cut}
 use Rattle.drops.specs.declared.Cut.the-variants.{Slot}
@@ -22,7 +22,8 @@ use Rattle.drops.specs.Drop.{outcome, clearFrom, settledBy, settleOf, sw
 use Rattle.words.specs.After.{After}
 use Rattle.pool.specs.declared.Went.{Went}
 use Rattle.drops.specs.declared.Left.{Left}
-use Rattle.area.proofs.Fresh.{none-fits, release-fits}
+use Rattle.prune.proofs.Fresh.{release-fits}
+use Rattle.area.proofs.Fresh.{none-fits}
 use Rattle.shadow.proofs.Fresh.{Bounded}
 
 module _ (c : Config) where

@@ -13,7 +13,7 @@ use Rattle.pool.specs.declared.Way.the-variants as way
 use Rattle.pool.specs.Header.{entryIn, parentOf, slotOf, insideOf}
 use Rattle.pool.specs.Pool.{onWay, noneOf}
 use Rattle.pool.proofs.Laws.{parent-small, Small}
-use Rattle.area.proofs.Laws.{indexes-last}
+use Rattle.prune.proofs.Laws.{indexes-last}
 use Rattle.spec_laws.proofs.Indexes.{indexes-step}
 use Rattle.layout.specs.Layout.{page}
 use Rattle.drops.specs.declared.Kind.the-variants.{Gone, Leaf, Table, Damaged}

@@ -11,9 +11,9 @@ use Rattle.pool.specs.declared.Way.{Way}
 use Rattle.pool.specs.declared.Way.the-variants as way
 use Rattle.pool.specs.Header.{entryIn, levelOf}
 use Rattle.pool.specs.Pool.{onWay}
-use Rattle.area.specs.Remove.{releaseOf, lastIndex}
+use Rattle.prune.specs.Remove.{releaseOf, lastIndex}
 use Rattle.pool.proofs.Outside.{out-refl, out-trans, put-out}
-use Rattle.area.proofs.Outside.{release-out}
+use Rattle.prune.proofs.Outside.{release-out}
 use Rattle.layout.specs.Layout.{page}
 use Rattle.drops.specs.declared.Kind.{Kind}
 use Rattle.drops.specs.declared.Kind.the-variants.{Gone, Leaf, Table, Damaged}

@@ -23,7 +23,8 @@ use Rattle.drops.specs.declared.Above.the-variants as above
 unfoldable pub isLeaf : Bool → ℕ → Bool
 isLeaf lowest e = cond lowest true (switch e)
 
--- what an entry says. Damaged: it "names a frame outside the area it must lie in (leaf and switch entries: guest area)"
+-- what an entry says. Damaged: it is present and names a frame outside its area, which is the guest area for a leaf and the shadow
+-- area for a table
 unfoldable pub kindOf : Config → Bool → ℕ → Kind
 kindOf c lowest e =
     cond (present e)

@@ -11,7 +11,7 @@ use Rattle.pool.specs.declared.Way.{Way}
 use Rattle.pool.specs.declared.Way.the-variants as way
 use Rattle.pool.specs.Header.{entryIn, putOf, levelOf}
 use Rattle.pool.specs.Pool.{onWay, noneOf}
-use Rattle.area.specs.Remove.{releaseOf, lastIndex}
+use Rattle.prune.specs.Remove.{releaseOf, lastIndex}
 use Rattle.layout.specs.Layout.{page}
 use Rattle.drops.specs.declared.Left.{Left}
 use Rattle.drops.specs.declared.Kind.{Kind}
@@ -110,7 +110,7 @@ unfoldable pub holderFrom : Config → List ℕ → ℕ → ℕ → List ℕ →
 holderFrom c m e i [] = tableNamed c e
 holderFrom c m e i (j ∷ is) = onWay (tableNamed c e) way.Not way.Damaged (λ f. holderFrom c m (entryIn m f i) j is)
 
--- "A mark set or cleared drops the paths that begin with its prefix"
+-- a mark set or cleared: the paths that begin with its indexes are dropped, all of them if it keeps none
 unfoldable pub dropPrefixOf : Config → Pool → List ℕ → List ℕ → After Left
 dropPrefixOf c p m [] = outcome noneOf true m
 dropPrefixOf c p m (i ∷ is) =

@@ -246,7 +246,7 @@ fn settle(mem: &mut [u64], l: Layout, p: Pool, n: u64, f: u64) -> Left
     requires { ⌜ (LayoutFits l) × (f < frameLimit) ⌝ }
     ensures { λ r. ⌜ yields r (now (mem .exit)) ≡ settleOf (config l) p (now (mem .entry)) n f ⌝ }
 {
-    let went = area::release(shadow::shadow_area(l), false, p, mem, links(l.levels, n), f);
+    let went = prune::release(shadow::shadow_area(l), false, p, mem, links(l.levels, n), f);
     let pool = went.pool;
     let way = went.way;
     match way {

@@ -24,7 +24,7 @@ use Rattle.pool.specs.declared.Pool.{Pool}
 use Rattle.pool.specs.declared.Way.the-variants as way
 use Rattle.pool.specs.Header.{entryIn}
 use Rattle.pool.specs.Pool.{onWay, noneOf}
-use Rattle.area.specs.Remove.{lastIndex}
+use Rattle.prune.specs.Remove.{lastIndex}
 use Rattle.layout.specs.Layout.{page}
 use Rattle.area_laws.proofs.Change.{differ, is-some, some-inj, no-empty}
 use Rattle.area_laws.proofs.Stores.{beside-refl}
@@ -80,7 +80,7 @@ module _ {c : Config} {p : Pool} {m : List ℕ} {guest G : List ℕ → ℕ} {ro
       → Dropped c m (leafAt w ks) guest (scanOf c x p m)
   drop-by x C ks cuts e = dropped-leaves (leafAt w ks) (λ y. sym (e y)) (scan-drops h x C (leaves-are a) cuts)
 
-  -- "A guest or device store drops every held path whose shadow part read the word stored to, and no other"
+  -- a store into word i of host frame t: the paths whose shadow part read that word go, and no other
   pub drop-word : (t i : ℕ) → i < 512 → Dropped c m (leafAt w (dropWord t i hs)) guest (scanOf c (Word (page t) i) p m)
   drop-word t i l = drop-by (Word (page t) i) (cutWord t i guest) (dropWord t i hs) cuts (λ q. word-drop w hs q t i guest (all-map _ _ hs (λ h s. s .reads) (a .all)))
     where
@@ -118,7 +118,7 @@ module _ {c : Config} {p : Pool} {m : List ℕ} {guest G : List ℕ → ℕ} {ro
       go none t ih = sym (ap remove.way (front-none (h .tables) (i ∷ x) j is (none-below (h .tables) i x t)))
       go (some f) t ih = ih f t
 
-  -- "A mark set or cleared drops the paths that begin with its prefix"
+  -- a mark set or cleared: the paths that begin with its indexes go
   pub drop-prefix : (is : List ℕ) → length is ≤ c .levels → Small is → Dropped c m (leafAt w (dropPrefix is hs)) guest (dropPrefixOf c p m is)
   unfolding dropPrefixOf
   drop-prefix [] l s = record {
@@ -189,7 +189,7 @@ module _ {c : Config} {p : Pool} {m : List ℕ} {guest G : List ℕ → ℕ} {ro
       }
       go (some f) e = drop-by (Slot (page f) k) (cutPrefix z) (dropPrefix (i ∷ is) hs) (cuts f e) drops
 
--- "Mapping or unmapping a guest frame drops every held path whose shadow part used its mapping"; for the root's see `mapping-all`
+-- a guest frame mapped or unmapped: the paths whose shadow part used its mapping go; for the root's see `mapping-all`
 pub drop-mapping : {c : Config} {p : Pool} {m : List ℕ} {guest : List ℕ → ℕ} {root : ℕ} {w : Held → ℕ} {hs : List Held} → Holds (shadowArea c) false p m (leafAt w hs) guest
     → HeldEntries c guest (namedIn m guest) root w hs → (g : ℕ) → g ≢ root → Dropped c m (leafAt w (dropMapping g hs)) guest (scanOf c (Names (guestFrame g)) p m)
 unfolding namedIn

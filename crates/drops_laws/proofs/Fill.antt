@@ -127,7 +127,7 @@ module _ {c : Config} {p : Pool} {m : List ℕ} {guest G : List ℕ → ℕ} {ro
       (subst (λ lw. Lists lw (run.paths (entries w (k ∷ hs)))) (λ i y. sym (leaf-put w k hs y) i)
       (map-lists (entries w (k ∷ hs)) (entries-solid w (k ∷ hs) (present-new, all-map _ _ hs (λ h s. s .set) (a .all)))))
 
-  -- "If a new path would make them more than S, all held paths are dropped first"
+  -- a path is filled, after all others are dropped if there are not tables enough
   pub inserted-is : Next (shadowArea c) false p m (leafAt w (fill c k hs)) guest (fillOf c gs p m (k .path) (w k))
   unfolding fillOf
   inserted-is = go (leb (shadowTables (k ∷ hs)) (c .shadows)) refl

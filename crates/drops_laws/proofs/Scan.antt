@@ -17,7 +17,7 @@ use Rattle.spec.specs.Entry.{present, switch, frameOf}
 use Rattle.spec.specs.Refusal.{inGuestArea}
 use Rattle.pool.specs.declared.Pool.{Pool}
 use Rattle.pool.specs.Header.{entryIn, putOf, guestOf, levelOf, parentOf, slotOf}
-use Rattle.area.specs.Remove.{releaseOf}
+use Rattle.prune.specs.Remove.{releaseOf}
 use Rattle.area_laws.proofs.Change.{differ, eq?, upd, upd-on, upd-other, not-some}
 use Rattle.area_laws.proofs.Stores.{Beside, beside-refl, beside-trans, put-head}
 use Rattle.area_laws.proofs.Invariant.{slot, inside-is, present-link, switch-link, present-zero, frame-link, Tables, Exact, above, none-last, frame-small, place-fits}

@@ -94,7 +94,7 @@ found-watched m b t (suc k) f lo hi n e = go (ℕ-discrete f (b + k)) (λ l. fou
     go (yes q) ih = rw (sym q, ne-eqb (levelOf m f) 0 n, eq-eqb (guestOf m f) t e) tt
     go (no q) ih = later (watchesOf m (b + k) t) (ih (omega (arith, q)))
 
--- "A host frame is watched while the shadow part of some held path reads a guest entry in it"
+-- the shadow tables watch just the host frames in which some held path read a guest entry
 pub watched-is : {c : Config} {p : Pool} {m : List ℕ} {guest G : List ℕ → ℕ} {root : ℕ} {w : Held → ℕ} {hs : List Held}
     → Holds (shadowArea c) false p m (leafAt w hs) guest → HeldEntries c guest G root w hs → (t : ℕ) → watchedOf c m (p .fresh) t ≡ watched t hs
 unfolding watchedOf

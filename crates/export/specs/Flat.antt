@@ -4,8 +4,8 @@ use Prim.Native.Nat.{ℕ}
 use mathlib.Core.List.{List, [], _∷_}
 use lib.ListN.{getD}
 use Rattle.spec.specs.declared.Answer.{Answer}
-use Rattle.spec.specs.declared.Answer.the-variants as answer
-use Rattle.spec.specs.Answer.{letter, level, frame}
+use Rattle.spec.specs.Answer as say
+use Rattle.spec.specs.Answer.{Line, line}
 use Rattle.words.specs.After.{After, yields}
 use Rattle.pool.specs.declared.Pool.{Pool}
 use Rattle.record.specs.declared.Head.{Head}
@@ -46,13 +46,16 @@ recordIn ws place = recordBy (headIn ws) place
 abbrev pub said : ℕ → ℕ → ℕ → ℕ → ℕ → ℕ → ℕ → FlatAnswer
 said k n c l g r e = record { kind = k; number = n; letter = c; level = l; frame = g; references = r; exits = e }
 
--- kind 0 is `ok`, 1 `value V R E`, 2 `done R E`, 3 `fault C L G R E`, 4 `no N`; the number is V or N
+-- the numbers of a line: kind 0 is `ok`, 1 `value V R E`, 2 `done R E`, 3 `fault C L G R E`, 4 `no N`; the number is V or N
+abbrev pub saidBy : Line → FlatAnswer
+saidBy say.ok = said 0 0 0 0 0 0 0
+saidBy (say.value v r e) = said 1 v 0 0 0 r e
+saidBy (say.done r e) = said 2 0 0 0 0 r e
+saidBy (say.fault c l g r e) = said 3 0 c l g r e
+saidBy (say.no n) = said 4 n 0 0 0 0 0
+
 abbrev pub answerOf : Answer → FlatAnswer
-answerOf answer.Ok = said 0 0 0 0 0 0 0
-answerOf (answer.Value v r e) = said 1 v 0 0 0 r e
-answerOf (answer.Done r e) = said 2 0 0 0 0 r e
-answerOf (answer.Faulted x r e) = said 3 0 (letter x) (level x) (frame x) r e
-answerOf (answer.Refused n) = said 4 n 0 0 0 0 0
+answerOf x = saidBy (line x)
 
 -- ---- what an exported call leaves
 

@@ -19,7 +19,7 @@ use Rattle.spec_laws.proofs.Lists.{All, is-true, both}
 use Rattle.pool.specs.declared.Pool.{Pool}
 use Rattle.pool.specs.Pool.{noneOf}
 use Rattle.area.specs.Tree.{enterOf, insertOf}
-use Rattle.area.specs.Remove.{removeOf}
+use Rattle.prune.specs.Remove.{removeOf}
 use Rattle.area_laws.specs.Host.{hostEntry, entryBy, hostMap}
 use Rattle.area_laws.proofs.Stores.{Beside, beside-refl, beside-trans, beside-drop}
 use Rattle.area_laws.proofs.Invariant.{present-zero}

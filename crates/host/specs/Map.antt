@@ -16,7 +16,7 @@ use Rattle.pool.specs.declared.Pool.{Pool}
 use Rattle.pool.specs.declared.Way.{Way}
 use Rattle.pool.specs.declared.Way.the-variants.{To, Not, Damaged}
 use Rattle.area.specs.Tree.{insertOf}
-use Rattle.area.specs.Remove.{removeOf}
+use Rattle.prune.specs.Remove.{removeOf}
 use Rattle.area_laws.specs.Host.{hostEntry}
 use Rattle.host.specs.declared.Change.{Change}
 use Rattle.words.specs.After.{After, yields}
@@ -38,7 +38,7 @@ changeBy before after n Damaged = record { pool = before; refusal = 11 }
 abbrev pub changedBy : Pool → ℕ → After Went → After Change
 changedBy p n t = yields (changeBy p (t .result .pool) n (t .result .way)) (t .memory)
 
--- "8; then 9 if the host frame is outside the guest area; then 10"
+-- 8 if the guest frame has too many bits, then 9 if the host frame is not in the guest area, then 10 if there are not tables enough
 unfoldable pub mapOf : Config → Pool → List ℕ → ℕ → ℕ → Bool → After Change
 mapOf c p m g f w =
     cond (frameFits c g)
@@ -47,7 +47,7 @@ mapOf c p m g f w =
     (changed p 9 m))
     (changed p 8 m)
 
--- "8; then 12 if not mapped. Emptied host tables can be used again"
+-- 8 as above, then 12 if the frame is not mapped; tables that are empty then can be used again
 unfoldable pub unmapOf : Config → Pool → List ℕ → ℕ → After Change
 unmapOf c p m g = cond (frameFits c g) (changedBy p 12 (removeOf (hostArea c) true p m (indexes (c .levels) g))) (changed p 8 m)
 

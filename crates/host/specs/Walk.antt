@@ -8,6 +8,6 @@ use Rattle.area.specs.Tree.{lookOf}
 use Rattle.layout.specs.Layout.{namedBy}
 use Rattle.layout.specs.declared.HostWalk.{HostWalk}
 
--- "Read the host entries from level 4 to level 1", from the entry of the top table on
+-- the host entries of guest frame g from level N to level 1, from the entry of the top table on
 unfoldable pub hostWalkOf : Config → ℕ → List ℕ → ℕ → HostWalk
 hostWalkOf c top m g = namedBy c (lookOf 0 (c .hosts) m top (indexes (c .levels) g) 0)

@@ -121,7 +121,7 @@ pub fn unmap(mem: &mut [u64], l: Layout, pool: Pool, g: GuestPhysical) -> Change
     ensures { λ r. ⌜ yields r (now (mem .exit)) ≡ unmapOf (config l) pool (now (mem .entry)) (g .0) ⌝ }
 {
     if layout::frame_fits(l, g) {
-        let went = area::remove(tables(l), true, pool, mem, g.0, l.levels);
+        let went = prune::remove(tables(l), true, pool, mem, g.0, l.levels);
         let way = went.way;
         let after = went.pool;
         settled(pool, after, way, 12)

@@ -19,12 +19,12 @@ use Rattle.spec.specs.declared.Call.{Call}
 use Rattle.job_records.specs.declared.Job.{Job}
 use Rattle.job_records.specs.declared.Job.the-variants as job
 use Rattle.job_run.specs.Run.{runOf}
-use Rattle.job_lines.specs.Text.{decimal, lineOf}
+use Rattle.job_lines.specs.Text.{decimal, textOf, lineOf}
 use Rattle.calls.specs.Calls.{callOf}
 use Rattle.claims.proofs.Invariant.{Inv, at}
 use Rattle.claims.proofs.Opens.{opened-inv, granted-call, refused-call}
 use Rattle.claims.proofs.Demands.{follows, at-self, opened-config}
-use Rattle.job_claims.specs.Job.{answers, said, saidAll, textOf, linesFrom, textsFrom}
+use Rattle.job_claims.specs.Job.{answers, said, saidAll, linesFrom, textsFrom}
 
 -- record and memory of a job stand for machine and book, once an open was granted
 abbrev Stands : Option State → Bool → Record → List ℕ → Type 0
@@ -92,18 +92,13 @@ lines (j ∷ js) k o r m i =
 -- the bytes of a line are those of what it says
 line-text : (n : ℕ) (x : Answer) → lineOf n x ≡ (decimal 19 n ++ textOf (line x)) ++ (10 ∷ [])
 unfolding lineOf
-line-text n answer.Ok = refl
-line-text n (answer.Value v r e) = refl
-line-text n (answer.Done r e) = refl
-line-text n (answer.Faulted x r e) = refl
-line-text n (answer.Refused k) = refl
+line-text n x = refl
 
 texts : (n : ℕ) (xs : List Answer) → linesFrom n xs ≡ textsFrom n (map line xs)
 unfolding linesFrom textsFrom
 texts n [] = refl
 texts n (x ∷ xs) = ap₂ (λ l ls. l ∷ ls) (line-text n x) (texts (suc n) xs)
 
--- "It runs records from standard input on a memory .. zero at start": on any memory, the bytes of the lines, numbered from 1, are
--- those of machine and book
+-- a job, on any memory: the bytes of its lines, numbered from 1, are those of machine and book
 pub job-lines : (js : List Job) (r : Record) (m : List ℕ) → linesFrom 1 (answers js false r m) ≡ textsFrom 1 (saidAll js none false r m)
 job-lines js r m = texts 1 (answers js false r m) ∙ ap (textsFrom 1) (lines js none false r m refl)

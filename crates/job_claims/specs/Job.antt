@@ -15,13 +15,13 @@ use Rattle.record.specs.Record.{configBy}
 use Rattle.job_records.specs.declared.Job.{Job}
 use Rattle.job_records.specs.declared.Job.the-variants as job
 use Rattle.job_run.specs.Run.{runOf}
-use Rattle.job_lines.specs.Text.{decimal, hexadecimal, number, pair, okText, valueText, doneText, faultText, noText, lineOf}
+use Rattle.job_lines.specs.Text.{decimal, textOf, lineOf}
 use Rattle.words.specs.After.{After}
 use Rattle.job_run.specs.declared.Ran.{Ran}
 
 -- ---- the unit
 
--- the answers to a list of records; "13 and the end"
+-- the answers to a list of records; a bad one is answered with 13 and ends the list
 unfoldable pub answers : List Job → Bool → Record → List ℕ → List Answer
 answers [] o r m = []
 answers (j ∷ js) o r m =
@@ -30,12 +30,12 @@ answers (j ∷ js) o r m =
 
 -- ---- machine and book
 
--- "A refused open keeps the unit's earlier record in use"
+-- a refused opening leaves the earlier state in use
 abbrev pub openedBy : Option State → Option State → Option State
 openedBy (some s) before = some s
 openedBy none before = before
 
--- "3 for any kind but 1 before a granted open"
+-- a call before any granted opening is 3
 abbrev pub called : Option State → Call → Line × Option State
 called none x = (say.no 3, none)
 called (some s) x =
@@ -61,15 +61,7 @@ saidAll (j ∷ js) k o r m =
 
 -- ---- bytes
 
--- "`ok`; `value V R E`; `done R E`; `fault C L G R E`; `no N`", each after a space
-abbrev pub textOf : Line → List ℕ
-textOf say.ok = okText
-textOf (say.value v r e) = (valueText ++ hexadecimal 16 v) ++ pair r e
-textOf (say.done r e) = doneText ++ pair r e
-textOf (say.fault c l g r e) = (faultText ++ ((c ∷ []) ++ pair l g)) ++ pair r e
-textOf (say.no n) = noText ++ number n
-
--- "Each line has the record's number from 1"
+-- the lines of the answers, the first with the number n
 unfoldable pub linesFrom : ℕ → List Answer → List (List ℕ)
 linesFrom n [] = []
 linesFrom n (x ∷ xs) = lineOf n x ∷ linesFrom (suc n) xs

@@ -11,19 +11,19 @@ use lib.Dec.{ltb}
 use lib.ListN.{length, take, set, getD}
 use Rattle.spec.specs.declared.Fault.{Fault}
 use Rattle.spec.specs.declared.Answer.{Answer}
-use Rattle.spec.specs.declared.Answer.the-variants as answer
-use Rattle.spec.specs.Answer.{letter, level, frame}
+use Rattle.spec.specs.Answer as say
+use Rattle.spec.specs.Answer.{Line, line, letter, level, frame}
 
 -- the digit of a number below 16
 abbrev pub digit : ℕ → ℕ
 digit d = cond (ltb d 10) (48 + d) (87 + d)
 
--- "the rest decimal": one digit, and at most so many more in front of it
+-- a number in decimal digits: one, and at most so many more in front of it
 unfoldable pub decimal : ℕ → ℕ → List ℕ
 decimal zero n = digit (n % 10) ∷ []
 decimal (suc k) n = cond (ltb n 10) (digit (n % 10) ∷ []) (decimal k (n / 10) ++ (digit (n % 10) ∷ []))
 
--- "V is 16 hexadecimal digits"
+-- a word in hexadecimal, of just so many digits
 unfoldable pub hexadecimal : ℕ → ℕ → List ℕ
 hexadecimal zero n = []
 hexadecimal (suc k) n = hexadecimal k (n / 16) ++ (digit (n % 16) ∷ [])
@@ -35,7 +35,7 @@ number n = (32 ∷ []) ++ decimal 19 n
 abbrev pub pair : ℕ → ℕ → List ℕ
 pair m n = number m ++ number n
 
--- "`ok`", "`value V R E`", "`done R E`", "`fault C L G R E`", "`no N`", each after a space
+-- the words ok, value, done, fault and no, each after a space; value and fault are followed by one too
 abbrev pub okText : List ℕ
 okText = 32 ∷ 111 ∷ 107 ∷ []
 
@@ -54,14 +54,18 @@ noText = 32 ∷ 110 ∷ 111 ∷ []
 abbrev pub faultOf : Fault → List ℕ
 faultOf x = (letter x ∷ []) ++ pair (level x) (frame x)
 
-abbrev pub answerText : Answer → List ℕ
-answerText answer.Ok = okText
-answerText (answer.Value v r e) = (valueText ++ hexadecimal 16 v) ++ pair r e
-answerText (answer.Done r e) = doneText ++ pair r e
-answerText (answer.Faulted x r e) = (faultText ++ faultOf x) ++ pair r e
-answerText (answer.Refused n) = noText ++ number n
+-- what a call says, in bytes
+abbrev pub textOf : Line → List ℕ
+textOf say.ok = okText
+textOf (say.value v r e) = (valueText ++ hexadecimal 16 v) ++ pair r e
+textOf (say.done r e) = doneText ++ pair r e
+textOf (say.fault c l g r e) = (faultText ++ ((c ∷ []) ++ pair l g)) ++ pair r e
+textOf (say.no n) = noText ++ number n
 
--- "Each line has the record's number from 1 and one of"; the line's end
+abbrev pub answerText : Answer → List ℕ
+answerText x = textOf (line x)
+
+-- the line of an answer: the record's number, the answer's text, and a newline
 unfoldable pub lineOf : ℕ → Answer → List ℕ
 lineOf n x = (decimal 19 n ++ answerText x) ++ (10 ∷ [])
 

@@ -24,7 +24,7 @@ isOk (answer.Done r e) = false
 isOk (answer.Faulted x r e) = false
 isOk (answer.Refused n) = false
 
--- "A refused open keeps the unit's earlier record in use"
+-- a refused opening leaves the earlier record in use
 abbrev pub openedBy : Bool → Record → After Reply → After Ran
 openedBy o r e =
     cond (isOk (e .result .answer)) (ran true (e .result .unit) (e .result .answer) true (e .memory))
@@ -33,7 +33,7 @@ openedBy o r e =
 abbrev pub calledBy : After Reply → After Ran
 calledBy e = ran true (e .result .unit) (e .result .answer) true (e .memory)
 
--- "13 and the end"; "Checked next: 3 for any kind but 1 before a granted open"
+-- a bad record is 13 and ends the job; a call before any granted opening is 3, and the job goes on
 unfoldable pub runOf : Bool → Record → List ℕ → Job → After Ran
 runOf o r m (job.Open h s) = openedBy o r (openCall m h s)
 runOf o r m (job.Call x) = cond o (calledBy (callOf x r m)) (ran false r (answer.Refused 3) true m)

@@ -1,4 +1,4 @@
--- The layout of the lent memory, and what the entry at the end of a path names, for any memory. Document 01, "Tables".
+-- The layout of the lent memory, and what the entry at the end of a path names, for any memory. Document 01, "Memory and tables".
 -- Assumes nothing.
 use Prim.Native.Nat.{ℕ, _≤_}
 use mathlib.Core.Bool.{cond}
@@ -24,8 +24,7 @@ LayoutFits l = (l .levels ≤ 5) × (l .hosts ≤ 65536) × (l .shadows ≤ 6553
 abbrev pub page : ℕ → HostPhysical
 page f = record { 0 = f }
 
--- the entry e at the end of a path: "11 if a present host or shadow entry .. names a frame outside the area it must lie in
--- (leaf and switch entries: guest area)"
+-- the entry e at the end of a path is absent or names a frame of the guest area; a present one that names another is damage (11)
 unfoldable pub leafOf : Config → ℕ → ℕ → HostWalk
 leafOf c e reads = cond (present e) (cond (inGuestArea c (frameOf e)) (Found (page (frameOf e)) (writable e)) Damaged) (Absent reads)
 

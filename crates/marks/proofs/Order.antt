@@ -72,7 +72,7 @@ members-keep f (List·Permᴰ·swap {a} {b} {a′} {b′} {l} e₁ e₂) =
     (subst (λ x. SameMembers (keep f (a ∷ b ∷ l)) (keep f (b ∷ x ∷ l))) e₁ (keep-swap a b (keep f l) (f a) (f b)))
 members-keep f (List·Permᴰ·trans d₁ d₂) = List·Permᴰ·trans (members-keep f d₁) (members-keep f d₂)
 
--- ---- "no two alike"
+-- ---- whether a mark is there twice does not depend on the order
 same-sym : (xs ys : List ℕ) → same xs ys ≡ same ys xs
 same-sym [] [] = refl
 same-sym [] (y ∷ ys) = refl

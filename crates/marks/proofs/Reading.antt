@@ -117,7 +117,7 @@ pub set-keys : (n k : ℕ) (ks : List ℕ) → keyFits n k ≡ true → isSet (m
 set-keys n k [] e = refl
 set-keys n k (x ∷ ks) e = ap₂ _||_ (alike-keys n k x e) (set-keys n k ks e)
 
--- "each of level 1 to 5 with only the indexes it keeps, no two alike"
+-- the rules of a record's marks, told by their keys: each fits, and all differ
 pub fits-keys : (c : Config) (ks : List ℕ)
     → (allOf (markFits c) (map (markOf (c .levels)) ks) && noTwoAlike (map (markOf (c .levels)) ks)) ≡ keysFit (c .levels) ks
 unfolding keysFit

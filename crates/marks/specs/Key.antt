@@ -15,16 +15,16 @@ keyOf n p = p / 2 ^ (9 * n) * 8 + n
 unfoldable pub levelAt : ℕ → ℕ → ℕ
 levelAt p k = cond (eqb (p / 2 ^ (9 * (k % 8))) (k / 8)) (k % 8) 0
 
--- "The depth d of an address is the greatest level among marks whose prefix it begins with, or 0"
+-- the depth at the page p: the greatest level among the keys whose indexes it begins with, 0 if there is none
 unfoldable pub depthOf : ℕ → List ℕ → ℕ
 depthOf p [] = 0
 depthOf p (k ∷ ks) = max (levelAt p k) (depthOf p ks)
 
--- "each of level 1 to 5 with only the indexes it keeps"; n is the number of levels
+-- a key of n levels: its level is 1 to n + 1, and above the level stand only the n − level indexes that it keeps
 unfoldable pub keyFits : ℕ → ℕ → Bool
 keyFits n k = leb 1 (k % 8) && leb (k % 8) (suc n) && ltb (k / 8) (2 ^ (9 * (n - k % 8)))
 
--- each key fits, "no two alike"
+-- each key fits, and all are different
 unfoldable pub keysFit : ℕ → List ℕ → Bool
 keysFit n [] = true
 keysFit n (k ∷ ks) = keyFits n k && not (any (eqb k) ks) && keysFit n ks

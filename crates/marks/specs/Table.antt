@@ -15,7 +15,7 @@ use Rattle.entry.specs.Levels.{ofLevels}
 use Rattle.marks.specs.declared.Marks.{Marks}
 use Rattle.marks.specs.Key.{keyOf}
 
--- "At most 64 marks are set"
+-- how many marks can be set
 abbrev pub room : ℕ
 room = 64
 
@@ -51,7 +51,7 @@ cleared t i = cond (ltb i room) (record { set = t .set - 2 ^ i; place = t .place
 unfoldable pub withoutKey : Marks → ℕ → Marks
 withoutKey t k = cleared t (placeOf (t .place) (t .set) k)
 
--- "Set mark: 4 (2^48 or more only), 5 if the level is not 1 to 5, 6 if set already, 7 if 64 are set";
+-- a mark is set: 4 if the address is too great, 5 if there is no such level, 6 if it is set already, 7 if no place is free;
 -- of n levels, the keys of a table, an address and a level
 abbrev pub setTests : ℕ → List ℕ → ℕ → ℕ → List (Bool × ℕ)
 setTests n ks a level =
@@ -61,7 +61,7 @@ setTests n ks a level =
 unfoldable pub setRefusal : ℕ → List ℕ → ℕ → ℕ → Option ℕ
 setRefusal n ks a level = firstFailed (setTests n ks a level)
 
--- "Clear mark: 4, 5, 6 if not set"
+-- a mark is cleared: 4 and 5 as above, 6 if it is not set
 abbrev pub clearTests : ℕ → List ℕ → ℕ → ℕ → List (Bool × ℕ)
 clearTests n ks a level =
     let held : Bool = any (eqb (keyOf level (pageOf a))) ks in

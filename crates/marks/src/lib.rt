@@ -303,13 +303,6 @@ impl Marks {
         }
     }
 
-    // The depth of an address.
-    pub fn depth(self, address: GuestVirtual) -> u64
-        ensures { λ r. ⌜ r ≡ depthOf (pageOf (address .0)) (keys (self .place) (self .set)) ⌝ }
-    {
-        depth(&self.place, self.set, address)
-    }
-
     // The table with the key, in ascending order at the first places; unchanged where no place is free.
     pub fn with_key(self, key: u64) -> Marks
         ensures { λ r. ⌜ r ≡ withKey self key ⌝ }

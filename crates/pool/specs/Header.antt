@@ -1,6 +1,6 @@
 -- The words of a table. An entry is the low 52 bits of a word; the high 12 bits of words 0 to 4 hold the table's header:
 -- its level, the frame of the table above it, its slot there, and the host frame of the guest table that it stands for.
--- Document 01 leaves open "bits of host and shadow entries that no rule here reads"; an entry's rules end at bit 51.
+-- No rule of document 01 reads those bits: an entry's rules end at bit 51.
 -- Assumes nothing.
 use Prim.Native.Nat.{ℕ, zero, suc, _+_, _-_, _*_, _/_, _%_}
 use mathlib.Core.List.{List}

@@ -35,7 +35,7 @@ end p d m = yields (record { pool = p; way = d }) m
 abbrev pub poolOf : ℕ → ℕ → ℕ → ℕ → Pool
 poolOf n l u t = record { fresh = n; free = l; used = u; top = t }
 
--- nothing is in use; "all held paths are dropped"
+-- nothing is in use, as once all paths are dropped
 unfoldable pub noneOf : Pool
 noneOf = poolOf 0 0 0 0
 

@@ -42,7 +42,7 @@ open-refusal words h s = go (wordsFit words) (areasFit (configBy words h s))
     go true false n = refl
     go false b n = refl
 
--- "a refused one returns one of zeros", and leaves every word; no later call takes that record
+-- a refused opening hands back a record of zeros and leaves every word; no later call takes that record
 module _ (m : List ℕ) (h s : ℕ) (refused : refusalOf (length m) h s ≢ 0) where
   pub refused-opening : opening (configBy (length m) h s) m ≡ (say.no (refusalOf (length m) h s), none)
   unfolding opening
@@ -100,7 +100,7 @@ module _ (m : List ℕ) (h s : ℕ) (grant : refusalOf (length m) h s ≡ 0) whe
   pub granted-long : length memory ≡ length m
   granted-long = entered .1 .len ∙ clear-beside m (h + s) .len
 
-  -- "keeps guest words"
+  -- the guest words are as before
   pub granted-guest : drop (512 * guestBase c) memory ≡ drop (512 * guestBase c) m
   granted-guest =
       beside-drop (entered .1) (512 * guestBase c) (omega arith) ∙ beside-drop (clear-beside m (h + s)) (512 * guestBase c) (omega arith)

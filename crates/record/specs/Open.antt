@@ -24,7 +24,7 @@ use Rattle.pool.specs.declared.Went.{Went}
 unfoldable pub refusalOf : ℕ → ℕ → ℕ → ℕ
 refusalOf words h s = number (openRefusal (configBy words h s) words)
 
--- "Clears host and shadow frames": the first n frames
+-- the first n frames are cleared: an opening clears all host and shadow frames
 unfoldable pub clearedOf : List ℕ → ℕ → List ℕ
 clearedOf m n = zeroed m 0 (n * 512)
 
@@ -32,7 +32,7 @@ clearedOf m n = zeroed m 0 (n * 512)
 unfoldable pub enteredOf : List ℕ → ℕ → ℕ → After Went
 enteredOf m h s = enterOf (hostArea (configBy (length m) h s)) noneOf (clearedOf m (h + s)) 0
 
--- "root 0, no marks"; no path is held
+-- the record of a granted opening: root 0, no mark set, no path held
 unfoldable pub firstOf : Layout → Pool → Record
 firstOf l p = record {
   layout = l;
@@ -47,7 +47,7 @@ grantedOf m h s = let t = enteredOf m h s in yields (firstOf (layoutOf (length m
 abbrev pub granted : After Record → After Opened
 granted k = yields (record { unit = k .result; refusal = 0 }) (k .memory)
 
--- "a refused one returns one of zeros"; it leaves every word
+-- a refused opening hands back a record of zeros and leaves every word
 unfoldable pub openOf : List ℕ → ℕ → ℕ → After Opened
 openOf m h s =
     let n = refusalOf (length m) h s in

@@ -22,11 +22,11 @@ use Rattle.record.specs.declared.Pools.{Pools}
 use Rattle.record.specs.declared.Record.{Record}
 use Rattle.record.specs.declared.Head.{Head}
 
--- "four levels"
+-- the levels N of the guest's tables and of the host's
 abbrev pub levels : ℕ
 levels = 4
 
--- the layout that an opening gives a memory of that many words; "A frame is 512 words"
+-- the layout that an opening gives a memory of that many words, 512 to a frame
 abbrev pub layoutOf : ℕ → ℕ → ℕ → Layout
 layoutOf words h s = record { levels = levels; hosts = h; shadows = s; frames = words / 512 }
 
@@ -40,7 +40,7 @@ configOf r = config (r .layout)
 abbrev pub guestFrame : ℕ → GuestPhysical
 guestFrame g = record { 0 = g }
 
--- "a held d = 4 frame", where the path of no index is held; 0 says that it is not, since frame 0 is a host frame
+-- the frame held at depth N, by the path of no index; 0 says that it is not held, since frame 0 is a host frame
 abbrev pub heldTop : ℕ → Option ℕ
 heldTop f = cond (eqb f 0) none (some f)
 
@@ -72,7 +72,7 @@ fitsOf r len = recordFits (reading r) len && eqb (r .layout .levels) levels && p
 
 -- ---- in parts
 
--- the sizes: the memory's length, "words, H and S as for opening"
+-- the sizes: the memory's length, and that an opening would grant the words, H and S
 unfoldable pub sizesFit : Layout → ℕ → Bool
 sizesFit l len = eqb len (l .frames * 512) && (ltb 0 (l .frames) && leb (l .frames) 65536) && areasFit (config l)
 
@@ -97,7 +97,7 @@ headOf r = record {
   set = r .guest .marks .set;
 }
 
--- "one of zeros"
+-- what a refused opening hands back; every later call refuses it with 3
 unfoldable pub zeros : Record
 zeros = record {
   layout = record { levels = 0; hosts = 0; shadows = 0; frames = 0 };

@@ -33,6 +33,12 @@ pub struct Guest {
     pub marks: Marks,
 }
 
+// A record handed back with the depth of an address.
+pub struct Deep {
+    pub unit: Record,
+    pub depth: u64,
+}
+
 // What a call is given and hands back.
 pub struct Record {
     pub layout: Layout,
@@ -240,10 +246,14 @@ impl Record {
     }
 
     // The depth of an address.
-    pub fn depth(self, address: GuestVirtual) -> u64
-        ensures { λ r. ⌜ r ≡ depthOf (pageOf (address .0)) (keys (self .guest .marks .place) (self .guest .marks .set)) ⌝ }
+    pub fn depth(self, address: GuestVirtual) -> Deep
+        ensures { λ r. ⌜ r ≡ record { unit = self; depth = depthOf (pageOf (address .0)) (keys (self .guest .marks .place) (self .guest .marks .set)) } ⌝ }
     {
-        marks::depth(&self.guest.marks.place, self.guest.marks.set, address)
+        let depth = marks::depth(&self.guest.marks.place, self.guest.marks.set, address);
+        Deep {
+            unit: self,
+            depth: depth,
+        }
     }
 
     // The record with another head; the places of the marks stay.

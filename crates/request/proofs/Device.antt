@@ -15,7 +15,7 @@ use Rattle.walk.specs.Memory.{walkedOf}
 use Rattle.walk.proofs.Laws.{TurnFits, page-fits}
 use Rattle.translate.proofs.Fits.{ArrivedIn}
 
--- "A device store takes one host walk, with W as for a page"
+-- a device store's walk: one host walk, then W if the frame is mapped read-only
 abbrev pub deviceScript : ℕ → Walk Fault Place
 deviceScript g = hosted g >>= λ p. must (p .1) (HostReadOnly g) >> done p
 

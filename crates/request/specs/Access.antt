@@ -29,7 +29,7 @@ use Rattle.translate.specs.Translate.{exitBy, translateOf}
 abbrev pub serving : Held → Answer → List ℕ → After Served
 serving h x m = yields (record { held = h; answer = x }) m
 
--- "A refusal returns its number with the record given"
+-- a refusal says its number and leaves what is held as it was
 abbrev pub refused : Held → ℕ → List ℕ → After Served
 refused h n m = serving h (answer.Refused n) m
 
@@ -42,8 +42,8 @@ stored p e b m = yields (record { pool = p; exits = e; ok = b }) m
 abbrev pub putBy : Pool → ℕ → ℕ → ℕ → After Left → After Put
 putBy p t i v o = cond (o .result .ok) (stored (o .result .pool) 1 true (setIn (o .memory) t i v)) (stored p 0 false (o .memory))
 
--- word i of host frame t gets v: "1 for a store into a frame that is watched once the store is translated"; a frame that is not
--- watched has no word that a held path read
+-- word i of host frame t gets v: if the frame is watched that is an exit, and the paths that read the word are dropped; a frame
+-- that is not watched has no word that a held path read
 unfoldable pub putOf : Config → List ℕ → Pool → ℕ → ℕ → ℕ → After Put
 putOf c m p t i v =
     cond (watchedOf c m (p .fresh) t) (putBy p t i v (scanOf c (Word (page t) i) p m)) (stored p 0 true (setIn m t i v))
@@ -77,7 +77,7 @@ storeBy c h a v o walked.Damaged = refused h 11 (o .memory)
 unfoldable pub storeOf : Config → ℕ → List ℕ → Held → ℕ → ℕ → ℕ → ℕ → After Served
 storeOf c ht m h root a d v = let o = translateOf c ht m h root true a d in storeBy c h a v o (o .result .walked)
 
--- "For a device store: the host walk's words, 1 exit for H or W, 1, if granted, for a watched frame"
+-- a device store counts the words of its host walk; H or W is an exit, and so is a granted store into a watched frame
 abbrev pub deviceBy : Config → List ℕ → Held → ℕ → ℕ → Walked → After Served
 deviceBy c m h a v (walked.Arrived t w n) = writtenBy h h n 0 (putOf c m (h .pool) (t .0) (wordOf a) v)
 deviceBy c m h a v (walked.Faulted x n) = serving h (answer.Faulted x n (exitBy (walked.Faulted x n))) m

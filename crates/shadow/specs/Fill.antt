@@ -17,8 +17,8 @@ againBy (To f) t again = t
 againBy Not t again = again
 againBy Damaged t again = t
 
--- the entry of a path is set, with the tables that it lacks: "If a new path would make them more than S, all held paths are
--- dropped first". The header of each new table has the host frame of its guest table; guests has them from the top one on
+-- the entry of a path is set, with the tables that it lacks; if they do not fit into S, all held paths are dropped first.
+-- The header of each new table has the host frame of its guest table; guests has them from the top one on
 unfoldable pub fillOf : Config → List ℕ → Pool → List ℕ → List ℕ → ℕ → After Went
 fillOf c guests p m is e =
     let t = insertOf (shadowArea c) guests p m is e in

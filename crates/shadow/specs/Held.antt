@@ -9,11 +9,12 @@ use Rattle.area.specs.Tree.{lookOf}
 use Rattle.layout.specs.declared.HostWalk.{HostWalk}
 use Rattle.layout.specs.Layout.{namedBy}
 
--- "first H host frames, then S shadow frames"
+-- the S shadow frames, which follow the H host frames
 abbrev pub shadowArea : Config → Area
 shadowArea c = record { base = c .hosts; size = c .shadows; levels = c .levels }
 
--- "A held path is a real shadow entry": what stands at the end of a path, from the entry of the top table on. Only the shadow entries on its way are read
+-- a path is held if a shadow entry stands at its end: what stands there, from the entry of the top table on. Only the shadow
+-- entries on its way are read
 unfoldable pub heldOf : Config → List ℕ → ℕ → List ℕ → HostWalk
 heldOf c m top is = namedBy c (lookOf (c .hosts) (c .shadows) m top is 0)
 

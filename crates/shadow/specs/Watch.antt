@@ -16,6 +16,6 @@ unfoldable pub watchedFrom : List ℕ → ℕ → ℕ → ℕ → Bool
 watchedFrom m b t zero = false
 watchedFrom m b t (suc k) = cond (watchesOf m (b + k) t) true (watchedFrom m b t k)
 
--- "A host frame is watched while the shadow part of some held path reads a guest entry in it"
+-- is host frame t watched: does a shadow table, of those handed out so far, stand for a guest table in it?
 unfoldable pub watchedOf : Config → List ℕ → ℕ → ℕ → Bool
 watchedOf c m fresh t = watchedFrom m (c .hosts) t fresh

@@ -26,7 +26,7 @@ pub record Counted : Type 0 where
 abbrev pub one : Bool → ℕ
 one b = cond b 1 0
 
--- "1 for H or W"
+-- a fault that the monitor has to see to, H or W, costs one exit; A, M and P cost none
 abbrev pub hostExit : {A : Type 0} → Result Fault A → ℕ
 hostExit (granted a) = 0
 hostExit (failed (Absent n)) = 0
@@ -35,7 +35,7 @@ hostExit (failed (Protected n)) = 0
 hostExit (failed (HostAbsent g)) = 1
 hostExit (failed (HostReadOnly g)) = 1
 
--- is the request served by the held path? At depth 0 not if "the held path forbids the store"
+-- is the request served by the held path? Not if none is held, nor, at depth 0, if it is a store and the path is not writable
 abbrev pub serves : Bool → ℕ → Option Held → Bool
 serves st d none = false
 serves st zero (some h) = not st || h .right
@@ -45,11 +45,10 @@ serves st (suc d) (some h) = true
 abbrev pub heldBy : List ℕ → Trace Fault Place → Bool → Held
 heldBy p s w = record { path = p; right = w; reads = s .reads; uses = s .uses }
 
--- A request at depth d of at most N, whose path is p; s is the trace of its shadow part.
--- "A fault in the shadow part carries the plain walk's count. A later fault carries (4 − d) .. and the words read by the direct
--- part"; "A granted request reads (4 − d) + 5d words". "Exits add: 1 if d is at most 4 and the path was not held, or d = 0 and
--- the held path forbids the store; 1 for H or W in the direct part". "A path not held is filled exactly if the request meets
--- no fault in its shadow part"
+-- A request at depth d of at most N, whose path is p; held: a held path serves it; s is the trace of its shadow part.
+-- A fault in the shadow part counts the words up to it, as the plain walk does, and fills nothing. Else the references are N − d
+-- shadow entries and the words of the direct part, N + 1 a level if it is granted, and a path that was not held is filled.
+-- Exits: one if no held path serves, and one for H or W in the direct part
 abbrev pub shadowed : Config → Machine → Book → Bool → ℕ → List ℕ → List ℕ → Bool → Trace Fault Place → Result Fault Place → Counted
 shadowed c m b st d is p held s (failed x) = record { references = s .count; exits = one (not held); book = b }
 shadowed c m b st d is p held s (granted r) =
@@ -60,7 +59,8 @@ shadowed c m b st d is p held s (granted r) =
       book = cond held b (holding b (fill c (heldBy p s (r .1)) (b .held)));
     }
 
--- "At d = 5 nothing is shadowed"; "the direct part, which at d = 5 starts with the root's host walk"
+-- nothing is shadowed: the words of the walk r count, and H or W is an exit. At depth N + 1 r is the plain walk, for a device store
+-- the host walk of its frame
 abbrev pub unshadowed : Book → Trace Fault Place → Counted
 unshadowed b r = record { references = r .count; exits = hostExit (r .result); book = b }
 
@@ -73,8 +73,8 @@ request c m b st a d =
     (shadowed c m b st d is (upper c d is) (serves st d (find (upper c d is) (b .held))) s (s .result))
     (unshadowed b (plain c m st a))
 
--- "1 for a store into a frame that is watched once the store is translated"; "a store fills first, then writes, then drops".
--- i: the word of the frame that the store came to
+-- a store that is granted, after its path is filled: one exit more if its frame is watched, then the paths that read the word are
+-- dropped. i: the word of the frame that the store came to
 unfoldable pub storing : ℕ → Result Fault Place → Counted → Counted
 storing i (failed x) k = k
 storing i (granted p) k = record {

@@ -19,11 +19,11 @@ firstFailed (x ∷ xs) = cond (x .0) (firstFailed xs) (some (x .1))
 
 -- ---- opening
 
--- "1 if the words are no multiple of 512 or the frames are 0 or more than 65,536"
+-- refused with 1 unless the words are whole frames of 512, at least one frame and at most 65,536
 abbrev pub wordsFit : ℕ → Bool
 wordsFit words = eqb (words % 512) 0 && ltb 0 (words / 512) && leb (words / 512) 65536
 
--- "then 2 if H or S is below 4 or H + S leaves no guest frame"
+-- refused with 2 unless H and S are at least N each and a frame is left for the guest
 abbrev pub areasFit : Config → Bool
 areasFit c = leb (c .levels) (c .hosts) && leb (c .levels) (c .shadows) && ltb (guestBase c) (c .frames)
 
@@ -45,20 +45,20 @@ abbrev pub allOf : {A : Type 0} → (A → Bool) → List A → Bool
 allOf f [] = true
 allOf f (x ∷ xs) = f x && allOf f xs
 
--- "each of level 1 to 5 with only the indexes it keeps"
+-- a mark has a level from 1 to N + 1 and exactly the N − level indexes (none at N + 1) that it keeps, each of 9 bits
 abbrev pub markFits : Config → Mark → Bool
 markFits c m = levelFits c (m .level) && eqb (length (m .prefix)) (c .levels - m .level) && allOf (λ i. ltb i 512) (m .prefix)
 
--- "no two alike"
+-- any two marks differ in level or in prefix
 abbrev pub noTwoAlike : List Mark → Bool
 noTwoAlike [] = true
 noTwoAlike (m ∷ ms) = not (isSet m ms) && noTwoAlike ms
 
--- "at most 64 marks, each of level 1 to 5 with only the indexes it keeps, no two alike"
+-- there are at most 64 marks, each fits, and no mark is there twice
 abbrev pub marksFit : Config → List Mark → Bool
 marksFit c ms = leb (length ms) (c .markRoom) && allOf (markFits c) ms && noTwoAlike ms
 
--- "root below 2^36": so is every guest frame number
+-- a guest frame number, the root's too, has at most 36 bits
 abbrev pub frameFits : Config → ℕ → Bool
 frameFits c g = ltb g (2 ^ frameBits c)
 
@@ -66,7 +66,7 @@ abbrev pub topFits : Config → Option ℕ → Bool
 topFits c none = true
 topFits c (some f) = inGuestArea c f
 
--- what a record says, as the rule reads it; top is "a held d = 4 frame"
+-- what a record says, as the rule reads it; top is the host frame that is held at depth N, if one is
 pub record Record : Type 0 where
   pub words : ℕ
   pub config : Config
@@ -74,8 +74,8 @@ pub record Record : Type 0 where
   pub marks : List Mark
   pub top : Option ℕ
 
--- "3 first, if the memory's length is another or the record breaks a rule: words, H and S as for opening, root below 2^36, at
--- most 64 marks, .., a held d = 4 frame in the guest area"
+-- refused with 3 unless the memory has the record's length, the sizes are such as an opening grants, the root and the marks fit,
+-- and a frame held at depth N lies in the guest area
 unfoldable pub recordFits : Record → ℕ → Bool
 recordFits r len =
     eqb len (r .words) && wordsFit (r .words) && areasFit (r .config) && eqb (r .config .frames) (r .words / 512)
@@ -83,7 +83,7 @@ recordFits r len =
 
 -- ---- later calls; those that no covered run meets, 3 and 11, are not here
 
--- "4 if the address is 2^48 or more or no multiple of 8"
+-- refused with 4 unless the address has at most 48 bits, a device's too, and is a multiple of 8; a mark's needs only the first
 abbrev pub addressFits : Config → ℕ → Bool
 addressFits c a = ltb a (2 ^ addressBits c)
 
@@ -109,6 +109,6 @@ tests c (clearMark a n) m b =
     let set : Bool = isSet (markAt c n (addressIndexes c a)) (b .marks) in
     (addressFits c a, 4) ∷ (levelFits c n, 5) ∷ (set, 6) ∷ []
 
--- "a refusal is the first number below that applies on book and machine"
+-- the number that a call is refused with on this machine and book: that of its first test that fails
 unfoldable pub refusal : Config → Call → Machine → Book → Option ℕ
 refusal c x m b = firstFailed (tests c x m b)

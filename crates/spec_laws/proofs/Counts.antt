@@ -22,7 +22,7 @@ use Rattle.spec_laws.proofs.Granted.{through, then-trace, hosted-grante
 use Rattle.spec_laws.proofs.Parts.{plain-parts, direct-result}
 use Rattle.spec_laws.proofs.Lists.{is-true, is-false}
 
--- "A mapped frame's host walk reads one word a level"
+-- the host walk of a mapped frame reads N words
 pub mapped-cost : (c : Config) (m : Machine) (g : ℕ) (r : Place) → (world c m) .hostAt g ≡ some r → (world c m) .hostCost g ≡ c .levels
 unfolding world hostCost
 mapped-cost c m g r h = ap (costOf c (m .mappings) g) h
@@ -54,7 +54,7 @@ walk-count w k cost c st root is r h =
     let l = levels-count w k cost c st (c .levels) (t .mid .0) true is r (t .next) in
     omega arith
 
--- "A granted plain walk reads 24 words": N + N·(N + 1)
+-- a granted plain walk reads N + N·(N + 1) words, with four levels 24
 pub plain-count : (c : Config) (m : Machine) (st : Bool) (a : ℕ) (r : Place) → (plain c m st a) .result ≡ granted r
     → (plain c m st a) .count ≡ c .levels + c .levels * suc (c .levels)
 unfolding plain
@@ -87,7 +87,8 @@ direct-count c m st a d at r b h =
     let l : length is - (c .levels - d) ≡ d = ap (λ n. n - (c .levels - d)) (indexes-length (c .levels) (pageOf a)) ∙ omega arith in
     e ∙ ap (λ n. n * suc (c .levels)) (length-drop (c .levels - d) is ∙ l)
 
--- "A granted request reads (4 − d) + 5d words": N + N·d, and at depth N + 1 the plain walk's
+-- a granted request at depth d reads N + N·d words: N − d shadow entries and N + 1 words a level below; at depth N + 1 it is the
+-- plain walk
 pub request-count : (c : Config) (m : Machine) (b : Book) (st : Bool) (a d : ℕ) (r : Place) → d ≤ suc (c .levels)
     → (plain c m st a) .result ≡ granted r → (request c m b st a d) .references ≡ c .levels + c .levels * d
 unfolding request

@@ -54,7 +54,7 @@ walk-split c st root xs ys =
     down : Place → Walk Fault Place
     down r = levels c st (lower (c .levels) xs) (r .0) (r .1) ys
 
--- "Its shadow part is the plain walk up to the host frame of the guest table at level d": the direct part goes on from there
+-- the plain walk is its shadow part, down to the guest table of level d, and its direct part, which goes on from there
 pub plain-parts : (c : Config) (st : Bool) (d root : ℕ) (is : List ℕ) → length is ≡ c .levels → d ≤ c .levels
     → walk c st root is ≡ (shadowPart c st d root is >>= λ r. directPart c st d r is)
 plain-parts c st d root is l b =

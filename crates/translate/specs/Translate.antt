@@ -27,7 +27,7 @@ use Rattle.shadow.specs.Fill.{fillOf}
 use Rattle.translate.specs.declared.Held.{Held}
 use Rattle.translate.specs.declared.Translated.{Translated}
 
--- "1 for H or W"
+-- H and W cost an exit, the other faults none
 abbrev pub exitBy : Walked → ℕ
 exitBy (walked.Arrived t w n) = 0
 exitBy (walked.Faulted (fault.Absent l) n) = 0
@@ -55,7 +55,7 @@ HeldFits c h = (h .pool .fresh ≤ c .shadows) × ((h .frame .0 ≡ 0) ⊎ ((gue
 abbrev pub translation : Held → ℕ → Walked → Translated
 translation h e r = record { held = h; exits = e; walked = r }
 
--- "A later fault carries (4 − d) .. and the words read by the direct part": from the guest table of level d in host frame t
+-- the direct part, from the guest table of level d in host frame t on; the N − d shadow entries before it count too
 unfoldable pub directOf : Config → ℕ → List ℕ → Bool → ℕ → ℕ → ℕ → Bool → Walked
 directOf c ht m st a d t w = walkedOf c ht m (c .levels - d) (levels c st (0 + d) t w (indexes d (pageOf a)))
 
@@ -63,7 +63,7 @@ directOf c ht m st a d t w = walkedOf c ht m (c .levels - d) (levels c st (0 + d
 unfoldable pub servedOf : Config → ℕ → List ℕ → Held → Bool → ℕ → ℕ → ℕ → Bool → ℕ → Translated
 servedOf c ht m h st a d t w e = translation h (e + exitBy (directOf c ht m st a d t w)) (directOf c ht m st a d t w)
 
--- is the request served by a held path with this writable bit? At depth 0 not if "the held path forbids the store"
+-- is the request served by a held path with this writable bit? At depth 0 a store is not if the bit is unset
 unfoldable pub servesOf : Bool → ℕ → Bool → Bool
 servesOf st d w = cond (eqb d 0) (not st || w) true
 
@@ -81,8 +81,8 @@ fillBy c ht h st a d t w s (To f) = yields (servedOf c ht (s .memory) (record { 
 fillBy c ht h st a d t w s Not = damaged h (s .memory)
 fillBy c ht h st a d t w s Damaged = damaged h (s .memory)
 
--- the path is filled with host frame t and writable bit w: a shadow entry, "with the switch bit when d is 1 to 4; for d = 4 it
--- stands in the record". gs: the host frames of the guest tables on its way
+-- the path is filled with host frame t and writable bit w: a shadow entry, with the switch bit unless d is 0, or at depth N the
+-- frame in the record. gs: the host frames of the guest tables on its way
 unfoldable pub filledOf : Config → ℕ → List ℕ → Held → List ℕ → Bool → ℕ → ℕ → ℕ → Bool → After Translated
 filledOf c ht m h gs st a d t w =
     let s = fillOf c gs (h .pool) m (pathIndexes c d a) (entryFor t (ltb 0 d) w) in
@@ -105,7 +105,7 @@ foundBy c ht m h root st a d (host.Found t w) =
 foundBy c ht m h root st a d (host.Absent n) = missedOf c ht m h root st a d
 foundBy c ht m h root st a d host.Damaged = damaged h m
 
--- at depth N + 1 "nothing is shadowed"
+-- at depth N + 1 the whole plain walk, without a shadow entry
 unfoldable pub plainOf : Config → ℕ → List ℕ → Held → ℕ → Bool → ℕ → Translated
 plainOf c ht m h root st a =
     let r = walkedOf c ht m 0 (walk c st root (indexes (c .levels) (pageOf a))) in

@@ -6,7 +6,7 @@ ghost use Prim.Native.Nat.{_<_};
 ghost use Rattle.words.specs.After.{yields};
 ghost use Rattle.marks.specs.Table.{keys, setRefusal, clearRefusal, number};
 ghost use Rattle.record.specs.Record.{withMarks};
-ghost use Rattle.calls.specs.Calls.{Sound, withHeld, servedReply, turnReply, answerOf, openCall, loadCall, storeCall, deviceCall, rootCall, mapCall, unmapCall, heldAfter, markedOf, marksAfter, markCall, setMarkCall, clearMarkCall};
+ghost use Rattle.calls.specs.Calls.{Promises, Sound, withHeld, servedReply, turnReply, answerOf, openCall, loadCall, storeCall, deviceCall, rootCall, mapCall, unmapCall, heldAfter, markedOf, marksAfter, markCall, setMarkCall, clearMarkCall};
 use calls::Reply;
 use calls::Turn;
 use entry::GuestVirtual;
@@ -68,7 +68,7 @@ fn answer_of(refusal: u64) -> Answer
 
 // Opens the memory: 1, 2.
 pub fn open(mem: &mut [u64], hosts: u64, shadows: u64) -> Reply
-    ensures { λ r. ⌜ yields r (now (mem .exit)) ≡ openCall (now (mem .entry)) hosts shadows ⌝ }
+    ensures { λ r. ⌜ Promises r (now (mem .exit)) (openCall (now (mem .entry)) hosts shadows) ⌝ }
 {
     let opened = record::open(mem, hosts, shadows);
     let unit = opened.unit;
@@ -79,42 +79,42 @@ pub fn open(mem: &mut [u64], hosts: u64, shadows: u64) -> Reply
 }
 
 pub fn load(unit: Record, mem: &mut [u64], a: u64) -> Reply
-    ensures { λ r. ⌜ yields r (now (mem .exit)) ≡ loadCall unit (now (mem .entry)) a ⌝ }
+    ensures { λ r. ⌜ Promises r (now (mem .exit)) (loadCall unit (now (mem .entry)) a) ⌝ }
 {
     let s = calls::load_at(unit.head(), &unit.guest.marks.place, mem, a);
     served(unit, s)
 }
 
 pub fn store(unit: Record, mem: &mut [u64], a: u64, v: u64) -> Reply
-    ensures { λ r. ⌜ yields r (now (mem .exit)) ≡ storeCall unit (now (mem .entry)) a v ⌝ }
+    ensures { λ r. ⌜ Promises r (now (mem .exit)) (storeCall unit (now (mem .entry)) a v) ⌝ }
 {
     let s = calls::store_at(unit.head(), &unit.guest.marks.place, mem, a, v);
     served(unit, s)
 }
 
 pub fn device_store(unit: Record, mem: &mut [u64], a: u64, v: u64) -> Reply
-    ensures { λ r. ⌜ yields r (now (mem .exit)) ≡ deviceCall unit (now (mem .entry)) a v ⌝ }
+    ensures { λ r. ⌜ Promises r (now (mem .exit)) (deviceCall unit (now (mem .entry)) a v) ⌝ }
 {
     let s = calls::device_store_at(unit.head(), &unit.guest.marks.place, mem, a, v);
     served(unit, s)
 }
 
 pub fn load_root(unit: Record, mem: &mut [u64], g: u64) -> Reply
-    ensures { λ r. ⌜ yields r (now (mem .exit)) ≡ rootCall unit (now (mem .entry)) g ⌝ }
+    ensures { λ r. ⌜ Promises r (now (mem .exit)) (rootCall unit (now (mem .entry)) g) ⌝ }
 {
     let t = calls::root_at(unit.head(), &unit.guest.marks.place, mem, g);
     turned(unit, t)
 }
 
 pub fn map(unit: Record, mem: &mut [u64], g: u64, f: u64, writable: bool) -> Reply
-    ensures { λ r. ⌜ yields r (now (mem .exit)) ≡ mapCall unit (now (mem .entry)) g f writable ⌝ }
+    ensures { λ r. ⌜ Promises r (now (mem .exit)) (mapCall unit (now (mem .entry)) g f writable) ⌝ }
 {
     let t = calls::map_at(unit.head(), &unit.guest.marks.place, mem, g, f, writable);
     turned(unit, t)
 }
 
 pub fn unmap(unit: Record, mem: &mut [u64], g: u64) -> Reply
-    ensures { λ r. ⌜ yields r (now (mem .exit)) ≡ unmapCall unit (now (mem .entry)) g ⌝ }
+    ensures { λ r. ⌜ Promises r (now (mem .exit)) (unmapCall unit (now (mem .entry)) g) ⌝ }
 {
     let t = calls::unmap_at(unit.head(), &unit.guest.marks.place, mem, g);
     turned(unit, t)
@@ -219,14 +219,14 @@ fn mark_call(unit: Record, mem: &mut [u64], a: u64, level: u64, setting: bool) -
 
 // Sets a mark: 3, 4, 5, 6, 7, 11.
 pub fn set_mark(unit: Record, mem: &mut [u64], a: u64, level: u64) -> Reply
-    ensures { λ r. ⌜ yields r (now (mem .exit)) ≡ setMarkCall unit (now (mem .entry)) a level ⌝ }
+    ensures { λ r. ⌜ Promises r (now (mem .exit)) (setMarkCall unit (now (mem .entry)) a level) ⌝ }
 {
     mark_call(unit, mem, a, level, true)
 }
 
 // Clears a mark: 3, 4, 5, 6, 11.
 pub fn clear_mark(unit: Record, mem: &mut [u64], a: u64, level: u64) -> Reply
-    ensures { λ r. ⌜ yields r (now (mem .exit)) ≡ clearMarkCall unit (now (mem .entry)) a level ⌝ }
+    ensures { λ r. ⌜ Promises r (now (mem .exit)) (clearMarkCall unit (now (mem .entry)) a level) ⌝ }
 {
     mark_call(unit, mem, a, level, false)
 }

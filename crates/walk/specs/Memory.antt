@@ -66,7 +66,7 @@ walkedOf c top m n p = walkedBy c top m ((trace (memoryWorld c top m) p) .result
 unfoldable pub turn : Config → Bool → ℕ → ℕ → ℕ → Bool → Walk Fault Place
 turn c st level t i w = entry c level t i >>= λ e. next st (eqb level 1) (e .0) (w && e .1)
 
--- a page is found: "for a store, a page whose level 1 host entry is not writable is fault W"
+-- a page is found: a store meets W unless the page is mapped writable
 unfoldable pub foundOf : Bool → ℕ → HostPhysical → Bool → Bool → ℕ → Walked
 foundOf st g p writable right n =
     cond (not st || writable) (walked.Arrived p (right && writable) n) (walked.Faulted (HostReadOnly g) n)

@@ -1,4 +1,4 @@
--- Words of the lent memory: "A frame is 512 words". Reads and stores past the end are total.
+-- Words of the lent memory, 512 to a frame. Reads and stores past the end are total.
 -- Assumes nothing.
 use Prim.Native.Nat.{ℕ, zero, suc, _+_, _*_}
 use mathlib.Core.List.{List}

@@ -8,7 +8,7 @@ returns c =
     let clear-mark = c .before .before .before .before .before .before .clear-mark in
     let put-back = c .before .put-back in
     let answer-of = c .answer-of in
-    rw (answer-of .ensures, put-back .ensures .0, put-back .ensures .1, ← record-in .ensures, ← clear-mark .ensures)
+    rw (answer-of .ensures, put-back .ensures .0, put-back .ensures .1, ← record-in .ensures, ← clear-mark .ensures .leaves)
 
 pub cangrieb-clear-mark-spec : {M : Type 1} → statement M
 cangrieb-clear-mark-spec =

@@ -6,7 +6,7 @@ returns : tie.Need-returns
 returns c =
     let put-back = c .before .put-back in
     let answer-of = c .answer-of in
-    rw (answer-of .ensures, put-back .ensures .0, put-back .ensures .1, ← c .before .before .before .before .before .before .«open» .ensures)
+    rw (answer-of .ensures, put-back .ensures .0, put-back .ensures .1, ← c .before .before .before .before .before .before .«open» .ensures .leaves)
 
 pub cangrieb-open-spec : {M : Type 1} → statement M
 cangrieb-open-spec = tie.close (tie.spec (λ c κs. search needs) (λ c κs. search needs) (λ c κs. search needs) (λ c. search needs) returns)

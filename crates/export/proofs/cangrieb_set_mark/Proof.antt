@@ -8,7 +8,7 @@ returns c =
     let set-mark = c .before .before .before .before .before .before .set-mark in
     let put-back = c .before .put-back in
     let answer-of = c .answer-of in
-    rw (answer-of .ensures, put-back .ensures .0, put-back .ensures .1, ← record-in .ensures, ← set-mark .ensures)
+    rw (answer-of .ensures, put-back .ensures .0, put-back .ensures .1, ← record-in .ensures, ← set-mark .ensures .leaves)
 
 pub cangrieb-set-mark-spec : {M : Type 1} → statement M
 cangrieb-set-mark-spec =

@@ -1,3 +1,4 @@
+use Rattle.calls.proofs.Laws.{promised}
 use borrow.Author.Needs.{needs}
 use Rattle.unit.proofs.load_root.Statement.{statement}
 use Rattle.unit.proofs.load_root.Tie as tie
@@ -7,7 +8,7 @@ returns c =
     let head = c .before .before .before .before .before .head in
     let root-at = c .before .root-at in
     let turned = c .turned in
-    rw (turned .ensures) (rw (head .ensures) at (root-at .ensures))
+    promised (rw (turned .ensures) (rw (head .ensures) at (root-at .ensures)))
 
 pub load-root-spec : {M : Type 1} → statement M
 load-root-spec = tie.close (tie.spec (λ c κs. search needs) (λ c κs. search needs) (λ c κs. search needs) (λ c. search needs) returns)

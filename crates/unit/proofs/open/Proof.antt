@@ -1,3 +1,4 @@
+use Rattle.calls.proofs.Laws.{promised}
 use Rattle.calls.specs.Calls.{openCall}
 use borrow.Author.Needs.{needs}
 use Rattle.unit.proofs.open.Statement.{statement}
@@ -5,7 +6,7 @@ use Rattle.unit.proofs.open.Tie as tie
 
 returns : tie.Need-returns
 unfolding openCall
-returns c = rw (← c .before .before .before .before .«open» .ensures, c .answer-of .ensures)
+returns c = promised (rw (← c .before .before .before .before .«open» .ensures, c .answer-of .ensures))
 
 pub open-spec : {M : Type 1} → statement M
 open-spec = tie.close (tie.spec (λ c κs. search needs) (λ c κs. search needs) (λ c. search needs) returns)

@@ -1,3 +1,4 @@
+use Rattle.calls.proofs.Laws.{promised}
 use borrow.Author.Needs.{needs}
 use Rattle.unit.proofs.unmap.Statement.{statement}
 use Rattle.unit.proofs.unmap.Tie as tie
@@ -7,7 +8,7 @@ returns c =
     let head = c .before .before .before .before .before .before .before .head in
     let unmap-at = c .before .before .before .unmap-at in
     let turned = c .turned in
-    rw (turned .ensures) (rw (head .ensures) at (unmap-at .ensures))
+    promised (rw (turned .ensures) (rw (head .ensures) at (unmap-at .ensures)))
 
 pub unmap-spec : {M : Type 1} → statement M
 unmap-spec = tie.close (tie.spec (λ c κs. search needs) (λ c κs. search needs) (λ c κs. search needs) (λ c. search needs) returns)

@@ -1,13 +1,13 @@
 use Prim.Native.Nat.{_-_}
 use native.Mathlib.Omega.{arith}
 use Rattle.spec.specs.Entry.{index, indexes}
-use Rattle.area.specs.Remove.{removeOf}
-use Rattle.area.proofs.Laws.{indexes-last, last-small}
+use Rattle.prune.specs.Remove.{removeOf}
+use Rattle.prune.proofs.Laws.{indexes-last, last-small}
 use Rattle.spec_laws.proofs.Indexes.{indexes-step, indexes-length}
 use Rattle.entry.proofs.Entries.{index-fits}
 use borrow.Author.Needs.{needs}
-use Rattle.area.proofs.remove.Statement.{statement}
-use Rattle.area.proofs.remove.Tie as tie
+use Rattle.prune.proofs.remove.Statement.{statement}
+use Rattle.prune.proofs.remove.Tie as tie
 
 clear-requires : tie.Need-clear-requires
 clear-requires c κs =

@@ -3,11 +3,11 @@ use native.Mathlib.Omega.{arith}
 use mathlib.Core.Path.{_≡_, refl, _∙_}
 use lib.ListN.{length}
 use Rattle.spec.specs.Entry.{frameLimit}
-use Rattle.area.specs.Remove.{releaseOf}
-use Rattle.area.proofs.Laws.{detach-good, release-step, release-none}
+use Rattle.prune.specs.Remove.{releaseOf}
+use Rattle.prune.proofs.Laws.{detach-good, release-step, release-none}
 use borrow.Author.Needs.{needs}
-use Rattle.area.proofs.release.Statement.{statement}
-use Rattle.area.proofs.release.Tie as tie
+use Rattle.prune.proofs.release.Statement.{statement}
+use Rattle.prune.proofs.release.Tie as tie
 
 abbrev Inv-loop : tie.InvT-loop
 Inv-loop a stays mem₀ k f cur₀ t₀ links₀ mem cur t links = (t < frameLimit) × (length mem ≡ length mem₀) × (releaseOf a stays cur mem links t ≡ releaseOf a stays cur₀ mem₀ links₀ t₀)

@@ -1,9 +1,9 @@
 use native.Mathlib.Omega.{arith}
-use Rattle.area.specs.Remove.{detachOf}
+use Rattle.prune.specs.Remove.{detachOf}
 use Rattle.pool.proofs.Laws.{parent-small, slot-small}
 use borrow.Author.Needs.{needs}
-use Rattle.area.proofs.detach.Statement.{statement}
-use Rattle.area.proofs.detach.Tie as tie
+use Rattle.prune.proofs.detach.Statement.{statement}
+use Rattle.prune.proofs.detach.Tie as tie
 
 put-entry-requires : tie.Need-put-entry-requires
 put-entry-requires c κs =

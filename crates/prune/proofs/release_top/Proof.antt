@@ -1,7 +1,7 @@
-use Rattle.area.specs.Remove.{releaseTop}
+use Rattle.prune.specs.Remove.{releaseTop}
 use borrow.Author.Needs.{needs}
-use Rattle.area.proofs.release_top.Statement.{statement}
-use Rattle.area.proofs.release_top.Tie as tie
+use Rattle.prune.proofs.release_top.Statement.{statement}
+use Rattle.prune.proofs.release_top.Tie as tie
 
 returns : tie.Need-returns
 unfolding releaseTop

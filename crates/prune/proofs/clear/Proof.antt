@@ -1,7 +1,7 @@
 use borrow.Author.Needs.{needs}
-use Rattle.area.specs.Remove.{clearOf}
-use Rattle.area.proofs.clear.Statement.{statement}
-use Rattle.area.proofs.clear.Tie as tie
+use Rattle.prune.specs.Remove.{clearOf}
+use Rattle.prune.proofs.clear.Statement.{statement}
+use Rattle.prune.proofs.clear.Tie as tie
 
 returns : tie.Need-returns
 unfolding clearOf

@@ -1,0 +1,137 @@
+-- Over runs: a load or a store that is granted reports as many table words read as the depth of its address asks for, the depth being
+-- that of the book's marks then set. Document 01, "Counts".
+-- Assumes nothing.
+use mathlib.Core.Path.{_≡_, refl, sym, ap, _∙_, subst}
+use Prim.Native.Nat.{ℕ, suc, _+_, _*_, _≤_}
+use native.Mathlib.Omega.{arith}
+use mathlib.Core.Bool.{Bool, true, false}
+use mathlib.Core.List.{List, [], _∷_}
+use mathlib.Core.Option.{Option, none, some}
+use lib.ListN.{length}
+use Rattle.spec.specs.declared.Answer.{Answer}
+use Rattle.spec.specs.declared.Answer.the-variants as answer
+use Rattle.spec.specs.declared.Call.{Call}
+use Rattle.spec.specs.Answer as say
+use Rattle.spec.specs.Answer.{Line, line}
+use Rattle.spec.specs.Book.{depth}
+use Rattle.spec.specs.Call.{addressIndexes}
+use Rattle.spec.specs.Refusal.{refusal}
+use Rattle.spec.specs.Run.{State, answered, step, after, opened}
+use Rattle.walk.specs.declared.Walked.{Walked}
+use Rattle.walk.specs.declared.Walked.the-variants as walked
+use Rattle.record.specs.declared.Record.{Record}
+use Rattle.record.specs.Record.{configOf, configBy}
+use Rattle.record.specs.Open.{refusalOf}
+use Rattle.calls.specs.Calls.{addressOk, depthAt, callOf}
+use Rattle.claims.specs.Run.{runOf}
+use Rattle.claims.proofs.Invariant.{Inv}
+use Rattle.claims.proofs.Demands.{after-run}
+use Rattle.claims.proofs.Plain.{requestAt, isStore, grantedLine, plainWalk, Faulted, AsWalked, Unrefused, deep, unfit-refused, as-walked}
+use Rattle.words.specs.After.{After}
+use Rattle.calls.specs.declared.Reply.{Reply}
+
+-- a request is granted, and n table words were read
+abbrev pub GrantedWith : ℕ → Answer → Type 0
+GrantedWith n answer.Ok = ⊥
+GrantedWith n (answer.Value w k x) = k ≡ n
+GrantedWith n (answer.Done k x) = k ≡ n
+GrantedWith n (answer.Faulted y k x) = ⊥
+GrantedWith n (answer.Refused k) = ⊥
+
+-- ---- by lines
+abbrev readsOf : Line → ℕ
+readsOf say.ok = 0
+readsOf (say.value w n x) = n
+readsOf (say.done n x) = n
+readsOf (say.fault c l g n x) = 0
+readsOf (say.no n) = 0
+
+-- no call changes the configuration
+same-config : (xs : List Call) (s : State) → (after xs s) .config ≡ s .config
+unfolding after step
+same-config [] s = refl
+same-config (x ∷ xs) s = same-config xs ((step x s) .1) ∙ once (refusal (s .config) x (s .machine) (s .book))
+  where
+    once : (o : Option ℕ) → (answered x s o) .1 .config ≡ s .config
+    once none = refl
+    once (some n) = refl
+
+-- ---- one request
+abbrev pub Grants : Answer → Type 0
+Grants answer.Ok = ⊥
+Grants (answer.Value w n x) = Unit {0}
+Grants (answer.Done n x) = Unit {0}
+Grants (answer.Faulted y n x) = ⊥
+Grants (answer.Refused n) = ⊥
+
+abbrev GrantsLine : Line → Type 0
+GrantsLine say.ok = ⊥
+GrantsLine (say.value w n x) = Unit {0}
+GrantsLine (say.done n x) = Unit {0}
+GrantsLine (say.fault c l g n x) = ⊥
+GrantsLine (say.no n) = ⊥
+
+grants-line : (x : Answer) → Grants x → GrantsLine (line x)
+grants-line answer.Ok g = g
+grants-line (answer.Value w n x) g = tt
+grants-line (answer.Done n x) g = tt
+grants-line (answer.Faulted y n x) g = absurd g
+grants-line (answer.Refused n) g = g
+
+unrefused : (x : Answer) → Grants x → Unrefused x
+unrefused answer.Ok g = tt
+unrefused (answer.Value w n x) g = tt
+unrefused (answer.Done n x) g = tt
+unrefused (answer.Faulted y n x) g = tt
+unrefused (answer.Refused n) g = g
+
+granted-with : (x : Answer) (n : ℕ) → Grants x → readsOf (line x) ≡ n → GrantedWith n x
+granted-with answer.Ok n g e = g
+granted-with (answer.Value w k x) n g e = e
+granted-with (answer.Done k x) n g e = e
+granted-with (answer.Faulted y k x) n g e = g
+granted-with (answer.Refused k) n g e = g
+
+reads-line : (v : Option ℕ) (w n x : ℕ) → readsOf (grantedLine v w n x) ≡ n
+reads-line none w n x = refl
+reads-line (some v) w n x = refl
+
+module _ (s : State) (r : Record) (m : List ℕ) (inv : Inv s r m) (four : configOf r .levels ≡ 4) (a : ℕ) (v : Option ℕ) where
+  abbrev e : After Reply
+  e = callOf (requestAt a v) r m
+
+  abbrev d : ℕ
+  d = depth (s .book .marks) (addressIndexes (configOf r) a)
+
+  reads : Grants (e .result .answer) → GrantedWith (4 + 4 * d) (e .result .answer) × (4 + 4 * d ≤ 24)
+  reads g = go (addressOk r a) refl
+    where
+      by : depthAt r a ≡ d → (w : Walked) → AsWalked r m a v e w → GrantedWith (4 + 4 * d) (e .result .answer) × (4 + 4 * d ≤ 24)
+      by k (walked.Arrived t w n) q =
+          let many = ap (λ x. x + x * depthAt r a) four ∙ ap (λ x. 4 + 4 * x) k in
+          let most = subst (λ x. x + x * depthAt r a ≤ x + x * suc x) four (q .most) in
+          (granted-with (e .result .answer) (4 + 4 * d) g (ap readsOf (q .says) ∙ reads-line v _ _ _ ∙ many), omega (arith, most, k))
+      by k (walked.Faulted y n) q = absurd (subst GrantsLine (q .says) (grants-line (e .result .answer) g))
+      by k walked.Damaged q = absurd q
+
+      go : (b : Bool) → addressOk r a ≡ b → GrantedWith (4 + 4 * d) (e .result .answer) × (4 + 4 * d ≤ 24)
+      go true q = by (deep s r m inv a q) (plainWalk r m (isStore v) a) (as-walked s r m inv a v (unrefused (e .result .answer) g))
+      go false q = absurd (subst (λ (o : After Reply). Grants (o .result .answer)) (unfit-refused s r m inv a v q) g)
+
+-- after a granted opening, on any memory, and any list of calls: a load or a store that is granted reports 4 + 4 · d words, at most 24,
+-- where d is the depth of its address by the book's marks then set
+pub run-reads : (m : List ℕ) (h s : ℕ) (xs : List Call) → refusalOf (length m) h s ≡ 0 → (a : ℕ) (v : Option ℕ)
+    → let u = runOf m h s xs in
+    let e = callOf (requestAt a v) (u .result .unit) (u .memory) in
+    let c = configBy (length m) h s in
+    let d = depth ((after xs (opened c m)) .book .marks) (addressIndexes c a) in
+    Grants (e .result .answer) → GrantedWith (4 + 4 * d) (e .result .answer) × (4 + 4 * d ≤ 24)
+run-reads m h s xs g a v =
+    let u = runOf m h s xs in
+    let c = configBy (length m) h s in
+    let t = after xs (opened c m) in
+    let k = after-run m h s xs g in
+    let same : configOf (u .result .unit) ≡ c = sym (k .0) ∙ same-config xs (opened c m) in
+    let e = callOf (requestAt a v) (u .result .unit) (u .memory) in
+    subst (λ x. Grants (e .result .answer) → GrantedWith (4 + 4 * depth (t .book .marks) (addressIndexes x a)) (e .result .answer) × (4 + 4 * depth (t .book .marks) (addressIndexes x a) ≤ 24)) same
+    (reads t (u .result .unit) (u .memory) (k .1) (ap (λ x. x .levels) same) a v)
