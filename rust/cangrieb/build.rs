@@ -1,4 +1,4 @@
-//! Links the proved static library, libexport.a as `rt staticlib export` writes it. Its folder is CANGRIEB_LIB_DIR,
+//! Links the proved static library, libcangrieb.a as `rt staticlib cangrieb` writes it. Its folder is CANGRIEB_LIB_DIR,
 //! or target/staticlib of the repository.
 
 use std::path::PathBuf;
@@ -9,8 +9,8 @@ fn main() {
         None => PathBuf::from(env!("CARGO_MANIFEST_DIR")).join("../../target/staticlib"),
     };
     println!("cargo:rerun-if-env-changed=CANGRIEB_LIB_DIR");
-    println!("cargo:rerun-if-changed={}", folder.join("libexport.a").display());
+    println!("cargo:rerun-if-changed={}", folder.join("libcangrieb.a").display());
     println!("cargo:rustc-link-search=native={}", folder.display());
-    println!("cargo:rustc-link-lib=static=export");
+    println!("cargo:rustc-link-lib=static=cangrieb");
     println!("cargo:libdir={}", folder.display());
 }

@@ -22,6 +22,11 @@ unfoldable pub lookOf : ℕ → ℕ → List ℕ → ℕ → List ℕ → ℕ �
 lookOf b s m e [] n = Seen e n
 lookOf b s m e (i ∷ is) n = onWay (followOf b s e) (Seen 0 n) look.Damaged (λ f. lookOf b s m (entryIn m f i) is (n + 1))
 
+-- the frames and indexes of the entries read, on from the entry e
+unfoldable pub entriesRead : ℕ → ℕ → List ℕ → ℕ → List ℕ → List (ℕ × ℕ)
+entriesRead b s m e [] = []
+entriesRead b s m e (i ∷ is) = onWay (followOf b s e) [] [] (λ f. (f, i) ∷ entriesRead b s m (entryIn m f i) is)
+
 abbrev pub roomBy : Area → Pool → ℕ → Look → Way
 roomBy a p k (Seen e n) = cond (leb (p .used + (k - n)) (a .size)) (To (k - n)) Not
 roomBy a p k look.Damaged = Damaged

@@ -23,7 +23,7 @@ use Rattle.area.specs.Tree.{lookOf, insertOf}
 use Rattle.prune.specs.Remove.{removeOf}
 use Rattle.area_laws.specs.Run.{get, without, paths, wordsRead}
 use Rattle.area_laws.specs.Host.{hostEntry, entryBy, hostMap}
-use Rattle.spec_laws.proofs.Lists.{All}
+use Rattle.spec.specs.Prefix.{All}
 use Rattle.area_laws.proofs.Change.{differ, upd}
 use Rattle.area_laws.proofs.Paths.{onto, turn-turn, Small}
 use Rattle.area_laws.proofs.Invariant.{present-set}

@@ -12,13 +12,8 @@ use Rattle.area.specs.declared.Look.the-variants.{Seen}
 use Rattle.area.specs.declared.Look.the-variants as look
 use Rattle.pool.specs.Header.{entryIn}
 use Rattle.pool.specs.Pool.{followOf, onWay}
-use Rattle.area.specs.Tree.{lookOf}
-use Rattle.spec_laws.proofs.Lists.{All}
-
--- the frames and indexes of the entries read, on from the entry e
-unfoldable pub entriesRead : ℕ → ℕ → List ℕ → ℕ → List ℕ → List (ℕ × ℕ)
-entriesRead b s m e [] = []
-entriesRead b s m e (i ∷ is) = onWay (followOf b s e) [] [] (λ f. (f, i) ∷ entriesRead b s m (entryIn m f i) is)
+use Rattle.area.specs.Tree.{entriesRead, lookOf}
+use Rattle.spec.specs.Prefix.{All}
 
 abbrev pub SameEntry : List ℕ → List ℕ → ℕ × ℕ → Type 0
 SameEntry m n x = entryIn n (x .0) (x .1) ≡ entryIn m (x .0) (x .1)

@@ -12,21 +12,17 @@ use lib.Seq.{getD-set-other, getD-set-same, getD-drop, ext-getD}
 use lib.Dec.{ltb}
 use borrow.Author.Tests.{ltb-true, ltb-false}
 use Rattle.spec.specs.Entry.{entryLimit}
-use Rattle.words.specs.Words.{at, wordIn, setIn, zeroed}
+use Rattle.words.specs.Words.{SameFrame, at, wordIn, setIn, zeroed}
 use Rattle.words.proofs.Laws.{zeroed-length, zeroed-below, zeroed-above, zeroed-inside}
 use Rattle.pool.specs.declared.Area.{Area}
 use Rattle.pool.specs.Header.{entryIn, highOf, putOf, guestOf, levelOf, parentOf, slotOf, headOf}
 use Rattle.pool.specs.Pool.{freeWords}
-use Rattle.spec_laws.proofs.Lists.{All}
+use Rattle.spec.specs.Prefix.{All}
 
 pub at-inj : (f i g j : ℕ) → i < 512 → j < 512 → at f i ≡ at g j → (f ≡ g) × (i ≡ j)
 at-inj f i g j hi hj e =
     let r : i ≡ j = omega arith in
     (omega arith, r)
-
--- the frame g holds the same words in both memories
-abbrev pub SameFrame : List ℕ → List ℕ → ℕ → Type 0
-SameFrame m n g = (k : ℕ) → k < 512 → wordIn n g k ≡ wordIn m g k
 
 -- the header of frame g is the same
 pub record SameHead (m n : List ℕ) (g : ℕ) : Type 0 where

@@ -20,7 +20,8 @@ use Rattle.pool.specs.Pool.{end, noneOf}
 use Rattle.area.specs.Tree.{lookOf, roomOf, enterOf, placeOf, insertOf}
 use Rattle.prune.specs.Remove.{removeOf}
 use Rattle.area_laws.proofs.Change.{eq?, upd, upd-at, upd-other, is-some}
-use Rattle.area_laws.proofs.Stores.{SameFrame, frame-head, frame-entry, Beside, set-else}
+use Rattle.words.specs.Words.{SameFrame}
+use Rattle.area_laws.proofs.Stores.{frame-head, frame-entry, Beside, set-else}
 use Rattle.area_laws.proofs.Paths.{onto, onto-long, Small, Ext, pre-ext, Clear, clear-by, Guests}
 use Rattle.area_laws.proofs.Invariant.{present-set, chain-keep, Tables, Leaf, Exact, none-below, guests-same}
 use Rattle.area_laws.proofs.Grow.{enter-is}

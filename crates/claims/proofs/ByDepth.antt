@@ -26,17 +26,10 @@ use Rattle.calls.specs.Calls.{addressOk, depthAt, callOf}
 use Rattle.claims.specs.Run.{runOf}
 use Rattle.claims.proofs.Invariant.{Inv}
 use Rattle.claims.proofs.Demands.{after-run}
-use Rattle.claims.proofs.Plain.{requestAt, isStore, grantedLine, plainWalk, Faulted, AsWalked, Unrefused, deep, unfit-refused, as-walked}
+use Rattle.claims.specs.Plain.{Grants, GrantedWith, requestAt, isStore, grantedLine, plainWalk, Faulted, AsWalked, Unrefused}
+use Rattle.claims.proofs.Plain.{deep, unfit-refused, as-walked}
 use Rattle.words.specs.After.{After}
 use Rattle.calls.specs.declared.Reply.{Reply}
-
--- a request is granted, and n table words were read
-abbrev pub GrantedWith : ℕ → Answer → Type 0
-GrantedWith n answer.Ok = ⊥
-GrantedWith n (answer.Value w k x) = k ≡ n
-GrantedWith n (answer.Done k x) = k ≡ n
-GrantedWith n (answer.Faulted y k x) = ⊥
-GrantedWith n (answer.Refused k) = ⊥
 
 -- ---- by lines
 abbrev readsOf : Line → ℕ
@@ -57,13 +50,6 @@ same-config (x ∷ xs) s = same-config xs ((step x s) .1) ∙ once (refusal (s .
     once (some n) = refl
 
 -- ---- one request
-abbrev pub Grants : Answer → Type 0
-Grants answer.Ok = ⊥
-Grants (answer.Value w n x) = Unit {0}
-Grants (answer.Done n x) = Unit {0}
-Grants (answer.Faulted y n x) = ⊥
-Grants (answer.Refused n) = ⊥
-
 abbrev GrantsLine : Line → Type 0
 GrantsLine say.ok = ⊥
 GrantsLine (say.value w n x) = Unit {0}

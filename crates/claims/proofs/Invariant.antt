@@ -15,7 +15,7 @@ use Rattle.spec.specs.Machine.{Machine, lookup}
 use Rattle.spec.specs.Book.{Held, find}
 use Rattle.spec.specs.declared.Call.{Call}
 use Rattle.spec.specs.Run.{State, step}
-use Rattle.spec_laws.proofs.Lists.{All}
+use Rattle.spec.specs.Prefix.{All}
 use Rattle.spec_laws.proofs.Asks.{AnswerIn}
 use Rattle.spec_laws.proofs.Keeps.{Valid}
 use Rattle.spec_laws.proofs.Runs.{BookFits}

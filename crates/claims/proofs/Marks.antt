@@ -24,7 +24,8 @@ use Rattle.spec.specs.Call.{addressIndexes, machineStep}
 use Rattle.spec.specs.Count.{bookStep}
 use Rattle.spec.specs.Refusal.{allOf, markFits, tests, refusal}
 use Rattle.spec.specs.Run.{State}
-use Rattle.spec_laws.proofs.Lists.{All, all-map, all-any}
+use Rattle.spec.specs.Prefix.{All}
+use Rattle.spec_laws.proofs.Lists.{all-map, all-any}
 use Rattle.spec_laws.proofs.Keeps.{Valid}
 use Rattle.spec_laws.proofs.Runs.{BookFits}
 use Rattle.entry.specs.Levels.{ofLevels}

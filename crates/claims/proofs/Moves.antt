@@ -23,7 +23,8 @@ use Rattle.spec.specs.Call.{machineStep}
 use Rattle.spec.specs.Count.{bookStep}
 use Rattle.spec.specs.Refusal.{firstFailed, refusal}
 use Rattle.spec.specs.Run.{State, step}
-use Rattle.spec_laws.proofs.Lists.{All, all-map, all-keep}
+use Rattle.spec.specs.Prefix.{All}
+use Rattle.spec_laws.proofs.Lists.{all-map, all-keep}
 use Rattle.spec_laws.proofs.Trail.{frameIn, frameAt}
 use Rattle.spec_laws.proofs.Keeps.{Valid}
 use Rattle.spec_laws.proofs.Runs.{BookFits, step-fits}

@@ -1,15 +1,12 @@
 -- No call of a run, after a granted opening on any memory, is refused with 3 or 11.
 -- Assumes nothing.
 use mathlib.Core.Path.{_≡_, refl, sym, subst}
-use mathlib.Core.Logic.{_≢_}
 use Prim.Native.Nat.{ℕ}
 use mathlib.Core.Bool.{not, _&&_}
 use mathlib.Core.List.{List, [], _∷_}
 use mathlib.Core.Option.{Option, none, some}
 use lib.Dec.{T, eqb}
 use lib.ListN.{length}
-use Rattle.spec.specs.Answer as say
-use Rattle.spec.specs.Answer.{Line}
 use Rattle.spec.specs.Config.{Config}
 use Rattle.spec.specs.Machine.{Machine}
 use Rattle.spec.specs.Book.{Book}
@@ -19,24 +16,14 @@ use Rattle.spec.specs.Call.{Outcome, ok, done, value, fault, machineStep}
 use Rattle.spec.specs.Count.{bookStep}
 use Rattle.spec.specs.Refusal.{tests, refusal}
 use Rattle.spec.specs.Run.{State, lineOf, answered, step, run, opened}
-use Rattle.spec_laws.proofs.Lists.{All, and-left, and-right, not-eqb}
+use Rattle.spec.specs.Prefix.{All}
+use Rattle.spec_laws.proofs.Lists.{and-left, and-right, not-eqb}
 use Rattle.record.specs.Record.{configBy}
 use Rattle.record.specs.Open.{refusalOf}
 use Rattle.calls.specs.Calls.{openCall}
-use Rattle.claims.specs.Run.{unitRun, machineRun}
+use Rattle.claims.specs.Run.{Neither, Covered, unitRun, machineRun}
 use Rattle.claims.proofs.Demands.{demand-3}
 use Rattle.claims.proofs.Safety.{failed-in}
-
-abbrev pub Neither : ℕ → Type 0
-Neither n = (n ≢ 3) × (n ≢ 11)
-
--- not refused with 3 or 11
-abbrev pub Covered : Line → Type 0
-Covered say.ok = Unit {0}
-Covered (say.value v r e) = Unit {0}
-Covered (say.done r e) = Unit {0}
-Covered (say.fault x l g r e) = Unit {0}
-Covered (say.no n) = Neither n
 
 -- the numbers of the specification's tests
 other : (n : ℕ) → T (not (eqb n 3) && not (eqb n 11)) → Neither n

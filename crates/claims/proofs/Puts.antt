@@ -17,7 +17,8 @@ use Rattle.spec.specs.Machine.{Machine, Mapping, place, stored}
 use Rattle.spec.specs.Book.{Held, find, holding, dropWord, watched, readsFrame, readsWord}
 use Rattle.spec.specs.Count.{one}
 use Rattle.spec.specs.Run.{State}
-use Rattle.spec_laws.proofs.Lists.{All, all-map, all-keep}
+use Rattle.spec.specs.Prefix.{All}
+use Rattle.spec_laws.proofs.Lists.{all-map, all-keep}
 use Rattle.spec_laws.proofs.Trail.{readsFrom}
 use Rattle.spec_laws.proofs.Keeps.{Valid}
 use Rattle.spec_laws.proofs.Runs.{kept-fits}

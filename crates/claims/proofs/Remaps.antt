@@ -25,7 +25,8 @@ use Rattle.spec.specs.Call.{machineStep}
 use Rattle.spec.specs.Count.{bookStep}
 use Rattle.spec.specs.Refusal.{firstFailed, frameFits, inGuestArea, tests, refusal}
 use Rattle.spec.specs.Run.{State}
-use Rattle.spec_laws.proofs.Lists.{All, all-map, all-keep, is-true}
+use Rattle.spec.specs.Prefix.{All}
+use Rattle.spec_laws.proofs.Lists.{all-map, all-keep, is-true}
 use Rattle.spec_laws.proofs.Granted.{through, then-trace, hosted-granted, level-granted}
 use Rattle.spec_laws.proofs.Trail.{readsFrom, usesFrom}
 use Rattle.spec_laws.proofs.Local.{Seen, seen}

@@ -23,7 +23,7 @@ use Rattle.spec.specs.Machine.{place}
 use Rattle.spec.specs.declared.Call.{Call}
 use Rattle.spec.specs.declared.Call.the-variants.{Root as root, Map as map, Unmap as unmap, SetMark as setMark, ClearMark as clearMark, Load as load, Store as store, Device as device}
 use Rattle.spec.specs.Refusal.{firstFailed, frameFits, inGuestArea, wordsFit, areasFit, openRefusal}
-use Rattle.spec_laws.proofs.Lists.{All}
+use Rattle.spec.specs.Prefix.{All}
 use Rattle.entry.proofs.Entries.{word-fits}
 use Rattle.pool.specs.declared.Area.{Area}
 use Rattle.pool.specs.declared.Pool.{Pool}
@@ -52,7 +52,7 @@ use Rattle.marks.specs.declared.Marks.{Marks}
 use Rattle.marks.specs.Key.{keyOf}
 use Rattle.marks.specs.Table.{number, withKey, withoutKey, setTests, setRefusal, clearTests, clearRefusal}
 use Rattle.record.specs.declared.Record.{Record}
-use Rattle.record.specs.Record.{configOf, configBy, fitsOf, guestFrame, headOf, headRoot, headTables, withHead, withMarks, zeros}
+use Rattle.record.specs.Record.{configOf, configBy, fitsOf, guestFrame, headOf, headRoot, headTables, withHead, withMarks}
 use Rattle.record.specs.Open.{refusalOf}
 use Rattle.record.proofs.Rules.{Fits, fits-layout}
 use Rattle.record.proofs.Opening.{granted-long, granted-guest}
@@ -69,6 +69,7 @@ use Rattle.request.proofs.Leaves.{put-leaves}
 use Rattle.request.proofs.Device.{device-in}
 use Rattle.calls.specs.Calls.{hostTop, heldOf, rootOf, headHeld, headHost, nothing, ended, refused, judged, withHeld, withHost, servedBy, addressOk, deviceOk, depthAt, translatedOf, loadCall, storeCall, deviceCall, rootCall, droppedBy, unmappedOf, mappedBy, mapCall, unmapCall, heldAfter, markedOf, callOf, keysOf, setMarkCall, clearMarkCall, openCall}
 use Rattle.calls.proofs.Ranges.{fits-held}
+use Rattle.claims.specs.Safety.{GuestKept, Numbered, RefusalKept, Keeps, OpenKeeps}
 use Rattle.claims.specs.Run.{guestArea}
 use Rattle.claims.proofs.Puts.{area-store}
 use Rattle.claims.proofs.Paths.{held-same, loadedBy, storedBy, writtenIn}
@@ -80,43 +81,6 @@ use Rattle.request.specs.declared.Put.{Put}
 use Rattle.drops.specs.declared.Left.{Left}
 use Rattle.translate.specs.declared.Translated.{Translated}
 use Rattle.host.specs.declared.Change.{Change}
-
--- ---- what a call may change, by its answer
-
--- no guest word: the memory is as long as m and has its guest area, so that only host and shadow frames differ; the record
--- places the areas as before
-pub record GuestKept (r : Record) (m : List ℕ) (e : After Reply) : Type 0 where
-  pub layout : configOf (e .result .unit) ≡ configOf r
-  pub long : length (e .memory) ≡ length m
-  pub area : guestArea r (e .memory) ≡ guestArea r m
-
--- one guest word
-pub record OneWord (r : Record) (m : List ℕ) (e : After Reply) : Type 0 where
-  pub layout : configOf (e .result .unit) ≡ configOf r
-  pub long : length (e .memory) ≡ length m
-  pub place : ℕ
-  pub word : ℕ
-  pub inside : place < length (guestArea r m)
-  pub area : guestArea r (e .memory) ≡ set (guestArea r m) place word
-
--- the numbers of the refusals of later calls
-abbrev pub Numbered : ℕ → Type 0
-Numbered n = (3 ≤ n) × (n ≤ 12)
-
--- a refusal keeps the record and all of the memory, but that 11, for damaged tables, may alter host and shadow frames
-pub record RefusalKept (r : Record) (m : List ℕ) (e : After Reply) (n : ℕ) : Type 0 where
-  pub numbered : Numbered n
-  pub unit : e .result .unit ≡ r
-  pub guest : GuestKept r m e
-  pub whole : n ≢ 11 → e .memory ≡ m
-
--- a granted store changes one guest word; a fault, a refusal, a load and a call without a value change none
-abbrev pub Keeps : Record → List ℕ → After Reply → Answer → Type 0
-Keeps r m e answer.Ok = GuestKept r m e
-Keeps r m e (answer.Value v n x) = GuestKept r m e
-Keeps r m e (answer.Done n x) = OneWord r m e
-Keeps r m e (answer.Faulted y n x) = GuestKept r m e
-Keeps r m e (answer.Refused n) = RefusalKept r m e n
 
 abbrev Kept : Record → List ℕ → After Reply → Type 0
 Kept r m e = Keeps r m e (e .result .answer)
@@ -528,14 +492,6 @@ demand-1 (clearMark a n) r m = clear-kept r m a n
 demand-1 (load a) r m = load-kept r m a
 demand-1 (store a v) r m = store-kept r m a v
 demand-1 (device a v) r m = device-kept r m a v
-
--- an opening: granted, it keeps the guest words; refused, it returns a record of zeros and leaves the memory
-abbrev pub OpenKeeps : List ℕ → ℕ → ℕ → After Reply → Answer → Type 0
-OpenKeeps m h s e answer.Ok = (length (e .memory) ≡ length m) × (drop (512 * (h + s)) (e .memory) ≡ drop (512 * (h + s)) m)
-OpenKeeps m h s e (answer.Value v n x) = ⊥
-OpenKeeps m h s e (answer.Done n x) = ⊥
-OpenKeeps m h s e (answer.Faulted y n x) = ⊥
-OpenKeeps m h s e (answer.Refused n) = ((n ≡ 1) ⊎ (n ≡ 2)) × (e .result .unit ≡ zeros) × (e .memory ≡ m)
 
 open-numbers : (words h s : ℕ) → refusalOf words h s ≢ 0 → (refusalOf words h s ≡ 1) ⊎ (refusalOf words h s ≡ 2)
 unfolding refusalOf openRefusal

@@ -23,7 +23,8 @@ use Rattle.spec.specs.Call.{addressIndexes, plain}
 use Rattle.spec.specs.Count.{Counted, serves, heldBy, hostExit, shadowed, unshadowed, request}
 use Rattle.spec.specs.Refusal.{addressFits}
 use Rattle.spec.specs.Run.{State}
-use Rattle.spec_laws.proofs.Lists.{All, all-map, is-true, is-false}
+use Rattle.spec.specs.Prefix.{All}
+use Rattle.spec_laws.proofs.Lists.{all-map, is-true, is-false}
 use Rattle.spec_laws.proofs.Local.{Seen, seen}
 use Rattle.spec_laws.proofs.Granted.{granted-is, walk-same, walk-serves}
 use Rattle.spec_laws.proofs.Parts.{shadow-fault, direct-result}

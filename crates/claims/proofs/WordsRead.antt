@@ -18,7 +18,8 @@ use Rattle.spec.specs.Entry.{present, writable, frameOf, malformed, pageOf, ind
 use Rattle.spec.specs.Walk.{Walk, done, fail, host, word, _>>=_, World, Trace, trace}
 use Rattle.spec.specs.Plain.{Place, must, hosted, entry, next, levels, walk}
 use Rattle.spec.specs.Refusal.{inGuestArea}
-use Rattle.spec_laws.proofs.Lists.{All, all-map, is-true, is-false}
+use Rattle.spec.specs.Prefix.{All}
+use Rattle.spec_laws.proofs.Lists.{all-map, is-true, is-false}
 use Rattle.spec_laws.proofs.Indexes.{indexes-length}
 use Rattle.entry.specs.declared.HostPhysical.{HostPhysical}
 use Rattle.words.specs.Words.{wordIn}
@@ -31,7 +32,8 @@ use Rattle.pool.specs.Header.{entryIn}
 use Rattle.pool.specs.Pool.{followOf, onWay}
 use Rattle.area.specs.Tree.{lookOf}
 use Rattle.area_laws.proofs.Invariant.{present-zero}
-use Rattle.area_laws.proofs.Local.{entriesRead, SameEntry, look-local, Counts, look-count}
+use Rattle.area.specs.Tree.{entriesRead}
+use Rattle.area_laws.proofs.Local.{SameEntry, look-local, Counts, look-count}
 use Rattle.layout.specs.declared.HostWalk.{HostWalk}
 use Rattle.layout.specs.declared.HostWalk.the-variants as hosts
 use Rattle.layout.specs.Layout.{page, leafOf, namedBy}

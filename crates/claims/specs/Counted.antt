@@ -18,10 +18,10 @@ use Rattle.spec.specs.Machine.{place}
 use Rattle.spec.specs.Book.{Book, depth, find}
 use Rattle.spec.specs.Call.{addressIndexes}
 use Rattle.spec.specs.Count.{serves}
-use Rattle.spec_laws.proofs.Lists.{All}
+use Rattle.spec.specs.Prefix.{All}
 use Rattle.words.specs.Words.{wordIn}
-use Rattle.area_laws.proofs.Local.{entriesRead}
-use Rattle.area_laws.proofs.Stores.{SameFrame}
+use Rattle.area.specs.Tree.{entriesRead}
+use Rattle.words.specs.Words.{SameFrame}
 use Rattle.layout.specs.declared.HostWalk.{HostWalk}
 use Rattle.layout.specs.declared.HostWalk.the-variants as hosts
 use Rattle.host.specs.Walk.{hostWalkOf}

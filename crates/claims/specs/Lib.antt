@@ -1,2 +1,4 @@
 pub mod Run
+pub mod Safety
+pub mod Plain
 pub mod Counted

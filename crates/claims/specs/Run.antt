@@ -1,9 +1,11 @@
 -- A run of the unit: an opening and a list of calls, by the very definitions that the unit's contracts cite.
 -- Assumes nothing.
+use mathlib.Core.Logic.{_≢_}
 use Prim.Native.Nat.{ℕ, _*_}
 use mathlib.Core.List.{List, [], _∷_}
 use lib.ListN.{drop}
 use Rattle.spec.specs.Config.{guestBase}
+use Rattle.spec.specs.Answer as say
 use Rattle.spec.specs.Answer.{Line, line}
 use Rattle.spec.specs.declared.Call.{Call}
 use Rattle.spec.specs.Run.{State}
@@ -37,3 +39,16 @@ runOf m h s xs = let e : After Reply = openCall m h s in unitAfter xs (e .result
 abbrev pub machineRun : List (Line × State) → List (Line × List ℕ)
 machineRun [] = []
 machineRun (o ∷ os) = (o .0, o .1 .machine .area) ∷ machineRun os
+
+-- ---- refusals of a run
+
+abbrev pub Neither : ℕ → Type 0
+Neither n = (n ≢ 3) × (n ≢ 11)
+
+-- not refused with 3 or 11
+abbrev pub Covered : Line → Type 0
+Covered say.ok = Unit {0}
+Covered (say.value v r e) = Unit {0}
+Covered (say.done r e) = Unit {0}
+Covered (say.fault x l g r e) = Unit {0}
+Covered (say.no n) = Neither n

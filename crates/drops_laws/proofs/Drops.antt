@@ -16,7 +16,8 @@ use Rattle.spec.specs.Config.{Config}
 use Rattle.spec.specs.Entry.{frameOf}
 use Rattle.spec.specs.Prefix.{begins, same, any, keep}
 use Rattle.spec.specs.Book.{Held, readsWord, readsFrame, usesMapping, dropWord, dropMapping, dropPrefix}
-use Rattle.spec_laws.proofs.Lists.{All, all-map, all-any, same-is, same-refl, is-true}
+use Rattle.spec.specs.Prefix.{All}
+use Rattle.spec_laws.proofs.Lists.{all-map, all-any, same-is, same-refl, is-true}
 use Rattle.spec_laws.proofs.Trail.{readsFrom, usesFrom}
 use Rattle.entry.specs.declared.GuestPhysical.{GuestPhysical}
 use Rattle.words.specs.Words.{wordIn}

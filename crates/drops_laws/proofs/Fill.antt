@@ -12,7 +12,8 @@ use borrow.Author.Tests.{leb-true, leb-false}
 use Rattle.spec.specs.Config.{Config}
 use Rattle.spec.specs.Entry.{present, frameOf, entryLimit}
 use Rattle.spec.specs.Book.{Held, paths, shadowTables, fill}
-use Rattle.spec_laws.proofs.Lists.{All, all-map}
+use Rattle.spec.specs.Prefix.{All}
+use Rattle.spec_laws.proofs.Lists.{all-map}
 use Rattle.spec.specs.Walk.{trace, granted}
 use Rattle.spec.specs.Plain.{Place, walk}
 use Rattle.spec_laws.proofs.Trail.{frameIn, frameAt, readsFrom, walk-trail}

@@ -14,7 +14,8 @@ use Rattle.spec.specs.Config.{Config}
 use Rattle.spec.specs.Entry.{writable, frameOf}
 use Rattle.spec.specs.Prefix.{begins, same}
 use Rattle.spec.specs.Book.{Held, find}
-use Rattle.spec_laws.proofs.Lists.{All, same-is, same-refl}
+use Rattle.spec.specs.Prefix.{All}
+use Rattle.spec_laws.proofs.Lists.{same-is, same-refl}
 use Rattle.pool.specs.declared.Pool.{Pool}
 use Rattle.layout.specs.declared.HostWalk.{HostWalk}
 use Rattle.layout.specs.declared.HostWalk.the-variants.{Found, Absent}

@@ -14,7 +14,8 @@ use Rattle.spec.specs.Entry.{present, switch, frameOf}
 use Rattle.spec.specs.Prefix.{begins, same, any, keep, propers}
 use Rattle.spec.specs.Refusal.{inGuestArea}
 use Rattle.spec.specs.Book.{Held, readsWord, usesMapping, dropWord, dropMapping, dropPrefix}
-use Rattle.spec_laws.proofs.Lists.{All, all-map, all-any, all-keep, begins-refl, same-is, same-refl, is-true, is-false, or-cases, or-left, or-right}
+use Rattle.spec.specs.Prefix.{All}
+use Rattle.spec_laws.proofs.Lists.{all-map, all-any, all-keep, begins-refl, same-is, same-refl, is-true, is-false, or-cases, or-left, or-right}
 use Rattle.spec_laws.proofs.Distinct.{In}
 use Rattle.spec_laws.proofs.Trail.{readsFrom, usesFrom}
 use Rattle.area_laws.specs.Run.{Map, get}

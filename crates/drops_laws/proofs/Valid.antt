@@ -17,7 +17,8 @@ use Rattle.spec.specs.Walk.{World, Trace, granted, trace}
 use Rattle.spec.specs.Plain.{Place, walk}
 use Rattle.spec.specs.Machine.{Machine, Mapping, lookup, world, stored, remapped}
 use Rattle.spec.specs.Book.{Held, readsWord, usesMapping}
-use Rattle.spec_laws.proofs.Lists.{All, all-map, all-any, all-both, none-passes, not-eqb}
+use Rattle.spec.specs.Prefix.{All}
+use Rattle.spec_laws.proofs.Lists.{all-map, all-any, all-both, none-passes, not-eqb}
 use Rattle.spec_laws.proofs.Trail as trail
 use Rattle.spec_laws.proofs.Trail.{frameIn, frameAt, namedAt, readsFrom, usesFrom, walk-trail}
 use Rattle.spec_laws.proofs.Local.{Seen, seen}

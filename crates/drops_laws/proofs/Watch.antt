@@ -13,7 +13,8 @@ use borrow.Author.Tests.{eq-eqb, ne-eqb, eqb-true, eqb-false}
 use Rattle.spec.specs.Config.{Config, guestBase}
 use Rattle.spec.specs.Prefix.{any}
 use Rattle.spec.specs.Book.{Held, readsFrame, watched}
-use Rattle.spec_laws.proofs.Lists.{All, or-cases, or-left, or-right}
+use Rattle.spec.specs.Prefix.{All}
+use Rattle.spec_laws.proofs.Lists.{or-cases, or-left, or-right}
 use Rattle.spec_laws.proofs.Trail.{readsFrom}
 use Rattle.pool.specs.declared.Pool.{Pool}
 use Rattle.pool.specs.Header.{levelOf, guestOf}

@@ -15,7 +15,8 @@ use Rattle.spec.specs.Entry.{indexes}
 use Rattle.spec.specs.Plain.{Place}
 use Rattle.spec.specs.Machine.{Mapping, lookup, with, without, isMapped, hostTables, hostCost}
 use Rattle.spec.specs.Refusal.{firstFailed, frameFits, inGuestArea, tests, refusal}
-use Rattle.spec_laws.proofs.Lists.{All, is-true, both}
+use Rattle.spec.specs.Prefix.{All}
+use Rattle.spec_laws.proofs.Lists.{is-true, both}
 use Rattle.pool.specs.declared.Pool.{Pool}
 use Rattle.pool.specs.Pool.{noneOf}
 use Rattle.area.specs.Tree.{enterOf, insertOf}

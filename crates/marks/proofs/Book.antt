@@ -20,7 +20,7 @@ use Rattle.spec.specs.declared.Call.the-variants.{SetMark as setMark, ClearMark
 use Rattle.spec.specs.Call.{addressIndexes}
 use Rattle.spec.specs.Refusal.{firstFailed, addressFits, levelFits, markFits, marksFit, allOf, noTwoAlike, tests, refusal}
 use Rattle.entry.specs.Levels.{ofLevels}
-use Rattle.spec_laws.proofs.Lists.{All}
+use Rattle.spec.specs.Prefix.{All}
 use Rattle.marks.specs.declared.Marks.{Marks}
 use Rattle.marks.specs.Key.{keyOf, depthOf, keyFits, keysFit, ascending}
 use Rattle.marks.specs.Table.{room, keys, withKey, withoutKey, setTests, setRefusal, clearTests, clearRefusal, number}

@@ -10,7 +10,8 @@ use borrow.Author.Tests.{ne-eqb, eqb-true, lt-ltb}
 use lib.Dec.{eqb, ltb}
 use lib.ListN.{getD}
 use Rattle.spec.specs.Prefix.{any}
-use Rattle.spec_laws.proofs.Lists.{All, all-map}
+use Rattle.spec.specs.Prefix.{All}
+use Rattle.spec_laws.proofs.Lists.{all-map}
 use Rattle.bits.specs.Bit.{bit, setAt, places}
 use Rattle.marks.specs.Table.{room, keys, placeIn, placeOf}
 

@@ -15,7 +15,7 @@ use Rattle.spec.specs.Config.{Config, frameBits}
 use Rattle.spec.specs.Entry.{present, writable, frameOf, malformed}
 use Rattle.spec.specs.Walk.{Walk, done, fail, host, word, _>>=_, _>>_, World, Trace, Result, granted, failed, trace}
 use Rattle.spec.specs.Plain.{Place, must, mapped, hosted, entry, next, levels, walk}
-use Rattle.spec_laws.proofs.Lists.{All}
+use Rattle.spec.specs.Prefix.{All}
 use Rattle.spec_laws.proofs.Granted.{no-grant, granted-is, failed-is}
 
 -- Q is known of each host answer; G is owed of each guest frame asked for, P of each word asked for, E of each fault, R of the result

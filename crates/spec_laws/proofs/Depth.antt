@@ -11,7 +11,8 @@ use lib.ListN.{length, take}
 use lib.Seq.{take-take, length-take-le}
 use Rattle.spec.specs.Prefix.{begins, keep}
 use Rattle.spec.specs.Book.{Mark, depth}
-use Rattle.spec_laws.proofs.Lists.{All, and-left, and-right, begins-refl}
+use Rattle.spec.specs.Prefix.{All}
+use Rattle.spec_laws.proofs.Lists.{and-left, and-right, begins-refl}
 
 -- a prefix no longer than k is seen in the first k
 begins-take : (p xs : List ℕ) (k : ℕ) → length p ≤ k → begins p xs ≡ begins p (take k xs)

@@ -14,7 +14,7 @@ use lib.Seq.{take-at}
 use Rattle.spec.specs.Entry.{index, indexes}
 use Rattle.spec.specs.Prefix.{begins, same}
 use Rattle.spec.specs.Refusal.{allOf}
-use Rattle.spec_laws.proofs.Lists.{All}
+use Rattle.spec.specs.Prefix.{All}
 
 pub indexes-length : (n p : ℕ) → length (indexes n p) ≡ n
 unfolding indexes

@@ -18,7 +18,8 @@ use Rattle.spec.specs.Plain.{Place, walk}
 use Rattle.spec.specs.Machine.{Machine, Mapping, world, place, stored, remapped, lookup, with, without}
 use Rattle.spec.specs.Book.{Held, readsWord, usesMapping}
 use Rattle.spec.specs.Count.{heldBy}
-use Rattle.spec_laws.proofs.Lists.{All, all-map, all-any, all-both, none-passes, and-left, both, not-both, not-eqb}
+use Rattle.spec.specs.Prefix.{All}
+use Rattle.spec_laws.proofs.Lists.{all-map, all-any, all-both, none-passes, and-left, both, not-both, not-eqb}
 use Rattle.spec_laws.proofs.Local.{Seen, seen, local-seen, SameMapping, SameWord}
 use Rattle.spec_laws.proofs.Granted.{walk-same}
 use Rattle.spec_laws.proofs.Asks.{Asked, asks-trace, AnswerIn, FaultFits, walk-asks}

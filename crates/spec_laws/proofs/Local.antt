@@ -4,7 +4,7 @@ use mathlib.Core.Path.{_≡_, refl, sym, ap, _∙_}
 use Prim.Native.Nat.{ℕ}
 use mathlib.Core.List.{List, _∷_}
 use Rattle.spec.specs.Walk.{Walk, done, fail, host, word, World, Trace, Result, trace}
-use Rattle.spec_laws.proofs.Lists.{All}
+use Rattle.spec.specs.Prefix.{All}
 
 abbrev pub SameMapping : World → World → ℕ → Type 0
 SameMapping w v g = v .hostAt g ≡ w .hostAt g

@@ -24,7 +24,8 @@ use Rattle.spec.specs.Call.{addressIndexes, plain, deviceWalk}
 use Rattle.spec.specs.Count.{Counted, serves, heldBy, shadowed, unshadowed, request, storing, bookStep}
 use Rattle.spec.specs.Refusal.{firstFailed, levelFits, addressFits, tests, refusal}
 use Rattle.spec.specs.Run.{State, answered, step, after, opened}
-use Rattle.spec_laws.proofs.Lists.{All, all-map, all-keep, not-both, same-is, and-left, and-right}
+use Rattle.spec.specs.Prefix.{All}
+use Rattle.spec_laws.proofs.Lists.{all-map, all-keep, not-both, same-is, and-left, and-right}
 use Rattle.spec_laws.proofs.Counts.{request-count}
 use Rattle.spec_laws.proofs.Indexes.{indexes-length}
 use Rattle.spec_laws.proofs.Depth.{MarkFits, PathFits, depth-bound, no-proper-prefix, fill-fits, set-fits, clear-fits}

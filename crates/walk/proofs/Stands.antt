@@ -16,7 +16,8 @@ use Rattle.spec.specs.Config.{Config, guestBase, frameBits}
 use Rattle.spec.specs.Walk.{Walk, Trace, Result, granted, failed, trace}
 use Rattle.spec.specs.Plain.{Place, levels, walk}
 use Rattle.spec.specs.Machine.{Machine, lookup, hostCost, costOf, place, wordIn, world}
-use Rattle.spec_laws.proofs.Lists.{All, all-map}
+use Rattle.spec.specs.Prefix.{All}
+use Rattle.spec_laws.proofs.Lists.{all-map}
 use Rattle.spec_laws.proofs.Local.{SameHost, SameWord, local}
 use Rattle.spec_laws.proofs.Asks.{Asked, asks-trace, AnswerIn, FaultFits, Guest, levels-asks, walk-asks}
 use Rattle.words.specs.Words as words

@@ -20,3 +20,7 @@ setIn m f i v = set m (at f i) v
 unfoldable pub zeroed : List ℕ → ℕ → ℕ → List ℕ
 zeroed m place zero = m
 zeroed m place (suc n) = set (zeroed m place n) (place + n) 0
+
+-- the frame g holds the same words in both memories
+abbrev pub SameFrame : List ℕ → List ℕ → ℕ → Type 0
+SameFrame m n g = (k : ℕ) → k < 512 → wordIn n g k ≡ wordIn m g k

@@ -1,4 +1,4 @@
-/* The proved memory unit, for a monitor to link: libexport.a, as `rt staticlib export` writes it (x86-64).
+/* The proved memory unit, for a monitor to link: libcangrieb.a, as `rt staticlib cangrieb` writes it (x86-64).
 
    The monitor owns a memory of 64-bit words in frames of 512: first the host frames, then the shadow frames, then the
    guest area. It also keeps the unit's record, a head and the places of the marks, and lends all three to each call.
@@ -7,7 +7,14 @@
    The pointers must be to a head, to 64 places and to that many words of memory, which do not overlap and which nothing
    else uses during the call. The number of words may be 0, and the memory's pointer then null. Nothing else is asked: a
    memory of another length or a record that breaks a rule is refused with 3, a damaged table with 11, and no call reads
-   or writes a word outside the three. */
+   or writes a word outside the three.
+
+   A refused opening sets head and places to 0, and every later call with such a record is refused with 3. A granted one sets the
+   host and shadow frames to 0, but that word 1 of frame 0, the top host table, has bits of the table's header.
+
+   For who links this into a kernel: a call takes at most 8 KiB of stack (rust/compare measures it), allocates nothing, calls
+   nothing but memcpy and memset, and follows the System V x86-64 calling convention; it uses SSE registers, which the kernel must
+   have saved, and no red zone is asked of signal or interrupt handlers that the convention does not ask for. */
 #ifndef CANGRIEB_H
 #define CANGRIEB_H
 

@@ -27,6 +27,12 @@ use core::fmt;
 
 pub mod raw;
 
+/// The examples of the repository's pages, run as tests.
+#[cfg(doctest)]
+#[doc = include_str!("../../../README.md")]
+#[doc = include_str!("../../../docs/LINKING.md")]
+mod pages {}
+
 /// What the unit keeps of an area of tables. The unit's own: a caller has no use for it.
 #[repr(C)]
 #[derive(Clone, Copy, Debug, Default, PartialEq, Eq)]

@@ -1,29 +1,46 @@
-//! The C example, compiled with the header and linked with the archive, where a C compiler is at hand.
+//! The C examples, compiled with the header and linked with the archive.
 
 use std::path::{Path, PathBuf};
 use std::process::Command;
 
 const LINES: &str = "1 ok\n2 ok\n3 ok\n4 done 4 0\n5 fault H 0 1 9 1\n6 no 4\n7 no 3\n8 no 1\n";
 
-#[test]
-fn the_c_example() {
-    let package = Path::new(env!("CARGO_MANIFEST_DIR"));
+fn package() -> &'static Path {
+    Path::new(env!("CARGO_MANIFEST_DIR"))
+}
+
+/// What the program prints, once compiled.
+fn printed(compiler: &str, standard: &str, source: &Path, name: &str) -> String {
     let folder = std::env::var_os("CANGRIEB_LIB_DIR").map(PathBuf::from);
-    let archive = folder.unwrap_or(package.join("../../target/staticlib")).join("libexport.a");
-    let program = Path::new(env!("CARGO_TARGET_TMPDIR")).join("monitor");
-    let compiled = Command::new("cc")
-        .args(["-std=c11", "-Wall", "-Wextra", "-Werror", "-O2", "-I"])
-        .arg(package.join("include"))
-        .arg(package.join("examples/monitor.c"))
+    let archive = folder.unwrap_or(package().join("../../target/staticlib")).join("libcangrieb.a");
+    let program = Path::new(env!("CARGO_TARGET_TMPDIR")).join(name);
+    let compiled = Command::new(compiler)
+        .args([standard, "-Wall", "-Wextra", "-Werror", "-O2", "-I"])
+        .arg(package().join("include"))
+        .arg(source)
         .arg(archive)
         .arg("-o")
         .arg(&program)
         .status();
-    let Ok(status) = compiled else {
-        println!("no C compiler: not tried");
-        return;
-    };
-    assert!(status.success());
+    assert!(compiled.unwrap_or_else(|error| panic!("{compiler}: {error}")).success());
     let output = Command::new(program).output().unwrap();
-    assert_eq!(String::from_utf8(output.stdout).unwrap(), LINES);
+    String::from_utf8(output.stdout).unwrap()
+}
+
+#[test]
+fn the_c_example() {
+    assert_eq!(printed("cc", "-std=c11", &package().join("examples/monitor.c"), "monitor"), LINES);
+}
+
+/// The lines of C in docs/LINKING.md, in a function.
+#[test]
+fn the_c_lines_of_the_page() {
+    let page = std::fs::read_to_string(package().join("../../docs/LINKING.md")).unwrap();
+    let lines = page.split("```c\n").nth(1).and_then(|rest| rest.split("```").next()).expect("lines of C");
+    let text = format!(
+        "#include <inttypes.h>\n#include <stdio.h>\n#include \"cangrieb.h\"\nint main(void)\n{{\n{lines}return 0;\n}}\n"
+    );
+    let source = Path::new(env!("CARGO_TARGET_TMPDIR")).join("page.c");
+    std::fs::write(&source, text).unwrap();
+    assert_eq!(printed("cc", "-std=c11", &source, "page"), "0x3\n");
 }

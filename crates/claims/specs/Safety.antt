@@ -1,0 +1,57 @@
+-- What a call may change, by its answer: demand 1.
+-- Assumes nothing.
+use mathlib.Core.Path.{_≡_}
+use mathlib.Core.Logic.{_≢_, _⊎_}
+use Prim.Native.Nat.{ℕ, _+_, _*_, _<_, _≤_}
+use mathlib.Core.List.{List}
+use lib.ListN.{length, drop, set}
+use Rattle.spec.specs.declared.Answer.{Answer}
+use Rattle.spec.specs.declared.Answer.the-variants as answer
+use Rattle.record.specs.declared.Record.{Record}
+use Rattle.record.specs.Record.{configOf, zeros}
+use Rattle.claims.specs.Run.{guestArea}
+use Rattle.words.specs.After.{After}
+use Rattle.calls.specs.declared.Reply.{Reply}
+
+-- no guest word: the memory is as long as m and has its guest area, so that only host and shadow frames differ; the record
+-- places the areas as before
+pub record GuestKept (r : Record) (m : List ℕ) (e : After Reply) : Type 0 where
+  pub layout : configOf (e .result .unit) ≡ configOf r
+  pub long : length (e .memory) ≡ length m
+  pub area : guestArea r (e .memory) ≡ guestArea r m
+
+-- one guest word
+pub record OneWord (r : Record) (m : List ℕ) (e : After Reply) : Type 0 where
+  pub layout : configOf (e .result .unit) ≡ configOf r
+  pub long : length (e .memory) ≡ length m
+  pub place : ℕ
+  pub word : ℕ
+  pub inside : place < length (guestArea r m)
+  pub area : guestArea r (e .memory) ≡ set (guestArea r m) place word
+
+-- the numbers of the refusals of later calls
+abbrev pub Numbered : ℕ → Type 0
+Numbered n = (3 ≤ n) × (n ≤ 12)
+
+-- a refusal keeps the record and all of the memory, but that 11, for damaged tables, may alter host and shadow frames
+pub record RefusalKept (r : Record) (m : List ℕ) (e : After Reply) (n : ℕ) : Type 0 where
+  pub numbered : Numbered n
+  pub unit : e .result .unit ≡ r
+  pub guest : GuestKept r m e
+  pub whole : n ≢ 11 → e .memory ≡ m
+
+-- a granted store changes one guest word; a fault, a refusal, a load and a call without a value change none
+abbrev pub Keeps : Record → List ℕ → After Reply → Answer → Type 0
+Keeps r m e answer.Ok = GuestKept r m e
+Keeps r m e (answer.Value v n x) = GuestKept r m e
+Keeps r m e (answer.Done n x) = OneWord r m e
+Keeps r m e (answer.Faulted y n x) = GuestKept r m e
+Keeps r m e (answer.Refused n) = RefusalKept r m e n
+
+-- an opening: granted, it keeps the guest words; refused, it returns a record of zeros and leaves the memory
+abbrev pub OpenKeeps : List ℕ → ℕ → ℕ → After Reply → Answer → Type 0
+OpenKeeps m h s e answer.Ok = (length (e .memory) ≡ length m) × (drop (512 * (h + s)) (e .memory) ≡ drop (512 * (h + s)) m)
+OpenKeeps m h s e (answer.Value v n x) = ⊥
+OpenKeeps m h s e (answer.Done n x) = ⊥
+OpenKeeps m h s e (answer.Faulted y n x) = ⊥
+OpenKeeps m h s e (answer.Refused n) = ((n ≡ 1) ⊎ (n ≡ 2)) × (e .result .unit ≡ zeros) × (e .memory ≡ m)

@@ -1,0 +1,77 @@
+//! How much stack a call takes, for who links the unit into a kernel: each call runs on a stack of its own that was painted
+//! before, and the deepest word that changed is looked up. What a thread takes for itself is measured first.
+
+use std::ffi::c_void;
+
+use cangrieb::Record;
+
+/// The bound that the C header names.
+const MOST: usize = 8 * 1024;
+
+const PAINT: u64 = 0xa5a5_5a5a_a5a5_5a5a;
+const WORDS: usize = 64 * 1024;
+
+#[repr(C, align(16))]
+struct Attributes([u64; 8]);
+
+extern "C" {
+    fn pthread_attr_init(attributes: *mut Attributes) -> i32;
+    fn pthread_attr_setstack(attributes: *mut Attributes, stack: *mut c_void, size: usize) -> i32;
+    fn pthread_create(
+        thread: *mut usize,
+        attributes: *const Attributes,
+        start: extern "C" fn(*mut c_void) -> *mut c_void,
+        argument: *mut c_void,
+    ) -> i32;
+    fn pthread_join(thread: usize, value: *mut *mut c_void) -> i32;
+}
+
+extern "C" fn start(argument: *mut c_void) -> *mut c_void {
+    let run = unsafe { &mut *(argument as *mut &mut dyn FnMut()) };
+    run();
+    std::ptr::null_mut()
+}
+
+/// Bytes of stack used by a thread that runs this.
+fn used(mut run: &mut dyn FnMut()) -> usize {
+    let mut stack = vec![PAINT; WORDS + 512];
+    let from = stack.as_ptr().align_offset(4096);
+    unsafe {
+        let mut attributes = Attributes([0; 8]);
+        let mut thread = 0;
+        assert_eq!(pthread_attr_init(&mut attributes), 0);
+        assert_eq!(pthread_attr_setstack(&mut attributes, stack[from..].as_mut_ptr().cast(), WORDS * 8), 0);
+        let argument: *mut &mut dyn FnMut() = &mut run;
+        assert_eq!(pthread_create(&mut thread, &attributes, start, argument.cast()), 0);
+        assert_eq!(pthread_join(thread, std::ptr::null_mut()), 0);
+    }
+    let untouched = stack[from..].iter().take_while(|word| **word == PAINT).count();
+    assert!(untouched > 0, "the stack was too small");
+    (WORDS - untouched) * 8
+}
+
+#[test]
+fn calls_stay_within_the_bound() {
+    let thread = used(&mut || ());
+    let mut memory = vec![0; 64 * 512];
+    let mut unit = None;
+    let mut most = 0;
+    let mut take = |name: &str, bytes: usize| {
+        println!("{name} {}", bytes - thread);
+        most = most.max(bytes - thread);
+    };
+    take("open", used(&mut || unit = Record::open(&mut memory, 8, 8).ok()));
+    let mut unit = unit.unwrap();
+    take("map", used(&mut || drop(unit.map(&mut memory, 0, 16, true))));
+    take("root", used(&mut || drop(unit.root(&mut memory, 0))));
+    take("device store", used(&mut || drop(unit.device_store(&mut memory, 0, 3))));
+    take("load, filled", used(&mut || drop(unit.load(&mut memory, 0))));
+    take("load, held", used(&mut || drop(unit.load(&mut memory, 0))));
+    take("set mark", used(&mut || drop(unit.set_mark(&mut memory, 0, 2))));
+    take("load, at depth 2", used(&mut || drop(unit.load(&mut memory, 0))));
+    take("clear mark", used(&mut || drop(unit.clear_mark(&mut memory, 0, 2))));
+    take("load", used(&mut || drop(unit.load(&mut memory, 0))));
+    take("store that drops", used(&mut || drop(unit.store(&mut memory, 0, 3))));
+    take("unmap", used(&mut || drop(unit.unmap(&mut memory, 0))));
+    assert!(most > 0 && most <= MOST, "{most} bytes of stack");
+}
