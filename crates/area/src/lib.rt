@@ -18,27 +18,27 @@ pub enum Look {
 
 // ---- lookup
 
-// The index at a level that has k levels below it.
-pub fn index_at(g: u64, k: u64) -> u64
-    requires { ⌜ k ≤ 6 ⌝ }
-    ensures { λ r. ⌜ r ≡ index k g ⌝ }
+// The index at a level that has `below` levels below it.
+pub fn index_at(number: u64, below: u64) -> u64
+    requires { ⌜ below ≤ 6 ⌝ }
+    ensures { λ r. ⌜ r ≡ index below number ⌝ }
 {
-    entry::index_of(g, k) as u64
+    entry::index_of(number, below) as u64
 }
 
-// The entry at the end of the path of the k low indexes of g, on from the entry e; 0 if a table is missing on the way.
-pub fn lookup(base: u64, size: u64, e: u64, mem: &[u64], g: u64, k: u64) -> Look
-    requires { ⌜ k ≤ 7 ⌝ }
-    ensures { λ r. ⌜ r ≡ lookOf base size (now (mem .entry)) e (indexes k g) 0 ⌝ }
+// The entry at the end of the path of the last `steps` indexes of `path`, on from the entry given; 0 if a table is missing on the way.
+pub fn lookup(base: u64, size: u64, entry: u64, mem: &[u64], path: u64, steps: u64) -> Look
+    requires { ⌜ steps ≤ 7 ⌝ }
+    ensures { λ r. ⌜ r ≡ lookOf base size (now (mem .entry)) entry (indexes steps path) 0 ⌝ }
 {
-    let mut at = e;
-    let mut left = k;
+    let mut at = entry;
+    let mut left = steps;
     let mut n: u64 = 0;
     while left > 0 {
         match pool::follow(base, size, at) {
             Way::To(f) => {
                 left -= 1;
-                at = pool::entry_at(mem, f, index_at(g, left));
+                at = pool::entry_at(mem, f, index_at(path, left));
                 n += 1;
             }
             Way::Not => {
@@ -57,22 +57,22 @@ pub fn lookup(base: u64, size: u64, e: u64, mem: &[u64], g: u64, k: u64) -> Look
 
 // ---- insert
 
-// Whether n more tables find room.
-fn fits(size: u64, used: u64, n: u64) -> bool
-    ensures { λ r. ⌜ r ≡ leb (used + n) size ⌝ }
+// Whether so many more tables find room.
+fn fits(size: u64, used: u64, more: u64) -> bool
+    ensures { λ r. ⌜ r ≡ leb (used + more) size ⌝ }
 {
-    used <= size && n <= size - used
+    used <= size && more <= size - used
 }
 
-// How many tables the path of the k low indexes of g lacks; Not if the area has no room for them.
-fn room(a: Area, p: Pool, mem: &[u64], g: u64, k: u64) -> Way
-    requires { ⌜ (a .base + a .size < frameLimit) × (k ≤ 7) ⌝ }
-    ensures { λ r. ⌜ r ≡ roomOf a p (now (mem .entry)) (indexes k g) ⌝ }
+// How many tables the path of the last `steps` indexes of `path` lacks; Not if the area has no room for them.
+fn room(area: Area, pool: Pool, mem: &[u64], path: u64, steps: u64) -> Way
+    requires { ⌜ (area .base + area .size < frameLimit) × (steps ≤ 7) ⌝ }
+    ensures { λ r. ⌜ r ≡ roomOf area pool (now (mem .entry)) (indexes steps path) ⌝ }
 {
-    match lookup(a.base, a.size, p.top, mem, g, k) {
+    match lookup(area.base, area.size, pool.top, mem, path, steps) {
         Look::Seen { entry: e, reads: n } => {
-            if fits(a.size, p.used, k - n) {
-                Way::To(k - n)
+            if fits(area.size, pool.used, steps - n) {
+                Way::To(steps - n)
             } else {
                 Way::Not
             }
@@ -83,18 +83,18 @@ fn room(a: Area, p: Pool, mem: &[u64], g: u64, k: u64) -> Way
 
 // A table is handed out, with its header.
 fn new_table(
-    a: Area,
-    p: Pool,
+    area: Area,
+    pool: Pool,
     mem: &mut [u64],
     guest: u64,
     level: u64,
     parent: u64,
     slot: u64,
 ) -> Went
-    requires { ⌜ a .base + a .size < frameLimit ⌝ }
-    ensures { λ r. ⌜ yields r (now (mem .exit)) ≡ tableOf a p (now (mem .entry)) guest level parent slot ⌝ }
+    requires { ⌜ area .base + area .size < frameLimit ⌝ }
+    ensures { λ r. ⌜ yields r (now (mem .exit)) ≡ tableOf area pool (now (mem .entry)) guest level parent slot ⌝ }
 {
-    let went = pool::take_frame(a, p, mem);
+    let went = pool::take_frame(area, pool, mem);
     let way = went.way;
     match way {
         Way::To(f) => {
@@ -107,11 +107,11 @@ fn new_table(
 }
 
 // A table is handed out and becomes the top one.
-fn new_top(a: Area, p: Pool, mem: &mut [u64], guest: u64) -> Went
-    requires { ⌜ a .base + a .size < frameLimit ⌝ }
-    ensures { λ r. ⌜ yields r (now (mem .exit)) ≡ topOf a p (now (mem .entry)) guest ⌝ }
+fn new_top(area: Area, pool: Pool, mem: &mut [u64], guest: u64) -> Went
+    requires { ⌜ area .base + area .size < frameLimit ⌝ }
+    ensures { λ r. ⌜ yields r (now (mem .exit)) ≡ topOf area pool (now (mem .entry)) guest ⌝ }
 {
-    let went = new_table(a, p, mem, guest, a.levels, 0, 0);
+    let went = new_table(area, pool, mem, guest, area.levels, 0, 0);
     let way = went.way;
     let q = went.pool;
     match way {
@@ -125,33 +125,33 @@ fn new_top(a: Area, p: Pool, mem: &mut [u64], guest: u64) -> Went
 }
 
 // The top table, handed out if there is none.
-pub fn enter(a: Area, p: Pool, mem: &mut [u64], guest: u64) -> Went
-    requires { ⌜ a .base + a .size < frameLimit ⌝ }
-    ensures { λ r. ⌜ yields r (now (mem .exit)) ≡ enterOf a p (now (mem .entry)) guest ⌝ }
+pub fn enter(area: Area, pool: Pool, mem: &mut [u64], guest: u64) -> Went
+    requires { ⌜ area .base + area .size < frameLimit ⌝ }
+    ensures { λ r. ⌜ yields r (now (mem .exit)) ≡ enterOf area pool (now (mem .entry)) guest ⌝ }
 {
-    match pool::follow(a.base, a.size, p.top) {
+    match pool::follow(area.base, area.size, pool.top) {
         Way::To(f) => Went {
-            pool: p,
+            pool: pool,
             way: Way::To(f),
         },
-        Way::Not => new_top(a, p, mem, guest),
+        Way::Not => new_top(area, pool, mem, guest),
         Way::Damaged => Went {
-            pool: p,
+            pool: pool,
             way: Way::Damaged,
         },
     }
 }
 
-// A table is handed out and its entry put at index i of table f.
-fn attach(a: Area, p: Pool, mem: &mut [u64], guest: u64, level: u64, f: u64, i: u64) -> Went
-    requires { ⌜ (a .base + a .size < frameLimit) × (f < frameLimit) × (i < 512) ⌝ }
-    ensures { λ r. ⌜ yields r (now (mem .exit)) ≡ attachOf a p (now (mem .entry)) guest level f i ⌝ }
+// A table is handed out and its entry put into the table above.
+fn attach(area: Area, pool: Pool, mem: &mut [u64], guest: u64, level: u64, frame: u64, index: u64) -> Went
+    requires { ⌜ (area .base + area .size < frameLimit) × (frame < frameLimit) × (index < 512) ⌝ }
+    ensures { λ r. ⌜ yields r (now (mem .exit)) ≡ attachOf area pool (now (mem .entry)) guest level frame index ⌝ }
 {
-    let went = new_table(a, p, mem, guest, level, f, i);
+    let went = new_table(area, pool, mem, guest, level, frame, index);
     let way = went.way;
     match way {
         Way::To(h) => {
-            pool::put_entry(mem, f, i, h * 4096 + 1);
+            pool::put_entry(mem, frame, index, h * 4096 + 1);
             went
         }
         Way::Not => went,
@@ -160,36 +160,36 @@ fn attach(a: Area, p: Pool, mem: &mut [u64], guest: u64, level: u64, f: u64, i: 
 }
 
 // The table below, hung there if there is none.
-fn descend(a: Area, p: Pool, mem: &mut [u64], guest: u64, level: u64, f: u64, i: u64) -> Went
-    requires { ⌜ (a .base + a .size < frameLimit) × (f < frameLimit) × (i < 512) ⌝ }
-    ensures { λ r. ⌜ yields r (now (mem .exit)) ≡ descendOf a p (now (mem .entry)) guest level f i ⌝ }
+fn descend(area: Area, pool: Pool, mem: &mut [u64], guest: u64, level: u64, frame: u64, index: u64) -> Went
+    requires { ⌜ (area .base + area .size < frameLimit) × (frame < frameLimit) × (index < 512) ⌝ }
+    ensures { λ r. ⌜ yields r (now (mem .exit)) ≡ descendOf area pool (now (mem .entry)) guest level frame index ⌝ }
 {
-    match pool::follow(a.base, a.size, pool::entry_at(mem, f, i)) {
+    match pool::follow(area.base, area.size, pool::entry_at(mem, frame, index)) {
         Way::To(h) => Went {
-            pool: p,
+            pool: pool,
             way: Way::To(h),
         },
-        Way::Not => attach(a, p, mem, guest, level, f, i),
+        Way::Not => attach(area, pool, mem, guest, level, frame, index),
         Way::Damaged => Went {
-            pool: p,
+            pool: pool,
             way: Way::Damaged,
         },
     }
 }
 
-// From the top table f down, k indexes: tables handed out where they are missing, then the entry put.
-fn down(a: Area, guests: &[u64], p: Pool, mem: &mut [u64], f: u64, g: u64, k: u64, e: u64) -> Went
-    requires { ⌜ (a .base + a .size < frameLimit) × (f < frameLimit) × (1 ≤ k) × (k ≤ 7) × (k ≤ a .levels) ⌝ }
-    ensures { λ r. ⌜ yields r (now (mem .exit)) ≡ downOf a (now (guests .entry)) p (now (mem .entry)) 0 f (index (k - 1) g) (indexes (k - 1) g) e ⌝ }
+// From the top table down, `steps` indexes: tables handed out where they are missing, then the entry put.
+fn down(area: Area, guests: &[u64], pool: Pool, mem: &mut [u64], frame: u64, path: u64, steps: u64, entry: u64) -> Went
+    requires { ⌜ (area .base + area .size < frameLimit) × (frame < frameLimit) × (1 ≤ steps) × (steps ≤ 7) × (steps ≤ area .levels) ⌝ }
+    ensures { λ r. ⌜ yields r (now (mem .exit)) ≡ downOf area (now (guests .entry)) pool (now (mem .entry)) 0 frame (index (steps - 1) path) (indexes (steps - 1) path) entry ⌝ }
 {
-    let mut cur = p;
-    let mut t = f;
-    let mut left = k - 1;
+    let mut cur = pool;
+    let mut t = frame;
+    let mut left = steps - 1;
     let mut depth: u64 = 0;
     while left > 0 {
         depth += 1;
         let guest = words::word_at(guests, depth as usize);
-        let went = descend(a, cur, mem, guest, a.levels - depth, t, index_at(g, left));
+        let went = descend(area, cur, mem, guest, area.levels - depth, t, index_at(path, left));
         cur = went.pool;
         let way = went.way;
         match way {
@@ -211,7 +211,7 @@ fn down(a: Area, guests: &[u64], p: Pool, mem: &mut [u64], f: u64, g: u64, k: u6
         }
         left -= 1;
     }
-    pool::put_entry(mem, t, index_at(g, 0), e);
+    pool::put_entry(mem, t, index_at(path, 0), entry);
     Went {
         pool: cur,
         way: Way::To(t),
@@ -219,16 +219,16 @@ fn down(a: Area, guests: &[u64], p: Pool, mem: &mut [u64], f: u64, g: u64, k: u6
 }
 
 // The top table is handed out if there is none, then the path is filled from it down.
-fn place(a: Area, guests: &[u64], p: Pool, mem: &mut [u64], g: u64, k: u64, e: u64) -> Went
-    requires { ⌜ (a .base + a .size < frameLimit) × (1 ≤ k) × (k ≤ 7) × (k ≤ a .levels) ⌝ }
-    ensures { λ r. ⌜ yields r (now (mem .exit)) ≡ placeOf a (now (guests .entry)) p (now (mem .entry)) (index (k - 1) g) (indexes (k - 1) g) e ⌝ }
+fn place(area: Area, guests: &[u64], pool: Pool, mem: &mut [u64], path: u64, steps: u64, entry: u64) -> Went
+    requires { ⌜ (area .base + area .size < frameLimit) × (1 ≤ steps) × (steps ≤ 7) × (steps ≤ area .levels) ⌝ }
+    ensures { λ r. ⌜ yields r (now (mem .exit)) ≡ placeOf area (now (guests .entry)) pool (now (mem .entry)) (index (steps - 1) path) (indexes (steps - 1) path) entry ⌝ }
 {
     let guest = words::word_at(guests, 0);
-    let went = enter(a, p, mem, guest);
+    let went = enter(area, pool, mem, guest);
     let way = went.way;
     let q = went.pool;
     match way {
-        Way::To(f) => down(a, guests, q, mem, f, g, k, e),
+        Way::To(f) => down(area, guests, q, mem, f, path, steps, entry),
         Way::Not => Went {
             pool: q,
             way: Way::Damaged,
@@ -240,20 +240,20 @@ fn place(a: Area, guests: &[u64], p: Pool, mem: &mut [u64], g: u64, k: u64, e: u
     }
 }
 
-// The entry of the path of the k low indexes of g is set, with the tables that it needs, guests being their guest
+// The entry of the path of the last `steps` indexes of `path` is set, with the tables that it needs, guests being their guest
 // tables' host frames from the top table down. Not, and nothing changed, if they find no room.
-pub fn insert(a: Area, guests: &[u64], p: Pool, mem: &mut [u64], g: u64, k: u64, e: u64) -> Went
-    requires { ⌜ (a .base + a .size < frameLimit) × (1 ≤ k) × (k ≤ 7) × (k ≤ a .levels) ⌝ }
-    ensures { λ r. ⌜ yields r (now (mem .exit)) ≡ insertOf a (now (guests .entry)) p (now (mem .entry)) (indexes k g) e ⌝ }
+pub fn insert(area: Area, guests: &[u64], pool: Pool, mem: &mut [u64], path: u64, steps: u64, entry: u64) -> Went
+    requires { ⌜ (area .base + area .size < frameLimit) × (1 ≤ steps) × (steps ≤ 7) × (steps ≤ area .levels) ⌝ }
+    ensures { λ r. ⌜ yields r (now (mem .exit)) ≡ insertOf area (now (guests .entry)) pool (now (mem .entry)) (indexes steps path) entry ⌝ }
 {
-    match room(a, p, mem, g, k) {
-        Way::To(n) => place(a, guests, p, mem, g, k, e),
+    match room(area, pool, mem, path, steps) {
+        Way::To(n) => place(area, guests, pool, mem, path, steps, entry),
         Way::Not => Went {
-            pool: p,
+            pool: pool,
             way: Way::Not,
         },
         Way::Damaged => Went {
-            pool: p,
+            pool: pool,
             way: Way::Damaged,
         },
     }

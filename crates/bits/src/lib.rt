@@ -4,12 +4,12 @@ ghost use Prim.Native.Nat.{_-_, _^_, _<_};
 ghost use lib.Bits.{bitAnd};
 ghost use lib.Count.{ones, trailingZeros};
 
-// Two to the power i.
-pub fn power(i: u64) -> u64
-    requires { ⌜ i < 64 ⌝ }
-    ensures { λ r. ⌜ r ≡ 2 ^ i ⌝ }
+// Two to the power of a place.
+pub fn power(place: u64) -> u64
+    requires { ⌜ place < 64 ⌝ }
+    ensures { λ r. ⌜ r ≡ 2 ^ place ⌝ }
 {
-    1u64 << i
+    1u64 << place
 }
 
 // How many bits are set.

@@ -114,31 +114,31 @@ fn refused_in(head: Head, number: u64) -> Turn
 // ---- load, store, device store
 
 // Is it the address of a word that tables of that many levels translate?
-fn address_ok(levels: u64, a: GuestVirtual) -> bool
+fn address_ok(levels: u64, address: GuestVirtual) -> bool
     requires { ⌜ levels < 6 ⌝ }
-    ensures { λ r. ⌜ r ≡ (addressFits (ofLevels levels) (a .0) && wordAligned (a .0)) ⌝ }
+    ensures { λ r. ⌜ r ≡ (addressFits (ofLevels levels) (address .0) && wordAligned (address .0)) ⌝ }
 {
-    if a.fits(levels) { a.0 % 8 == 0 } else { false }
+    if address.fits(levels) { address.0 % 8 == 0 } else { false }
 }
 
 // Is it the guest-physical address of a word?
-fn device_ok(levels: u64, a: u64) -> bool
+fn device_ok(levels: u64, address: u64) -> bool
     requires { ⌜ levels < 6 ⌝ }
-    ensures { λ r. ⌜ r ≡ (deviceFits (ofLevels levels) a && wordAligned a) ⌝ }
+    ensures { λ r. ⌜ r ≡ (deviceFits (ofLevels levels) address && wordAligned address) ⌝ }
 {
-    if a >> (12 + entry::frame_bits(levels)) == 0 {
-        a % 8 == 0
+    if address >> (12 + entry::frame_bits(levels)) == 0 {
+        address % 8 == 0
     } else {
         false
     }
 }
 
 // Loads a word: 3, 4, 11.
-pub fn load_at(head: Head, place: &[u64; 64], mem: &mut [u64], a: u64) -> Served
-    ensures { λ r. ⌜ yields (servedReply (recordBy head (now (place .entry))) r) (now (mem .exit)) ≡ loadCall (recordBy head (now (place .entry))) (now (mem .entry)) a ⌝ }
+pub fn load_at(head: Head, place: &[u64; 64], mem: &mut [u64], address: u64) -> Served
+    ensures { λ r. ⌜ yields (servedReply (recordBy head (now (place .entry))) r) (now (mem .exit)) ≡ loadCall (recordBy head (now (place .entry))) (now (mem .entry)) address ⌝ }
 {
     let held = held_in(head);
-    let at = GuestVirtual(a);
+    let at = GuestVirtual(address);
     if !head.fits(place, mem.len()) {
         return request::refused(held, 3);
     }
@@ -150,11 +150,11 @@ pub fn load_at(head: Head, place: &[u64; 64], mem: &mut [u64], a: u64) -> Served
 }
 
 // Stores a word; the paths whose shadow part read it are dropped: 3, 4, 11.
-pub fn store_at(head: Head, place: &[u64; 64], mem: &mut [u64], a: u64, v: u64) -> Served
-    ensures { λ r. ⌜ yields (servedReply (recordBy head (now (place .entry))) r) (now (mem .exit)) ≡ storeCall (recordBy head (now (place .entry))) (now (mem .entry)) a v ⌝ }
+pub fn store_at(head: Head, place: &[u64; 64], mem: &mut [u64], address: u64, value: u64) -> Served
+    ensures { λ r. ⌜ yields (servedReply (recordBy head (now (place .entry))) r) (now (mem .exit)) ≡ storeCall (recordBy head (now (place .entry))) (now (mem .entry)) address value ⌝ }
 {
     let held = held_in(head);
-    let at = GuestVirtual(a);
+    let at = GuestVirtual(address);
     if !head.fits(place, mem.len()) {
         return request::refused(held, 3);
     }
@@ -162,30 +162,30 @@ pub fn store_at(head: Head, place: &[u64; 64], mem: &mut [u64], a: u64, v: u64) 
         return request::refused(held, 4);
     }
     let d = marks::depth(place, head.set, at);
-    request::store(mem, space_in(head), head.root, held, at, d, v)
+    request::store(mem, space_in(head), head.root, held, at, d, value)
 }
 
 // A device stores a word at a guest-physical address; the paths whose shadow part read it are dropped: 3, 4, 11.
-pub fn device_store_at(head: Head, place: &[u64; 64], mem: &mut [u64], a: u64, v: u64) -> Served
-    ensures { λ r. ⌜ yields (servedReply (recordBy head (now (place .entry))) r) (now (mem .exit)) ≡ deviceCall (recordBy head (now (place .entry))) (now (mem .entry)) a v ⌝ }
+pub fn device_store_at(head: Head, place: &[u64; 64], mem: &mut [u64], address: u64, value: u64) -> Served
+    ensures { λ r. ⌜ yields (servedReply (recordBy head (now (place .entry))) r) (now (mem .exit)) ≡ deviceCall (recordBy head (now (place .entry))) (now (mem .entry)) address value ⌝ }
 {
     let held = held_in(head);
     if !head.fits(place, mem.len()) {
         return request::refused(held, 3);
     }
-    if !device_ok(head.layout.levels, a) {
+    if !device_ok(head.layout.levels, address) {
         return request::refused(held, 4);
     }
-    request::device_store(mem, space_in(head), held, a, v)
+    request::device_store(mem, space_in(head), held, address, value)
 }
 
 // ---- root, map, unmap
 
 // Another root; all held paths are dropped: 3, 8.
-pub fn root_at(head: Head, place: &[u64; 64], mem: &[u64], g: u64) -> Turn
-    ensures { λ r. ⌜ yields (turnReply (recordBy head (now (place .entry))) r) (now (mem .entry)) ≡ rootCall (recordBy head (now (place .entry))) (now (mem .entry)) g ⌝ }
+pub fn root_at(head: Head, place: &[u64; 64], mem: &[u64], guest: u64) -> Turn
+    ensures { λ r. ⌜ yields (turnReply (recordBy head (now (place .entry))) r) (now (mem .entry)) ≡ rootCall (recordBy head (now (place .entry))) (now (mem .entry)) guest ⌝ }
 {
-    let root = GuestPhysical(g);
+    let root = GuestPhysical(guest);
     if !head.fits(place, mem.len()) {
         return refused_in(head, 3);
     }
@@ -198,19 +198,19 @@ pub fn root_at(head: Head, place: &[u64; 64], mem: &[u64], g: u64) -> Turn
     }
 }
 
-// After a change of the mapping of g that left this pool of the host tables: the held paths that used it are dropped.
-fn remapped(head: Head, place: &[u64; 64], host: Pool, mem: &mut [u64], g: GuestPhysical) -> Turn
+// After a change of the mapping of a guest frame that left this pool of the host tables: the held paths that used it are dropped.
+fn remapped(head: Head, place: &[u64; 64], host: Pool, mem: &mut [u64], guest: GuestPhysical) -> Turn
     requires { ⌜ Sound (recordBy head (now place)) ⌝ }
-    ensures { λ r. ⌜ yields (turnReply (recordBy head (now (place .entry))) r) (now (mem .exit)) ≡ unmappedOf (recordBy head (now (place .entry))) host (now (mem .entry)) (g .0) ⌝ }
+    ensures { λ r. ⌜ yields (turnReply (recordBy head (now (place .entry))) r) (now (mem .exit)) ≡ unmappedOf (recordBy head (now (place .entry))) host (now (mem .entry)) (guest .0) ⌝ }
 {
     let next = with_host(head, host);
-    if g.0 == head.root.0 {
+    if guest.0 == head.root.0 {
         return Turn {
             head: with_held(next, held_none()),
             answer: Answer::Ok,
         };
     }
-    let left = drops::drop_mapping(mem, head.layout, head.pools.shadow, g);
+    let left = drops::drop_mapping(mem, head.layout, head.pools.shadow, guest);
     let pool = left.pool;
     let frame = head.held;
     if !left.ok {
@@ -228,24 +228,24 @@ fn remapped(head: Head, place: &[u64; 64], host: Pool, mem: &mut [u64], g: Guest
     }
 }
 
-// What a change of the mapping of g yields; was: what its host walk came to before.
+// What a change of the mapping of a guest frame yields; was: what its host walk came to before.
 fn changed(
     head: Head,
     place: &[u64; 64],
     change: Change,
     mem: &mut [u64],
-    g: GuestPhysical,
+    guest: GuestPhysical,
     was: HostWalk,
 ) -> Turn
     requires { ⌜ Sound (recordBy head (now place)) ⌝ }
-    ensures { λ r. ⌜ yields (turnReply (recordBy head (now (place .entry))) r) (now (mem .exit)) ≡ changedBy (recordBy head (now (place .entry))) (g .0) was (yields change (now (mem .entry))) ⌝ }
+    ensures { λ r. ⌜ yields (turnReply (recordBy head (now (place .entry))) r) (now (mem .exit)) ≡ changedBy (recordBy head (now (place .entry))) (guest .0) was (yields change (now (mem .entry))) ⌝ }
 {
     let host = change.pool;
     if change.refusal != 0 {
         return refused_in(head, change.refusal);
     }
     match was {
-        HostWalk::Found { page, writable } => remapped(head, place, host, mem, g),
+        HostWalk::Found { page, writable } => remapped(head, place, host, mem, guest),
         HostWalk::Absent { reads } => Turn {
             head: with_host(head, host),
             answer: Answer::Ok,
@@ -259,13 +259,13 @@ pub fn map_at(
     head: Head,
     place: &[u64; 64],
     mem: &mut [u64],
-    g: u64,
-    f: u64,
+    number: u64,
+    frame: u64,
     writable: bool,
 ) -> Turn
-    ensures { λ r. ⌜ yields (turnReply (recordBy head (now (place .entry))) r) (now (mem .exit)) ≡ mapCall (recordBy head (now (place .entry))) (now (mem .entry)) g f writable ⌝ }
+    ensures { λ r. ⌜ yields (turnReply (recordBy head (now (place .entry))) r) (now (mem .exit)) ≡ mapCall (recordBy head (now (place .entry))) (now (mem .entry)) number frame writable ⌝ }
 {
-    let guest = GuestPhysical(g);
+    let guest = GuestPhysical(number);
     if !head.fits(place, mem.len()) {
         return refused_in(head, 3);
     }
@@ -275,17 +275,17 @@ pub fn map_at(
         head.layout,
         head.pools.host,
         guest,
-        HostPhysical(f),
+        HostPhysical(frame),
         writable,
     );
     changed(head, place, change, mem, guest, was)
 }
 
 // Unmaps a guest frame: 3, 8, 12, 11.
-pub fn unmap_at(head: Head, place: &[u64; 64], mem: &mut [u64], g: u64) -> Turn
-    ensures { λ r. ⌜ yields (turnReply (recordBy head (now (place .entry))) r) (now (mem .exit)) ≡ unmapCall (recordBy head (now (place .entry))) (now (mem .entry)) g ⌝ }
+pub fn unmap_at(head: Head, place: &[u64; 64], mem: &mut [u64], number: u64) -> Turn
+    ensures { λ r. ⌜ yields (turnReply (recordBy head (now (place .entry))) r) (now (mem .exit)) ≡ unmapCall (recordBy head (now (place .entry))) (now (mem .entry)) number ⌝ }
 {
-    let guest = GuestPhysical(g);
+    let guest = GuestPhysical(number);
     if !head.fits(place, mem.len()) {
         return refused_in(head, 3);
     }

@@ -44,27 +44,27 @@ pub struct Left {
 // ---- entries
 
 // Whether a present entry ends a held path; lowest: its table is of level 1.
-fn is_leaf(lowest: bool, e: u64) -> bool
-    ensures { λ r. ⌜ r ≡ isLeaf lowest e ⌝ }
+fn is_leaf(lowest: bool, entry: u64) -> bool
+    ensures { λ r. ⌜ r ≡ isLeaf lowest entry ⌝ }
 {
-    if lowest { true } else { entry::switch(e) }
+    if lowest { true } else { entry::switch(entry) }
 }
 
 // What an entry says.
-fn kind_of(l: Layout, lowest: bool, e: u64) -> Kind
-    requires { ⌜ LayoutFits l ⌝ }
-    ensures { λ r. ⌜ r ≡ kindOf (config l) lowest e ⌝ }
+fn kind_of(layout: Layout, lowest: bool, entry: u64) -> Kind
+    requires { ⌜ LayoutFits layout ⌝ }
+    ensures { λ r. ⌜ r ≡ kindOf (config layout) lowest entry ⌝ }
 {
-    if entry::present(e) {
-        let f = entry::frame_of(e);
-        if is_leaf(lowest, e) {
-            if layout::in_guest_area(l, f) {
+    if entry::present(entry) {
+        let f = entry::frame_of(entry);
+        if is_leaf(lowest, entry) {
+            if layout::in_guest_area(layout, f) {
                 Kind::Leaf
             } else {
                 Kind::Damaged
             }
         } else {
-            if pool::inside(l.hosts, l.shadows, f) {
+            if pool::inside(layout.hosts, layout.shadows, f) {
                 Kind::Table(f)
             } else {
                 Kind::Damaged
@@ -77,26 +77,26 @@ fn kind_of(l: Layout, lowest: bool, e: u64) -> Kind
 
 // ---- cuts
 
-// Whether entry i of the table in frame f is cut.
-fn cut_at(mem: &[u64], cut: Cut, f: u64, i: u64) -> bool
-    requires { ⌜ (f < frameLimit) × (i < 512) ⌝ }
-    ensures { λ r. ⌜ r ≡ cutOf (now (mem .entry)) cut f i ⌝ }
+// Whether an entry of a table is cut.
+fn cut_at(mem: &[u64], cut: Cut, table: u64, at: u64) -> bool
+    requires { ⌜ (table < frameLimit) × (at < 512) ⌝ }
+    ensures { λ r. ⌜ r ≡ cutOf (now (mem .entry)) cut table at ⌝ }
 {
     match cut {
         Cut::Word(frame, index) => {
-            if i == index % 512 {
-                pool::guest(mem, f) == frame.0
+            if at == index % 512 {
+                pool::guest(mem, table) == frame.0
             } else {
                 false
             }
         }
         Cut::Names(g) => {
-            let t = pool::guest(mem, f);
-            entry::frame_of(words::word_in(mem, t, i)) == g.0
+            let t = pool::guest(mem, table);
+            entry::frame_of(words::word_in(mem, t, at)) == g.0
         }
         Cut::Slot(frame, index) => {
-            if i == index % 512 {
-                f == frame.0
+            if at == index % 512 {
+                table == frame.0
             } else {
                 false
             }
@@ -126,26 +126,26 @@ fn end(cut: Cut) -> u64
     }
 }
 
-// Whether the table in frame f may have an entry that is cut.
-fn touches(mem: &[u64], cut: Cut, f: u64) -> bool
-    requires { ⌜ f < frameLimit ⌝ }
-    ensures { λ r. ⌜ r ≡ touchOf (now (mem .entry)) cut f ⌝ }
+// Whether a table may have an entry that is cut.
+fn touches(mem: &[u64], cut: Cut, table: u64) -> bool
+    requires { ⌜ table < frameLimit ⌝ }
+    ensures { λ r. ⌜ r ≡ touchOf (now (mem .entry)) cut table ⌝ }
 {
     match cut {
-        Cut::Word(frame, index) => pool::guest(mem, f) == frame.0,
+        Cut::Word(frame, index) => pool::guest(mem, table) == frame.0,
         Cut::Names(g) => true,
-        Cut::Slot(frame, index) => f == frame.0,
+        Cut::Slot(frame, index) => table == frame.0,
     }
 }
 
-// One link up from the table in frame f.
-fn link_up(mem: &[u64], l: Layout, cut: Cut, f: u64) -> Above
-    requires { ⌜ f < frameLimit ⌝ }
-    ensures { λ r. ⌜ r ≡ aboveOf (config l) cut (now (mem .entry)) f ⌝ }
+// One link up from the table in that frame.
+fn link_up(mem: &[u64], layout: Layout, cut: Cut, frame: u64) -> Above
+    requires { ⌜ frame < frameLimit ⌝ }
+    ensures { λ r. ⌜ r ≡ aboveOf (config layout) cut (now (mem .entry)) frame ⌝ }
 {
-    let p = pool::parent(mem, f);
-    if pool::inside(l.hosts, l.shadows, p) {
-        if cut_at(mem, cut, p, pool::slot(mem, f)) {
+    let p = pool::parent(mem, frame);
+    if pool::inside(layout.hosts, layout.shadows, p) {
+        if cut_at(mem, cut, p, pool::slot(mem, frame)) {
             Above::Met
         } else {
             Above::To(p)
@@ -155,15 +155,15 @@ fn link_up(mem: &[u64], l: Layout, cut: Cut, f: u64) -> Above
     }
 }
 
-// Whether one of the k entries above the table in frame f is cut.
-fn links_up(mem: &[u64], l: Layout, cut: Cut, k: u64, f: u64) -> Above
-    requires { ⌜ f < frameLimit ⌝ }
-    ensures { λ r. ⌜ r ≡ upFrom (config l) cut (now (mem .entry)) k f ⌝ }
+// Whether an entry above the table in that frame is cut; `above` tables stand above it.
+fn links_up(mem: &[u64], layout: Layout, cut: Cut, above: u64, frame: u64) -> Above
+    requires { ⌜ frame < frameLimit ⌝ }
+    ensures { λ r. ⌜ r ≡ upFrom (config layout) cut (now (mem .entry)) above frame ⌝ }
 {
-    let mut t = f;
-    let mut links = k;
+    let mut t = frame;
+    let mut links = above;
     while links > 0 {
-        match link_up(mem, l, cut, t) {
+        match link_up(mem, layout, cut, t) {
             Above::Met => {
                 return Above::Met;
             }
@@ -188,24 +188,24 @@ pub fn links(levels: u64, level: u64) -> u64
 
 // ---- one table
 
-// Whether a leaf at index i of the table in frame f goes.
-fn goes(mem: &[u64], cut: Cut, all: bool, f: u64, i: u64) -> bool
-    requires { ⌜ (f < frameLimit) × (i < 512) ⌝ }
-    ensures { λ r. ⌜ r ≡ goesOf (now (mem .entry)) cut all f i ⌝ }
+// Whether a leaf at the index of the table in that frame goes.
+fn goes(mem: &[u64], cut: Cut, all: bool, frame: u64, index: u64) -> bool
+    requires { ⌜ (frame < frameLimit) × (index < 512) ⌝ }
+    ensures { λ r. ⌜ r ≡ goesOf (now (mem .entry)) cut all frame index ⌝ }
 {
-    if all { true } else { cut_at(mem, cut, f, i) }
+    if all { true } else { cut_at(mem, cut, frame, index) }
 }
 
-// The entry at index i is cleared if it is a leaf that goes; false if it is damaged.
-fn clear_one(mem: &mut [u64], l: Layout, cut: Cut, all: bool, lowest: bool, f: u64, i: u64) -> bool
-    requires { ⌜ (LayoutFits l) × (f < frameLimit) × (i < 512) ⌝ }
-    ensures { λ r. ⌜ yields r (now (mem .exit)) ≡ clearOne (config l) cut all lowest f (now (mem .entry)) i ⌝ }
+// The entry at the index is cleared if it is a leaf that goes; false if it is damaged.
+fn clear_one(mem: &mut [u64], layout: Layout, cut: Cut, all: bool, lowest: bool, frame: u64, index: u64) -> bool
+    requires { ⌜ (LayoutFits layout) × (frame < frameLimit) × (index < 512) ⌝ }
+    ensures { λ r. ⌜ yields r (now (mem .exit)) ≡ clearOne (config layout) cut all lowest frame (now (mem .entry)) index ⌝ }
 {
-    match kind_of(l, lowest, pool::entry_at(mem, f, i)) {
+    match kind_of(layout, lowest, pool::entry_at(mem, frame, index)) {
         Kind::Gone => true,
         Kind::Leaf => {
-            if goes(mem, cut, all, f, i) {
-                pool::put_entry(mem, f, i, 0);
+            if goes(mem, cut, all, frame, index) {
+                pool::put_entry(mem, frame, index, 0);
                 true
             } else {
                 true
@@ -219,20 +219,20 @@ fn clear_one(mem: &mut [u64], l: Layout, cut: Cut, all: bool, lowest: bool, f: u
 // The entries from lo on below hi.
 fn clear_leaves(
     mem: &mut [u64],
-    l: Layout,
+    layout: Layout,
     cut: Cut,
     all: bool,
     lowest: bool,
-    f: u64,
+    frame: u64,
     lo: u64,
     hi: u64,
 ) -> bool
-    requires { ⌜ (LayoutFits l) × (f < frameLimit) × (hi ≤ 512) × (lo ≤ hi) ⌝ }
-    ensures { λ r. ⌜ yields r (now (mem .exit)) ≡ clearFrom (config l) cut all lowest f (hi - lo) lo (now (mem .entry)) ⌝ }
+    requires { ⌜ (LayoutFits layout) × (frame < frameLimit) × (hi ≤ 512) × (lo ≤ hi) ⌝ }
+    ensures { λ r. ⌜ yields r (now (mem .exit)) ≡ clearFrom (config layout) cut all lowest frame (hi - lo) lo (now (mem .entry)) ⌝ }
 {
     let mut i = lo;
     while i < hi {
-        if clear_one(mem, l, cut, all, lowest, f, i) {
+        if clear_one(mem, layout, cut, all, lowest, frame, i) {
             i += 1;
         } else {
             return false;
@@ -241,12 +241,12 @@ fn clear_leaves(
     true
 }
 
-// The table in frame f, of level n, and those above it are given back as far as they are empty.
-fn settle(mem: &mut [u64], l: Layout, p: Pool, n: u64, f: u64) -> Left
-    requires { ⌜ (LayoutFits l) × (f < frameLimit) ⌝ }
-    ensures { λ r. ⌜ yields r (now (mem .exit)) ≡ settleOf (config l) p (now (mem .entry)) n f ⌝ }
+// The table in that frame, of that level, and those above it are given back as far as they are empty.
+fn settle(mem: &mut [u64], layout: Layout, before: Pool, level: u64, frame: u64) -> Left
+    requires { ⌜ (LayoutFits layout) × (frame < frameLimit) ⌝ }
+    ensures { λ r. ⌜ yields r (now (mem .exit)) ≡ settleOf (config layout) before (now (mem .entry)) level frame ⌝ }
 {
-    let went = prune::release(shadow::shadow_area(l), false, p, mem, links(l.levels, n), f);
+    let went = prune::release(shadow::shadow_area(layout), false, before, mem, links(layout.levels, level), frame);
     let pool = went.pool;
     let way = went.way;
     match way {
@@ -268,59 +268,59 @@ fn settle(mem: &mut [u64], l: Layout, p: Pool, n: u64, f: u64) -> Left
 // The leaves that go are cleared, and emptied tables given back.
 fn sweep(
     mem: &mut [u64],
-    l: Layout,
+    layout: Layout,
     cut: Cut,
     all: bool,
-    n: u64,
-    f: u64,
+    level: u64,
+    frame: u64,
     lo: u64,
     hi: u64,
-    p: Pool,
+    pool: Pool,
 ) -> Left
-    requires { ⌜ (LayoutFits l) × (f < frameLimit) × (hi ≤ 512) × (lo ≤ hi) ⌝ }
-    ensures { λ r. ⌜ yields r (now (mem .exit)) ≡ sweepOf (config l) cut all n f (hi - lo) lo p (now (mem .entry)) ⌝ }
+    requires { ⌜ (LayoutFits layout) × (frame < frameLimit) × (hi ≤ 512) × (lo ≤ hi) ⌝ }
+    ensures { λ r. ⌜ yields r (now (mem .exit)) ≡ sweepOf (config layout) cut all level frame (hi - lo) lo pool (now (mem .entry)) ⌝ }
 {
-    if clear_leaves(mem, l, cut, all, n == 1, f, lo, hi) {
-        settle(mem, l, p, n, f)
+    if clear_leaves(mem, layout, cut, all, level == 1, frame, lo, hi) {
+        settle(mem, layout, pool, level, frame)
     } else {
-        Left { pool: p, ok: false }
+        Left { pool: pool, ok: false }
     }
 }
 
 // ---- the scan
 
 // One frame: all leaves of a table under a cut go, else those that are cut.
-fn visit(mem: &mut [u64], l: Layout, cut: Cut, p: Pool, f: u64) -> Left
-    requires { ⌜ (LayoutFits l) × (f < frameLimit) ⌝ }
-    ensures { λ r. ⌜ yields r (now (mem .exit)) ≡ visitOf (config l) cut p (now (mem .entry)) f ⌝ }
+fn visit(mem: &mut [u64], layout: Layout, cut: Cut, pool: Pool, frame: u64) -> Left
+    requires { ⌜ (LayoutFits layout) × (frame < frameLimit) ⌝ }
+    ensures { λ r. ⌜ yields r (now (mem .exit)) ≡ visitOf (config layout) cut pool (now (mem .entry)) frame ⌝ }
 {
-    let n = pool::level(mem, f);
+    let n = pool::level(mem, frame);
     if n == 0 {
-        return Left { pool: p, ok: true };
+        return Left { pool: pool, ok: true };
     }
-    match links_up(mem, l, cut, links(l.levels, n), f) {
-        Above::Met => sweep(mem, l, cut, true, n, f, 0, 512, p),
+    match links_up(mem, layout, cut, links(layout.levels, n), frame) {
+        Above::Met => sweep(mem, layout, cut, true, n, frame, 0, 512, pool),
         Above::To(t) => {
-            if touches(mem, cut, f) {
-                sweep(mem, l, cut, false, n, f, low(cut), end(cut), p)
+            if touches(mem, cut, frame) {
+                sweep(mem, layout, cut, false, n, frame, low(cut), end(cut), pool)
             } else {
-                Left { pool: p, ok: true }
+                Left { pool: pool, ok: true }
             }
         }
-        Above::Damaged => Left { pool: p, ok: false },
+        Above::Damaged => Left { pool: pool, ok: false },
     }
 }
 
 // Every path that is cut is dropped.
-fn scan(mem: &mut [u64], l: Layout, cut: Cut, p: Pool) -> Left
-    requires { ⌜ (LayoutFits l) × (p .fresh ≤ l .shadows) ⌝ }
-    ensures { λ r. ⌜ yields r (now (mem .exit)) ≡ scanOf (config l) cut p (now (mem .entry)) ⌝ }
+fn scan(mem: &mut [u64], layout: Layout, cut: Cut, pool: Pool) -> Left
+    requires { ⌜ (LayoutFits layout) × (pool .fresh ≤ layout .shadows) ⌝ }
+    ensures { λ r. ⌜ yields r (now (mem .exit)) ≡ scanOf (config layout) cut pool (now (mem .entry)) ⌝ }
 {
-    let fresh = p.fresh;
-    let mut cur = p;
+    let fresh = pool.fresh;
+    let mut cur = pool;
     let mut i: u64 = 0;
     while i < fresh {
-        let left = visit(mem, l, cut, cur, l.hosts + i);
+        let left = visit(mem, layout, cut, cur, layout.hosts + i);
         cur = left.pool;
         if left.ok {
             i += 1;
@@ -335,29 +335,29 @@ fn scan(mem: &mut [u64], l: Layout, cut: Cut, p: Pool) -> Left
 }
 
 // A store to a word of a host frame drops the paths whose shadow part read it.
-pub fn drop_word(mem: &mut [u64], l: Layout, p: Pool, frame: HostPhysical, index: u64) -> Left
-    requires { ⌜ (LayoutFits l) × (p .fresh ≤ l .shadows) ⌝ }
-    ensures { λ r. ⌜ yields r (now (mem .exit)) ≡ scanOf (config l) (Cut.Word frame index) p (now (mem .entry)) ⌝ }
+pub fn drop_word(mem: &mut [u64], layout: Layout, pool: Pool, frame: HostPhysical, index: u64) -> Left
+    requires { ⌜ (LayoutFits layout) × (pool .fresh ≤ layout .shadows) ⌝ }
+    ensures { λ r. ⌜ yields r (now (mem .exit)) ≡ scanOf (config layout) (Cut.Word frame index) pool (now (mem .entry)) ⌝ }
 {
-    scan(mem, l, Cut::Word(frame, index), p)
+    scan(mem, layout, Cut::Word(frame, index), pool)
 }
 
 // A mapping made or taken away drops the paths whose shadow part used it below the root.
-pub fn drop_mapping(mem: &mut [u64], l: Layout, p: Pool, g: GuestPhysical) -> Left
-    requires { ⌜ (LayoutFits l) × (p .fresh ≤ l .shadows) ⌝ }
-    ensures { λ r. ⌜ yields r (now (mem .exit)) ≡ scanOf (config l) (Cut.Names g) p (now (mem .entry)) ⌝ }
+pub fn drop_mapping(mem: &mut [u64], layout: Layout, pool: Pool, guest: GuestPhysical) -> Left
+    requires { ⌜ (LayoutFits layout) × (pool .fresh ≤ layout .shadows) ⌝ }
+    ensures { λ r. ⌜ yields r (now (mem .exit)) ≡ scanOf (config layout) (Cut.Names guest) pool (now (mem .entry)) ⌝ }
 {
-    scan(mem, l, Cut::Names(g), p)
+    scan(mem, layout, Cut::Names(guest), pool)
 }
 
 // ---- a prefix
 
 // The table that an entry above the lowest level names.
-fn table_named(l: Layout, e: u64) -> Way
-    requires { ⌜ LayoutFits l ⌝ }
-    ensures { λ r. ⌜ r ≡ tableNamed (config l) e ⌝ }
+fn table_named(layout: Layout, entry: u64) -> Way
+    requires { ⌜ LayoutFits layout ⌝ }
+    ensures { λ r. ⌜ r ≡ tableNamed (config layout) entry ⌝ }
 {
-    match kind_of(l, false, e) {
+    match kind_of(layout, false, entry) {
         Kind::Gone => Way::Not,
         Kind::Leaf => Way::Not,
         Kind::Table(f) => Way::To(f),
@@ -365,15 +365,15 @@ fn table_named(l: Layout, e: u64) -> Way
     }
 }
 
-// The table that holds the last entry of the prefix of the k low indexes of path, on from the entry e.
-fn holder(mem: &[u64], l: Layout, e: u64, path: u64, k: u64) -> Way
-    requires { ⌜ (LayoutFits l) × (1 ≤ k) × (k ≤ l .levels) ⌝ }
-    ensures { λ r. ⌜ r ≡ holderFrom (config l) (now (mem .entry)) e (index (k - 1) path) (indexes (k - 1) path) ⌝ }
+// The table that holds the last entry of the prefix of the last `steps` indexes of `path`, on from the entry given.
+fn holder(mem: &[u64], layout: Layout, entry: u64, path: u64, steps: u64) -> Way
+    requires { ⌜ (LayoutFits layout) × (1 ≤ steps) × (steps ≤ layout .levels) ⌝ }
+    ensures { λ r. ⌜ r ≡ holderFrom (config layout) (now (mem .entry)) entry (index (steps - 1) path) (indexes (steps - 1) path) ⌝ }
 {
-    let mut at = e;
-    let mut left = k - 1;
+    let mut at = entry;
+    let mut left = steps - 1;
     while left > 0 {
-        match table_named(l, at) {
+        match table_named(layout, at) {
             Way::To(f) => {
                 at = pool::entry_at(mem, f, area::index_at(path, left));
             }
@@ -386,28 +386,28 @@ fn holder(mem: &[u64], l: Layout, e: u64, path: u64, k: u64) -> Way
         }
         left -= 1;
     }
-    table_named(l, at)
+    table_named(layout, at)
 }
 
-// The paths that begin with the prefix of the k low indexes of path are dropped.
-pub fn drop_prefix(mem: &mut [u64], l: Layout, p: Pool, path: u64, k: u64) -> Left
-    requires { ⌜ (LayoutFits l) × (p .fresh ≤ l .shadows) × (k ≤ l .levels) ⌝ }
-    ensures { λ r. ⌜ yields r (now (mem .exit)) ≡ dropPrefixOf (config l) p (now (mem .entry)) (indexes k path) ⌝ }
+// The paths that begin with the prefix of the last `steps` indexes of `path` are dropped.
+pub fn drop_prefix(mem: &mut [u64], layout: Layout, pool: Pool, path: u64, steps: u64) -> Left
+    requires { ⌜ (LayoutFits layout) × (pool .fresh ≤ layout .shadows) × (steps ≤ layout .levels) ⌝ }
+    ensures { λ r. ⌜ yields r (now (mem .exit)) ≡ dropPrefixOf (config layout) pool (now (mem .entry)) (indexes steps path) ⌝ }
 {
-    if k == 0 {
+    if steps == 0 {
         return Left {
             pool: pool::no_tables(),
             ok: true,
         };
     }
-    match holder(mem, l, p.top, path, k) {
+    match holder(mem, layout, pool.top, path, steps) {
         Way::To(f) => scan(
             mem,
-            l,
+            layout,
             Cut::Slot(HostPhysical(f), area::index_at(path, 0)),
-            p,
+            pool,
         ),
-        Way::Not => Left { pool: p, ok: true },
-        Way::Damaged => Left { pool: p, ok: false },
+        Way::Not => Left { pool: pool, ok: true },
+        Way::Damaged => Left { pool: pool, ok: false },
     }
 }

@@ -21,12 +21,12 @@ pub struct Space {
 }
 
 // The host walk of a guest frame.
-pub fn host_walk(mem: &[u64], s: Space, g: GuestPhysical) -> HostWalk
-    requires { ⌜ LayoutFits (s .layout) ⌝ }
-    ensures { λ r. ⌜ r ≡ hostWalkOf (config (s .layout)) (s .top) (now (mem .entry)) (g .0) ⌝ }
+pub fn host_walk(mem: &[u64], space: Space, guest: GuestPhysical) -> HostWalk
+    requires { ⌜ LayoutFits (space .layout) ⌝ }
+    ensures { λ r. ⌜ r ≡ hostWalkOf (config (space .layout)) (space .top) (now (mem .entry)) (guest .0) ⌝ }
 {
-    let l = s.layout;
-    layout::leaf_at(mem, l, 0, l.hosts, s.top, g.0, l.levels)
+    let l = space.layout;
+    layout::leaf_at(mem, l, 0, l.hosts, space.top, guest.0, l.levels)
 }
 
 // ---- mapping
@@ -38,25 +38,25 @@ pub struct Change {
 }
 
 // The host tables as an area.
-pub fn tables(l: Layout) -> Area
-    ensures { λ r. ⌜ r ≡ hostArea (config l) ⌝ }
+pub fn tables(layout: Layout) -> Area
+    ensures { λ r. ⌜ r ≡ hostArea (config layout) ⌝ }
 {
     Area {
         base: 0,
-        size: l.hosts,
-        levels: l.levels,
+        size: layout.hosts,
+        levels: layout.levels,
     }
 }
 
 // The entry of a mapped frame.
-fn leaf_word(f: HostPhysical, writable: bool) -> u64
-    requires { ⌜ f .0 < 65536 ⌝ }
-    ensures { λ r. ⌜ r ≡ hostEntry (f .0) writable ⌝ }
+fn leaf_word(frame: HostPhysical, writable: bool) -> u64
+    requires { ⌜ frame .0 < 65536 ⌝ }
+    ensures { λ r. ⌜ r ≡ hostEntry (frame .0) writable ⌝ }
 {
     if writable {
-        f.0 * 4096 + 3
+        frame.0 * 4096 + 3
     } else {
-        f.0 * 4096 + 1
+        frame.0 * 4096 + 1
     }
 }
 
@@ -83,21 +83,21 @@ fn settled(before: Pool, after: Pool, way: Way, none: u64) -> Change
 // A guest frame is mapped, or mapped anew: 8, 9, 10, 11.
 pub fn map(
     mem: &mut [u64],
-    l: Layout,
+    layout: Layout,
     pool: Pool,
-    g: GuestPhysical,
-    f: HostPhysical,
+    guest: GuestPhysical,
+    frame: HostPhysical,
     writable: bool,
 ) -> Change
-    requires { ⌜ (LayoutFits l) × (1 ≤ l .levels) ⌝ }
-    ensures { λ r. ⌜ yields r (now (mem .exit)) ≡ mapOf (config l) pool (now (mem .entry)) (g .0) (f .0) writable ⌝ }
+    requires { ⌜ (LayoutFits layout) × (1 ≤ layout .levels) ⌝ }
+    ensures { λ r. ⌜ yields r (now (mem .exit)) ≡ mapOf (config layout) pool (now (mem .entry)) (guest .0) (frame .0) writable ⌝ }
 {
-    if layout::frame_fits(l, g) {
-        if layout::in_guest_area(l, f.0) {
+    if layout::frame_fits(layout, guest) {
+        if layout::in_guest_area(layout, frame.0) {
             // Host tables stand for no guest tables.
             let none = [0u64; 1];
-            let e = leaf_word(f, writable);
-            let went = area::insert(tables(l), &none[..0], pool, mem, g.0, l.levels, e);
+            let e = leaf_word(frame, writable);
+            let went = area::insert(tables(layout), &none[..0], pool, mem, guest.0, layout.levels, e);
             let way = went.way;
             let after = went.pool;
             settled(pool, after, way, 10)
@@ -116,12 +116,12 @@ pub fn map(
 }
 
 // A guest frame is unmapped, and emptied host tables can be used again: 8, 12, 11.
-pub fn unmap(mem: &mut [u64], l: Layout, pool: Pool, g: GuestPhysical) -> Change
-    requires { ⌜ (LayoutFits l) × (1 ≤ l .levels) ⌝ }
-    ensures { λ r. ⌜ yields r (now (mem .exit)) ≡ unmapOf (config l) pool (now (mem .entry)) (g .0) ⌝ }
+pub fn unmap(mem: &mut [u64], layout: Layout, pool: Pool, guest: GuestPhysical) -> Change
+    requires { ⌜ (LayoutFits layout) × (1 ≤ layout .levels) ⌝ }
+    ensures { λ r. ⌜ yields r (now (mem .exit)) ≡ unmapOf (config layout) pool (now (mem .entry)) (guest .0) ⌝ }
 {
-    if layout::frame_fits(l, g) {
-        let went = prune::remove(tables(l), true, pool, mem, g.0, l.levels);
+    if layout::frame_fits(layout, guest) {
+        let went = prune::remove(tables(layout), true, pool, mem, guest.0, layout.levels);
         let way = went.way;
         let after = went.pool;
         settled(pool, after, way, 12)

@@ -26,36 +26,36 @@ pub enum HostWalk {
 }
 
 // Whether a host frame lies in the guest area.
-pub fn in_guest_area(l: Layout, f: u64) -> bool
-    requires { ⌜ LayoutFits l ⌝ }
-    ensures { λ r. ⌜ r ≡ inGuestArea (config l) f ⌝ }
+pub fn in_guest_area(layout: Layout, frame: u64) -> bool
+    requires { ⌜ LayoutFits layout ⌝ }
+    ensures { λ r. ⌜ r ≡ inGuestArea (config layout) frame ⌝ }
 {
-    if l.hosts + l.shadows <= f {
-        f < l.frames
+    if layout.hosts + layout.shadows <= frame {
+        frame < layout.frames
     } else {
         false
     }
 }
 
 // Whether a number is a guest frame number.
-pub fn frame_fits(l: Layout, g: GuestPhysical) -> bool
-    requires { ⌜ LayoutFits l ⌝ }
-    ensures { λ r. ⌜ r ≡ frameFits (config l) (g .0) ⌝ }
+pub fn frame_fits(layout: Layout, guest: GuestPhysical) -> bool
+    requires { ⌜ LayoutFits layout ⌝ }
+    ensures { λ r. ⌜ r ≡ frameFits (config layout) (guest .0) ⌝ }
 {
-    g.0 >> entry::frame_bits(l.levels) == 0
+    guest.0 >> entry::frame_bits(layout.levels) == 0
 }
 
 // What the entry at the end of a path says.
-fn leaf(l: Layout, e: u64, reads: u64) -> HostWalk
-    requires { ⌜ LayoutFits l ⌝ }
-    ensures { λ r. ⌜ r ≡ leafOf (config l) e reads ⌝ }
+fn leaf(layout: Layout, entry: u64, reads: u64) -> HostWalk
+    requires { ⌜ LayoutFits layout ⌝ }
+    ensures { λ r. ⌜ r ≡ leafOf (config layout) entry reads ⌝ }
 {
-    if entry::present(e) {
-        let f = entry::frame_of(e);
-        if in_guest_area(l, f) {
+    if entry::present(entry) {
+        let f = entry::frame_of(entry);
+        if in_guest_area(layout, f) {
             HostWalk::Found {
                 page: HostPhysical(f),
-                writable: entry::writable(e),
+                writable: entry::writable(entry),
             }
         } else {
             HostWalk::Damaged
@@ -65,21 +65,21 @@ fn leaf(l: Layout, e: u64, reads: u64) -> HostWalk
     }
 }
 
-// What stands at the end of the path of the k low indexes of path, in the tables of the size frames from base on below the entry top.
+// What stands at the end of the path of the last `steps` indexes of `path`, in the tables of the size frames from base on below the entry top.
 pub fn leaf_at(
     mem: &[u64],
-    l: Layout,
+    layout: Layout,
     base: u64,
     size: u64,
     top: u64,
     path: u64,
-    k: u64,
+    steps: u64,
 ) -> HostWalk
-    requires { ⌜ (LayoutFits l) × (k ≤ l .levels) ⌝ }
-    ensures { λ r. ⌜ r ≡ namedBy (config l) (lookOf base size (now (mem .entry)) top (indexes k path) 0) ⌝ }
+    requires { ⌜ (LayoutFits layout) × (steps ≤ layout .levels) ⌝ }
+    ensures { λ r. ⌜ r ≡ namedBy (config layout) (lookOf base size (now (mem .entry)) top (indexes steps path) 0) ⌝ }
 {
-    match area::lookup(base, size, top, mem, path, k) {
-        Look::Seen { entry, reads } => leaf(l, entry, reads),
+    match area::lookup(base, size, top, mem, path, steps) {
+        Look::Seen { entry, reads } => leaf(layout, entry, reads),
         Look::Damaged => HostWalk::Damaged,
     }
 }

@@ -38,110 +38,110 @@ pub struct Went {
 // ---- the words of a table
 
 // An entry of a table.
-pub fn entry_at(mem: &[u64], f: u64, i: u64) -> u64
-    requires { ⌜ (f < frameLimit) × (i < 512) ⌝ }
-    ensures { λ r. ⌜ r ≡ entryIn (now (mem .entry)) f i ⌝ }
+pub fn entry_at(mem: &[u64], frame: u64, index: u64) -> u64
+    requires { ⌜ (frame < frameLimit) × (index < 512) ⌝ }
+    ensures { λ r. ⌜ r ≡ entryIn (now (mem .entry)) frame index ⌝ }
 {
-    words::word_in(mem, f, i) % entry::ENTRY_LIMIT
+    words::word_in(mem, frame, index) % entry::ENTRY_LIMIT
 }
 
 // The header bits of a word.
-fn high(mem: &[u64], f: u64, k: u64) -> u64
-    requires { ⌜ (f < frameLimit) × (k < 512) ⌝ }
-    ensures { λ r. ⌜ r ≡ highOf (now (mem .entry)) f k ⌝ }
+fn high(mem: &[u64], frame: u64, word: u64) -> u64
+    requires { ⌜ (frame < frameLimit) × (word < 512) ⌝ }
+    ensures { λ r. ⌜ r ≡ highOf (now (mem .entry)) frame word ⌝ }
 {
-    words::word_in(mem, f, k) / entry::ENTRY_LIMIT
+    words::word_in(mem, frame, word) / entry::ENTRY_LIMIT
 }
 
 // An entry is set; the header bits stay.
-pub fn put_entry(mem: &mut [u64], f: u64, i: u64, e: u64)
-    requires { ⌜ (f < frameLimit) × (i < 512) ⌝ }
-    ensures { λ r. ⌜ now (mem .exit) ≡ putOf (now (mem .entry)) f i e ⌝ }
+pub fn put_entry(mem: &mut [u64], frame: u64, index: u64, entry: u64)
+    requires { ⌜ (frame < frameLimit) × (index < 512) ⌝ }
+    ensures { λ r. ⌜ now (mem .exit) ≡ putOf (now (mem .entry)) frame index entry ⌝ }
 {
-    let w = words::word_in(mem, f, i);
+    let w = words::word_in(mem, frame, index);
     words::set_in(
         mem,
-        f,
-        i,
-        w / entry::ENTRY_LIMIT * entry::ENTRY_LIMIT + e % entry::ENTRY_LIMIT,
+        frame,
+        index,
+        w / entry::ENTRY_LIMIT * entry::ENTRY_LIMIT + entry % entry::ENTRY_LIMIT,
     );
 }
 
-// A frame number in the high bits of words i and i + 1.
-fn frame_at(mem: &[u64], f: u64, i: u64) -> u64
-    requires { ⌜ (f < frameLimit) × (i < 511) ⌝ }
-    ensures { λ r. ⌜ r ≡ frameAt (now (mem .entry)) f i ⌝ }
+// A frame number in the high bits of the word at an index and of the next.
+fn frame_at(mem: &[u64], frame: u64, index: u64) -> u64
+    requires { ⌜ (frame < frameLimit) × (index < 511) ⌝ }
+    ensures { λ r. ⌜ r ≡ frameAt (now (mem .entry)) frame index ⌝ }
 {
-    let a = high(mem, f, i);
-    let b = high(mem, f, i + 1);
+    let a = high(mem, frame, index);
+    let b = high(mem, frame, index + 1);
     a % 4096 + b % 16 * 4096
 }
 
 // The host frame of the guest table that a table stands for.
-pub fn guest(mem: &[u64], f: u64) -> u64
-    requires { ⌜ f < frameLimit ⌝ }
-    ensures { λ r. ⌜ r ≡ guestOf (now (mem .entry)) f ⌝ }
+pub fn guest(mem: &[u64], frame: u64) -> u64
+    requires { ⌜ frame < frameLimit ⌝ }
+    ensures { λ r. ⌜ r ≡ guestOf (now (mem .entry)) frame ⌝ }
 {
-    frame_at(mem, f, 0)
+    frame_at(mem, frame, 0)
 }
 
 // The level of a table; 0 for a frame that is no table.
-pub fn level(mem: &[u64], f: u64) -> u64
-    requires { ⌜ f < frameLimit ⌝ }
-    ensures { λ r. ⌜ r ≡ levelOf (now (mem .entry)) f ⌝ }
+pub fn level(mem: &[u64], frame: u64) -> u64
+    requires { ⌜ frame < frameLimit ⌝ }
+    ensures { λ r. ⌜ r ≡ levelOf (now (mem .entry)) frame ⌝ }
 {
-    high(mem, f, 1) / 16 % 8
+    high(mem, frame, 1) / 16 % 8
 }
 
 // The frame of the table above.
-pub fn parent(mem: &[u64], f: u64) -> u64
-    requires { ⌜ f < frameLimit ⌝ }
-    ensures { λ r. ⌜ r ≡ parentOf (now (mem .entry)) f ⌝ }
+pub fn parent(mem: &[u64], frame: u64) -> u64
+    requires { ⌜ frame < frameLimit ⌝ }
+    ensures { λ r. ⌜ r ≡ parentOf (now (mem .entry)) frame ⌝ }
 {
-    frame_at(mem, f, 2)
+    frame_at(mem, frame, 2)
 }
 
 // The index of a table's entry in the table above.
-pub fn slot(mem: &[u64], f: u64) -> u64
-    requires { ⌜ f < frameLimit ⌝ }
-    ensures { λ r. ⌜ r ≡ slotOf (now (mem .entry)) f ⌝ }
+pub fn slot(mem: &[u64], frame: u64) -> u64
+    requires { ⌜ frame < frameLimit ⌝ }
+    ensures { λ r. ⌜ r ≡ slotOf (now (mem .entry)) frame ⌝ }
 {
-    high(mem, f, 4) % 512
+    high(mem, frame, 4) % 512
 }
 
 // A header is written into a frame of zeros.
-pub fn write_header(mem: &mut [u64], f: u64, guest: u64, level: u64, parent: u64, slot: u64)
-    requires { ⌜ f < frameLimit ⌝ }
-    ensures { λ r. ⌜ now (mem .exit) ≡ headOf (now (mem .entry)) f guest level parent slot ⌝ }
+pub fn write_header(mem: &mut [u64], frame: u64, guest: u64, level: u64, parent: u64, slot: u64)
+    requires { ⌜ frame < frameLimit ⌝ }
+    ensures { λ r. ⌜ now (mem .exit) ≡ headOf (now (mem .entry)) frame guest level parent slot ⌝ }
 {
-    words::set_in(mem, f, 0, guest % 4096 * entry::ENTRY_LIMIT);
+    words::set_in(mem, frame, 0, guest % 4096 * entry::ENTRY_LIMIT);
     words::set_in(
         mem,
-        f,
+        frame,
         1,
         (guest / 4096 % 16 + level % 8 * 16) * entry::ENTRY_LIMIT,
     );
-    words::set_in(mem, f, 2, parent % 4096 * entry::ENTRY_LIMIT);
-    words::set_in(mem, f, 3, parent / 4096 % 16 * entry::ENTRY_LIMIT);
-    words::set_in(mem, f, 4, slot % 512 * entry::ENTRY_LIMIT);
+    words::set_in(mem, frame, 2, parent % 4096 * entry::ENTRY_LIMIT);
+    words::set_in(mem, frame, 3, parent / 4096 % 16 * entry::ENTRY_LIMIT);
+    words::set_in(mem, frame, 4, slot % 512 * entry::ENTRY_LIMIT);
 }
 
 // Whether a frame lies in an area of frames base to base + size.
-pub fn inside(base: u64, size: u64, f: u64) -> bool
-    ensures { λ r. ⌜ r ≡ insideOf base size f ⌝ }
+pub fn inside(base: u64, size: u64, frame: u64) -> bool
+    ensures { λ r. ⌜ r ≡ insideOf base size frame ⌝ }
 {
-    if f < base { false } else { f - base < size }
+    if frame < base { false } else { frame - base < size }
 }
 
 // Whether a table has no present entry.
-pub fn bare(mem: &[u64], f: u64) -> bool
-    requires { ⌜ f < frameLimit ⌝ }
-    ensures { λ r. ⌜ r ≡ bareOf (now (mem .entry)) f 512 ⌝ }
+pub fn bare(mem: &[u64], frame: u64) -> bool
+    requires { ⌜ frame < frameLimit ⌝ }
+    ensures { λ r. ⌜ r ≡ bareOf (now (mem .entry)) frame 512 ⌝ }
 {
     let mut k: u64 = 512;
     while k > 0 {
         k -= 1;
-        if entry::present(entry_at(mem, f, k)) {
+        if entry::present(entry_at(mem, frame, k)) {
             return false;
         }
     }
@@ -151,11 +151,11 @@ pub fn bare(mem: &[u64], f: u64) -> bool
 // ---- frames handed out and given back
 
 // What an entry says in an area of frames base to base + size.
-pub fn follow(base: u64, size: u64, e: u64) -> Way
-    ensures { λ r. ⌜ r ≡ followOf base size e ⌝ }
+pub fn follow(base: u64, size: u64, entry: u64) -> Way
+    ensures { λ r. ⌜ r ≡ followOf base size entry ⌝ }
 {
-    if entry::present(e) {
-        let f = entry::frame_of(e);
+    if entry::present(entry) {
+        let f = entry::frame_of(entry);
         if inside(base, size, f) {
             Way::To(f)
         } else {
@@ -179,105 +179,105 @@ pub fn no_tables() -> Pool
 }
 
 // The pool with another top table.
-pub fn with_top(mut p: Pool, top: u64) -> Pool
-    ensures { λ r. ⌜ r ≡ withTop p top ⌝ }
+pub fn with_top(mut pool: Pool, top: u64) -> Pool
+    ensures { λ r. ⌜ r ≡ withTop pool top ⌝ }
 {
-    p.top = top;
-    p
+    pool.top = top;
+    pool
 }
 
 // The next frame that was never handed out.
-fn take_fresh(a: Area, p: Pool, mem: &mut [u64]) -> Went
-    requires { ⌜ (a .base + a .size < frameLimit) × (p .used < a .size) ⌝ }
-    ensures { λ r. ⌜ yields r (now (mem .exit)) ≡ freshOf a p (now (mem .entry)) ⌝ }
+fn take_fresh(area: Area, pool: Pool, mem: &mut [u64]) -> Went
+    requires { ⌜ (area .base + area .size < frameLimit) × (pool .used < area .size) ⌝ }
+    ensures { λ r. ⌜ yields r (now (mem .exit)) ≡ freshOf area pool (now (mem .entry)) ⌝ }
 {
-    if p.fresh < a.size {
-        let frame = a.base + p.fresh;
+    if pool.fresh < area.size {
+        let frame = area.base + pool.fresh;
         words::zero_frame(mem, frame);
         Went {
             pool: Pool {
-                fresh: p.fresh + 1,
-                free: p.free,
-                used: p.used + 1,
-                top: p.top,
+                fresh: pool.fresh + 1,
+                free: pool.free,
+                used: pool.used + 1,
+                top: pool.top,
             },
             way: Way::To(frame),
         }
     } else {
         Went {
-            pool: p,
+            pool: pool,
             way: Way::Damaged,
         }
     }
 }
 
 // The first of the freed frames.
-fn take_freed(p: Pool, mem: &mut [u64], f: u64) -> Went
-    requires { ⌜ (f < frameLimit) × (p .used < frameLimit) ⌝ }
-    ensures { λ r. ⌜ yields r (now (mem .exit)) ≡ freedOf p (now (mem .entry)) f ⌝ }
+fn take_freed(pool: Pool, mem: &mut [u64], frame: u64) -> Went
+    requires { ⌜ (frame < frameLimit) × (pool .used < frameLimit) ⌝ }
+    ensures { λ r. ⌜ yields r (now (mem .exit)) ≡ freedOf pool (now (mem .entry)) frame ⌝ }
 {
-    let next = words::word_in(mem, f, 0);
-    words::zero_frame(mem, f);
+    let next = words::word_in(mem, frame, 0);
+    words::zero_frame(mem, frame);
     Went {
         pool: Pool {
-            fresh: p.fresh,
+            fresh: pool.fresh,
             free: next,
-            used: p.used + 1,
-            top: p.top,
+            used: pool.used + 1,
+            top: pool.top,
         },
-        way: Way::To(f),
+        way: Way::To(frame),
     }
 }
 
 // A frame of zeros; Not if all are in use, Damaged if the list of freed frames leads out of the area.
-pub fn take_frame(a: Area, p: Pool, mem: &mut [u64]) -> Went
-    requires { ⌜ a .base + a .size < frameLimit ⌝ }
-    ensures { λ r. ⌜ yields r (now (mem .exit)) ≡ takeOf a p (now (mem .entry)) ⌝ }
+pub fn take_frame(area: Area, pool: Pool, mem: &mut [u64]) -> Went
+    requires { ⌜ area .base + area .size < frameLimit ⌝ }
+    ensures { λ r. ⌜ yields r (now (mem .exit)) ≡ takeOf area pool (now (mem .entry)) ⌝ }
 {
-    if p.used < a.size {
-        match follow(a.base, a.size, p.free) {
-            Way::To(f) => take_freed(p, mem, f),
-            Way::Not => take_fresh(a, p, mem),
+    if pool.used < area.size {
+        match follow(area.base, area.size, pool.free) {
+            Way::To(f) => take_freed(pool, mem, f),
+            Way::Not => take_fresh(area, pool, mem),
             Way::Damaged => Went {
-                pool: p,
+                pool: pool,
                 way: Way::Damaged,
             },
         }
     } else {
         Went {
-            pool: p,
+            pool: pool,
             way: Way::Not,
         }
     }
 }
 
 // The pool after a frame is given back.
-pub fn with_freed(p: Pool, f: u64) -> Pool
-    requires { ⌜ f < frameLimit ⌝ }
-    ensures { λ r. ⌜ r ≡ withFreed p f ⌝ }
+pub fn with_freed(pool: Pool, frame: u64) -> Pool
+    requires { ⌜ frame < frameLimit ⌝ }
+    ensures { λ r. ⌜ r ≡ withFreed pool frame ⌝ }
 {
-    if p.used == 0 {
+    if pool.used == 0 {
         Pool {
-            fresh: p.fresh,
-            free: f * 4096 + 1,
+            fresh: pool.fresh,
+            free: frame * 4096 + 1,
             used: 0,
-            top: p.top,
+            top: pool.top,
         }
     } else {
         Pool {
-            fresh: p.fresh,
-            free: f * 4096 + 1,
-            used: p.used - 1,
-            top: p.top,
+            fresh: pool.fresh,
+            free: frame * 4096 + 1,
+            used: pool.used - 1,
+            top: pool.top,
         }
     }
 }
 
 // A frame given back links to the next freed one, and is no table any more.
-pub fn free_words(mem: &mut [u64], f: u64, next: u64)
-    requires { ⌜ f < frameLimit ⌝ }
-    ensures { λ r. ⌜ now (mem .exit) ≡ freeWords (now (mem .entry)) f next ⌝ }
+pub fn free_words(mem: &mut [u64], frame: u64, next: u64)
+    requires { ⌜ frame < frameLimit ⌝ }
+    ensures { λ r. ⌜ now (mem .exit) ≡ freeWords (now (mem .entry)) frame next ⌝ }
 {
-    words::set_in(mem, f, 0, next);
-    words::set_in(mem, f, 1, 0);
+    words::set_in(mem, frame, 0, next);
+    words::set_in(mem, frame, 1, 0);
 }

@@ -10,69 +10,69 @@ use pool::Way;
 use pool::Went;
 
 // An empty table is taken off the table above and given back; Not if it is not empty.
-fn detach(a: Area, p: Pool, mem: &mut [u64], f: u64) -> Went
-    requires { ⌜ f < frameLimit ⌝ }
-    ensures { λ r. ⌜ yields r (now (mem .exit)) ≡ detachOf a p (now (mem .entry)) f ⌝ }
+fn detach(area: Area, pool: Pool, mem: &mut [u64], frame: u64) -> Went
+    requires { ⌜ frame < frameLimit ⌝ }
+    ensures { λ r. ⌜ yields r (now (mem .exit)) ≡ detachOf area pool (now (mem .entry)) frame ⌝ }
 {
-    if pool::bare(mem, f) {
-        let above = pool::parent(mem, f);
-        if pool::inside(a.base, a.size, above) {
-            let i = pool::slot(mem, f);
+    if pool::bare(mem, frame) {
+        let above = pool::parent(mem, frame);
+        if pool::inside(area.base, area.size, above) {
+            let i = pool::slot(mem, frame);
             pool::put_entry(mem, above, i, 0);
-            pool::free_words(mem, f, p.free);
+            pool::free_words(mem, frame, pool.free);
             Went {
-                pool: pool::with_freed(p, f),
+                pool: pool::with_freed(pool, frame),
                 way: Way::To(above),
             }
         } else {
             Went {
-                pool: p,
+                pool: pool,
                 way: Way::Damaged,
             }
         }
     } else {
         Went {
-            pool: p,
+            pool: pool,
             way: Way::Not,
         }
     }
 }
 
-// The top table f goes too if it is empty, unless it stays.
-fn release_top(stays: bool, p: Pool, mem: &mut [u64], f: u64) -> Went
-    requires { ⌜ f < frameLimit ⌝ }
-    ensures { λ r. ⌜ yields r (now (mem .exit)) ≡ releaseTop stays p (now (mem .entry)) f ⌝ }
+// The top table goes too if it is empty, unless it stays.
+fn release_top(stays: bool, pool: Pool, mem: &mut [u64], frame: u64) -> Went
+    requires { ⌜ frame < frameLimit ⌝ }
+    ensures { λ r. ⌜ yields r (now (mem .exit)) ≡ releaseTop stays pool (now (mem .entry)) frame ⌝ }
 {
     if stays {
         return Went {
-            pool: p,
-            way: Way::To(f),
+            pool: pool,
+            way: Way::To(frame),
         };
     }
-    if pool::bare(mem, f) {
-        pool::free_words(mem, f, p.free);
+    if pool::bare(mem, frame) {
+        pool::free_words(mem, frame, pool.free);
         Went {
-            pool: pool::with_freed(pool::with_top(p, 0), f),
-            way: Way::To(f),
+            pool: pool::with_freed(pool::with_top(pool, 0), frame),
+            way: Way::To(frame),
         }
     } else {
         Went {
-            pool: p,
-            way: Way::To(f),
+            pool: pool,
+            way: Way::To(frame),
         }
     }
 }
 
-// Table f, which has k tables above it, and these are given back as far as they are empty.
-pub fn release(a: Area, stays: bool, p: Pool, mem: &mut [u64], k: u64, f: u64) -> Went
-    requires { ⌜ (f < frameLimit) × (a .base + a .size < frameLimit) ⌝ }
-    ensures { λ r. ⌜ yields r (now (mem .exit)) ≡ releaseOf a stays p (now (mem .entry)) k f ⌝ }
+// The table in that frame, which has `above` tables above it, and these are given back as far as they are empty.
+pub fn release(area: Area, stays: bool, pool: Pool, mem: &mut [u64], above: u64, frame: u64) -> Went
+    requires { ⌜ (frame < frameLimit) × (area .base + area .size < frameLimit) ⌝ }
+    ensures { λ r. ⌜ yields r (now (mem .exit)) ≡ releaseOf area stays pool (now (mem .entry)) above frame ⌝ }
 {
-    let mut cur = p;
-    let mut t = f;
-    let mut links = k;
+    let mut cur = pool;
+    let mut t = frame;
+    let mut links = above;
     while links > 0 {
-        let went = detach(a, cur, mem, t);
+        let went = detach(area, cur, mem, t);
         cur = went.pool;
         let way = went.way;
         match way {
@@ -97,17 +97,17 @@ pub fn release(a: Area, stays: bool, p: Pool, mem: &mut [u64], k: u64, f: u64) -
     release_top(stays, cur, mem, t)
 }
 
-// The table that holds the last entry of the path of the k low indexes of g, on from the entry e.
-fn last_table(base: u64, size: u64, e: u64, mem: &[u64], g: u64, k: u64) -> Way
-    requires { ⌜ (1 ≤ k) × (k ≤ 7) ⌝ }
-    ensures { λ r. ⌜ r ≡ lastOf base size (now (mem .entry)) e (index (k - 1) g) (indexes (k - 1) g) ⌝ }
+// The table that holds the last entry of the path of the last `steps` indexes of `path`, on from the entry given.
+fn last_table(base: u64, size: u64, entry: u64, mem: &[u64], path: u64, steps: u64) -> Way
+    requires { ⌜ (1 ≤ steps) × (steps ≤ 7) ⌝ }
+    ensures { λ r. ⌜ r ≡ lastOf base size (now (mem .entry)) entry (index (steps - 1) path) (indexes (steps - 1) path) ⌝ }
 {
-    let mut at = e;
-    let mut left = k - 1;
+    let mut at = entry;
+    let mut left = steps - 1;
     while left > 0 {
         match pool::follow(base, size, at) {
             Way::To(f) => {
-                at = pool::entry_at(mem, f, area::index_at(g, left));
+                at = pool::entry_at(mem, f, area::index_at(path, left));
             }
             Way::Not => {
                 return Way::Not;
@@ -121,35 +121,35 @@ fn last_table(base: u64, size: u64, e: u64, mem: &[u64], g: u64, k: u64) -> Way
     pool::follow(base, size, at)
 }
 
-// The entry at index i of table f, which has k tables above it, is cleared; Not if there is none.
-fn clear(a: Area, stays: bool, p: Pool, mem: &mut [u64], k: u64, f: u64, i: u64) -> Went
-    requires { ⌜ (f < frameLimit) × (a .base + a .size < frameLimit) × (i < 512) ⌝ }
-    ensures { λ r. ⌜ yields r (now (mem .exit)) ≡ clearOf a stays p (now (mem .entry)) k f i ⌝ }
+// An entry of the table in that frame, which has `above` tables above it, is cleared; Not if there is none.
+fn clear(area: Area, stays: bool, pool: Pool, mem: &mut [u64], above: u64, frame: u64, index: u64) -> Went
+    requires { ⌜ (frame < frameLimit) × (area .base + area .size < frameLimit) × (index < 512) ⌝ }
+    ensures { λ r. ⌜ yields r (now (mem .exit)) ≡ clearOf area stays pool (now (mem .entry)) above frame index ⌝ }
 {
-    if entry::present(pool::entry_at(mem, f, i)) {
-        pool::put_entry(mem, f, i, 0);
-        release(a, stays, p, mem, k, f)
+    if entry::present(pool::entry_at(mem, frame, index)) {
+        pool::put_entry(mem, frame, index, 0);
+        release(area, stays, pool, mem, above, frame)
     } else {
         Went {
-            pool: p,
+            pool: pool,
             way: Way::Not,
         }
     }
 }
 
-// The path of the k low indexes of g is removed; Not if there is none, Damaged if an entry or a link is damaged.
-pub fn remove(a: Area, stays: bool, p: Pool, mem: &mut [u64], g: u64, k: u64) -> Went
-    requires { ⌜ (a .base + a .size < frameLimit) × (1 ≤ k) × (k ≤ 7) ⌝ }
-    ensures { λ r. ⌜ yields r (now (mem .exit)) ≡ removeOf a stays p (now (mem .entry)) (indexes k g) ⌝ }
+// The path of the last `steps` indexes of `path` is removed; Not if there is none, Damaged if an entry or a link is damaged.
+pub fn remove(area: Area, stays: bool, pool: Pool, mem: &mut [u64], path: u64, steps: u64) -> Went
+    requires { ⌜ (area .base + area .size < frameLimit) × (1 ≤ steps) × (steps ≤ 7) ⌝ }
+    ensures { λ r. ⌜ yields r (now (mem .exit)) ≡ removeOf area stays pool (now (mem .entry)) (indexes steps path) ⌝ }
 {
-    match last_table(a.base, a.size, p.top, mem, g, k) {
-        Way::To(f) => clear(a, stays, p, mem, k - 1, f, area::index_at(g, 0)),
+    match last_table(area.base, area.size, pool.top, mem, path, steps) {
+        Way::To(f) => clear(area, stays, pool, mem, steps - 1, f, area::index_at(path, 0)),
         Way::Not => Went {
-            pool: p,
+            pool: pool,
             way: Way::Not,
         },
         Way::Damaged => Went {
-            pool: p,
+            pool: pool,
             way: Way::Damaged,
         },
     }

@@ -27,18 +27,18 @@ pub struct Served {
 // ---- the word
 
 // The word of its page that an address names.
-fn word_of(a: u64) -> u64
-    ensures { λ r. ⌜ (r ≡ wordOf a) × (r < 512) ⌝ }
+fn word_of(address: u64) -> u64
+    ensures { λ r. ⌜ (r ≡ wordOf address) × (r < 512) ⌝ }
 {
-    a % 4096 / 8
+    address % 4096 / 8
 }
 
 // The word of a page that a load at that address yields.
-fn read_word(mem: &[u64], page: HostPhysical, a: u64) -> u64
+fn read_word(mem: &[u64], page: HostPhysical, address: u64) -> u64
     requires { ⌜ page .0 < frameLimit ⌝ }
-    ensures { λ r. ⌜ r ≡ wordIn (now (mem .entry)) (page .0) (wordOf a) ⌝ }
+    ensures { λ r. ⌜ r ≡ wordIn (now (mem .entry)) (page .0) (wordOf address) ⌝ }
 {
-    words::word_in(mem, page.0, word_of(a))
+    words::word_in(mem, page.0, word_of(address))
 }
 
 // What a store to a word leaves; not ok: damaged tables were met, and no guest word is changed.
@@ -48,25 +48,25 @@ pub struct Put {
     pub ok: bool,
 }
 
-// The word of a page that an address names gets v, and the held paths whose shadow part read it are dropped. The drops are
+// The word of a page that an address names gets the value, and the held paths whose shadow part read it are dropped. The drops are
 // found before the word is written, so that damage met on the way has changed no guest word.
-fn put_word(mem: &mut [u64], l: Layout, pool: Pool, page: HostPhysical, a: u64, v: u64) -> Put
-    requires { ⌜ (LayoutFits l) × (pool .fresh ≤ l .shadows) × (page .0 < frameLimit) ⌝ }
-    ensures { λ r. ⌜ yields r (now (mem .exit)) ≡ putOf (config l) (now (mem .entry)) pool (page .0) (wordOf a) v ⌝ }
+fn put_word(mem: &mut [u64], layout: Layout, pool: Pool, page: HostPhysical, address: u64, value: u64) -> Put
+    requires { ⌜ (LayoutFits layout) × (pool .fresh ≤ layout .shadows) × (page .0 < frameLimit) ⌝ }
+    ensures { λ r. ⌜ yields r (now (mem .exit)) ≡ putOf (config layout) (now (mem .entry)) pool (page .0) (wordOf address) value ⌝ }
 {
-    let i = word_of(a);
-    if !shadow::watched(mem, l, pool.fresh, page) {
-        words::set_in(mem, page.0, i, v);
+    let i = word_of(address);
+    if !shadow::watched(mem, layout, pool.fresh, page) {
+        words::set_in(mem, page.0, i, value);
         return Put {
             pool: pool,
             exits: 0,
             ok: true,
         };
     }
-    let left = drops::drop_word(mem, l, pool, page, i);
+    let left = drops::drop_word(mem, layout, pool, page, i);
     let after = left.pool;
     if left.ok {
-        words::set_in(mem, page.0, i, v);
+        words::set_in(mem, page.0, i, value);
         return Put {
             pool: after,
             exits: 1,
@@ -95,24 +95,24 @@ pub fn refused(held: Held, number: u64) -> Served
 // A load: 11.
 pub fn load(
     mem: &mut [u64],
-    s: Space,
+    space: Space,
     root: GuestPhysical,
     held: Held,
-    a: GuestVirtual,
-    d: u64,
+    address: GuestVirtual,
+    depth: u64,
 ) -> Served
-    requires { ⌜ (LayoutFits (s .layout)) × (HeldFits (config (s .layout)) held) ⌝ }
-    ensures { λ r. ⌜ yields r (now (mem .exit)) ≡ loadOf (config (s .layout)) (s .top) (now (mem .entry)) held (root .0) (a .0) d ⌝ }
+    requires { ⌜ (LayoutFits (space .layout)) × (HeldFits (config (space .layout)) held) ⌝ }
+    ensures { λ r. ⌜ yields r (now (mem .exit)) ≡ loadOf (config (space .layout)) (space .top) (now (mem .entry)) held (root .0) (address .0) depth ⌝ }
 {
     let t = translate::translate(
         mem,
-        s,
+        space,
         root,
         held,
         Request {
             store: false,
-            address: a,
-            depth: d,
+            address: address,
+            depth: depth,
         },
     );
     let walked = t.walked;
@@ -125,7 +125,7 @@ pub fn load(
         } => Served {
             held: after,
             answer: Answer::Value {
-                word: read_word(mem, page, a.0),
+                word: read_word(mem, page, address.0),
                 references: reads,
                 exits: t.exits,
             },
@@ -145,19 +145,19 @@ pub fn load(
 // A store that was granted: the word is written, after so many references and exits; before: what was held when it came.
 fn written(
     mem: &mut [u64],
-    l: Layout,
+    layout: Layout,
     before: Held,
     held: Held,
     page: HostPhysical,
-    a: u64,
-    v: u64,
+    address: u64,
+    value: u64,
     references: u64,
     exits: u64,
 ) -> Served
-    requires { ⌜ (LayoutFits l) × (held .pool .fresh ≤ l .shadows) × (page .0 < frameLimit) × (exits ≤ 65536) ⌝ }
-    ensures { λ r. ⌜ yields r (now (mem .exit)) ≡ writtenBy before held references exits (putOf (config l) (now (mem .entry)) (held .pool) (page .0) (wordOf a) v) ⌝ }
+    requires { ⌜ (LayoutFits layout) × (held .pool .fresh ≤ layout .shadows) × (page .0 < frameLimit) × (exits ≤ 65536) ⌝ }
+    ensures { λ r. ⌜ yields r (now (mem .exit)) ≡ writtenBy before held references exits (putOf (config layout) (now (mem .entry)) (held .pool) (page .0) (wordOf address) value) ⌝ }
 {
-    let put = put_word(mem, l, held.pool, page, a, v);
+    let put = put_word(mem, layout, held.pool, page, address, value);
     let pool = put.pool;
     let frame = held.frame;
     if put.ok {
@@ -178,25 +178,25 @@ fn written(
 // A store; the paths whose shadow part read the word are dropped: 11.
 pub fn store(
     mem: &mut [u64],
-    s: Space,
+    space: Space,
     root: GuestPhysical,
     held: Held,
-    a: GuestVirtual,
-    d: u64,
-    v: u64,
+    address: GuestVirtual,
+    depth: u64,
+    value: u64,
 ) -> Served
-    requires { ⌜ (LayoutFits (s .layout)) × (HeldFits (config (s .layout)) held) ⌝ }
-    ensures { λ r. ⌜ yields r (now (mem .exit)) ≡ storeOf (config (s .layout)) (s .top) (now (mem .entry)) held (root .0) (a .0) d v ⌝ }
+    requires { ⌜ (LayoutFits (space .layout)) × (HeldFits (config (space .layout)) held) ⌝ }
+    ensures { λ r. ⌜ yields r (now (mem .exit)) ≡ storeOf (config (space .layout)) (space .top) (now (mem .entry)) held (root .0) (address .0) depth value ⌝ }
 {
     let t = translate::translate(
         mem,
-        s,
+        space,
         root,
         held,
         Request {
             store: true,
-            address: a,
-            depth: d,
+            address: address,
+            depth: depth,
         },
     );
     let walked = t.walked;
@@ -206,7 +206,7 @@ pub fn store(
             page,
             writable,
             reads,
-        } => written(mem, s.layout, held, after, page, a.0, v, reads, t.exits),
+        } => written(mem, space.layout, held, after, page, address.0, value, reads, t.exits),
         Walked::Faulted { fault, reads } => Served {
             held: after,
             answer: Answer::Faulted {
@@ -220,17 +220,17 @@ pub fn store(
 }
 
 // A device's store at a guest-physical address: its host walk, then the word as for a store: 11.
-pub fn device_store(mem: &mut [u64], s: Space, held: Held, a: u64, v: u64) -> Served
-    requires { ⌜ (LayoutFits (s .layout)) × (held .pool .fresh ≤ s .layout .shadows) ⌝ }
-    ensures { λ r. ⌜ yields r (now (mem .exit)) ≡ deviceOf (config (s .layout)) (s .top) (now (mem .entry)) held a v ⌝ }
+pub fn device_store(mem: &mut [u64], space: Space, held: Held, address: u64, value: u64) -> Served
+    requires { ⌜ (LayoutFits (space .layout)) × (held .pool .fresh ≤ space .layout .shadows) ⌝ }
+    ensures { λ r. ⌜ yields r (now (mem .exit)) ≡ deviceOf (config (space .layout)) (space .top) (now (mem .entry)) held address value ⌝ }
 {
-    let walked = walk::to_page(mem, s, true, GuestPhysical(a / 4096), true, 0);
+    let walked = walk::to_page(mem, space, true, GuestPhysical(address / 4096), true, 0);
     match walked {
         Walked::Arrived {
             page,
             writable,
             reads,
-        } => written(mem, s.layout, held, held, page, a, v, reads, 0),
+        } => written(mem, space.layout, held, held, page, address, value, reads, 0),
         Walked::Faulted { fault, reads } => Served {
             held: held,
             answer: Answer::Faulted {

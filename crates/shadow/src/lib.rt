@@ -19,22 +19,22 @@ ghost use Rattle.words.specs.After.{yields};
 // ---- held paths
 
 // The area of the shadow tables.
-pub fn shadow_area(l: Layout) -> Area
-    ensures { λ r. ⌜ r ≡ shadowArea (config l) ⌝ }
+pub fn shadow_area(layout: Layout) -> Area
+    ensures { λ r. ⌜ r ≡ shadowArea (config layout) ⌝ }
 {
     Area {
-        base: l.hosts,
-        size: l.shadows,
-        levels: l.levels,
+        base: layout.hosts,
+        size: layout.shadows,
+        levels: layout.levels,
     }
 }
 
-// What stands at the end of the path of the k low indexes of path.
-pub fn held(mem: &[u64], l: Layout, top: u64, path: u64, k: u64) -> HostWalk
-    requires { ⌜ (LayoutFits l) × (k ≤ l .levels) ⌝ }
-    ensures { λ r. ⌜ r ≡ heldOf (config l) (now (mem .entry)) top (indexes k path) ⌝ }
+// What stands at the end of the path of the last `steps` indexes of `path`.
+pub fn held(mem: &[u64], layout: Layout, top: u64, path: u64, steps: u64) -> HostWalk
+    requires { ⌜ (LayoutFits layout) × (steps ≤ layout .levels) ⌝ }
+    ensures { λ r. ⌜ r ≡ heldOf (config layout) (now (mem .entry)) top (indexes steps path) ⌝ }
 {
-    layout::leaf_at(mem, l, l.hosts, l.shadows, top, path, k)
+    layout::leaf_at(mem, layout, layout.hosts, layout.shadows, top, path, steps)
 }
 
 // A bit of an entry, by its value.
@@ -54,53 +54,53 @@ pub fn entry_for(frame: HostPhysical, switch: bool, writable: bool) -> u64
 
 // ---- fill
 
-// The path of the k low indexes of path gets its entry, with the tables that it lacks; where they find no room, everything is
+// The path of the last `steps` indexes of `path` gets its entry, with the tables that it lacks; where they find no room, everything is
 // dropped first. guests: the host frames of the guest tables that its tables stand for, the top one's first.
 pub fn fill(
     mem: &mut [u64],
-    l: Layout,
-    p: Pool,
+    layout: Layout,
+    pool: Pool,
     guests: &[u64; 8],
     path: u64,
-    k: u64,
-    e: u64,
+    steps: u64,
+    entry: u64,
 ) -> Went
-    requires { ⌜ (LayoutFits l) × (1 ≤ k) × (k ≤ l .levels) ⌝ }
-    ensures { λ r. ⌜ yields r (now (mem .exit)) ≡ fillOf (config l) (now (guests .entry)) p (now (mem .entry)) (indexes k path) e ⌝ }
+    requires { ⌜ (LayoutFits layout) × (1 ≤ steps) × (steps ≤ layout .levels) ⌝ }
+    ensures { λ r. ⌜ yields r (now (mem .exit)) ≡ fillOf (config layout) (now (guests .entry)) pool (now (mem .entry)) (indexes steps path) entry ⌝ }
 {
-    let a = shadow_area(l);
-    let went = area::insert(a, guests, p, mem, path, k, e);
+    let a = shadow_area(layout);
+    let went = area::insert(a, guests, pool, mem, path, steps, entry);
     let way = went.way;
     match way {
         Way::To(f) => went,
-        Way::Not => area::insert(a, guests, pool::no_tables(), mem, path, k, e),
+        Way::Not => area::insert(a, guests, pool::no_tables(), mem, path, steps, entry),
         Way::Damaged => went,
     }
 }
 
 // ---- watched frames
 
-// Whether frame f is a table that stands for a guest table in host frame t.
-fn watches(mem: &[u64], f: u64, t: u64) -> bool
-    requires { ⌜ f < frameLimit ⌝ }
-    ensures { λ r. ⌜ r ≡ watchesOf (now (mem .entry)) f t ⌝ }
+// Whether the frame is a table that stands for a guest table in that host frame.
+fn watches(mem: &[u64], frame: u64, table: u64) -> bool
+    requires { ⌜ frame < frameLimit ⌝ }
+    ensures { λ r. ⌜ r ≡ watchesOf (now (mem .entry)) frame table ⌝ }
 {
-    if pool::level(mem, f) == 0 {
+    if pool::level(mem, frame) == 0 {
         false
     } else {
-        pool::guest(mem, f) == t
+        pool::guest(mem, frame) == table
     }
 }
 
 // Whether some table in use stands for a guest table in that host frame.
-pub fn watched(mem: &[u64], l: Layout, fresh: u64, frame: HostPhysical) -> bool
-    requires { ⌜ (LayoutFits l) × (fresh ≤ l .shadows) ⌝ }
-    ensures { λ r. ⌜ r ≡ watchedOf (config l) (now (mem .entry)) fresh (frame .0) ⌝ }
+pub fn watched(mem: &[u64], layout: Layout, fresh: u64, frame: HostPhysical) -> bool
+    requires { ⌜ (LayoutFits layout) × (fresh ≤ layout .shadows) ⌝ }
+    ensures { λ r. ⌜ r ≡ watchedOf (config layout) (now (mem .entry)) fresh (frame .0) ⌝ }
 {
     let mut k = fresh;
     while k > 0 {
         k -= 1;
-        if watches(mem, l.hosts + k, frame.0) {
+        if watches(mem, layout.hosts + k, frame.0) {
             return true;
         }
     }

@@ -61,27 +61,27 @@ pub fn exit_of(walked: Walked) -> u64
 }
 
 // The walk on from the guest table of the request's depth, or from its page at depth 0.
-fn direct(mem: &[u64], s: Space, q: Request, page: HostPhysical, writable: bool) -> Walked
-    requires { ⌜ (LayoutFits (s .layout)) × (q .depth ≤ s .layout .levels) × (page .0 < frameLimit) ⌝ }
-    ensures { λ r. ⌜ r ≡ directOf (config (s .layout)) (s .top) (now (mem .entry)) (q .store) (q .address .0) (q .depth) (page .0) writable ⌝ }
+fn direct(mem: &[u64], space: Space, request: Request, page: HostPhysical, writable: bool) -> Walked
+    requires { ⌜ (LayoutFits (space .layout)) × (request .depth ≤ space .layout .levels) × (page .0 < frameLimit) ⌝ }
+    ensures { λ r. ⌜ r ≡ directOf (config (space .layout)) (space .top) (now (mem .entry)) (request .store) (request .address .0) (request .depth) (page .0) writable ⌝ }
 {
-    if q.depth == 0 {
+    if request.depth == 0 {
         return Walked::Arrived {
             page: page,
             writable: writable,
-            reads: s.layout.levels,
+            reads: space.layout.levels,
         };
     }
     let trail = walk::walk_tables(
         mem,
-        s,
-        q.store,
-        q.address.page(),
-        q.depth,
+        space,
+        request.store,
+        request.address.page(),
+        request.depth,
         0,
         page,
         writable,
-        s.layout.levels - q.depth,
+        space.layout.levels - request.depth,
     );
     trail.walked
 }
@@ -89,17 +89,17 @@ fn direct(mem: &[u64], s: Space, q: Request, page: HostPhysical, writable: bool)
 // Through a path that is held or was just filled, after some exits.
 fn serve(
     mem: &[u64],
-    s: Space,
+    space: Space,
     held: Held,
-    q: Request,
+    request: Request,
     page: HostPhysical,
     writable: bool,
     exits: u64,
 ) -> Translated
-    requires { ⌜ (LayoutFits (s .layout)) × (q .depth ≤ s .layout .levels) × (page .0 < frameLimit) × (exits ≤ 65536) ⌝ }
-    ensures { λ r. ⌜ r ≡ servedOf (config (s .layout)) (s .top) (now (mem .entry)) held (q .store) (q .address .0) (q .depth) (page .0) writable exits ⌝ }
+    requires { ⌜ (LayoutFits (space .layout)) × (request .depth ≤ space .layout .levels) × (page .0 < frameLimit) × (exits ≤ 65536) ⌝ }
+    ensures { λ r. ⌜ r ≡ servedOf (config (space .layout)) (space .top) (now (mem .entry)) held (request .store) (request .address .0) (request .depth) (page .0) writable exits ⌝ }
 {
-    let walked = direct(mem, s, q, page, writable);
+    let walked = direct(mem, space, request, page, writable);
     Translated {
         held: held,
         exits: exits + exit_of(walked),
@@ -110,31 +110,31 @@ fn serve(
 // ---- held paths
 
 // Whether a held path with this writable bit serves the request.
-fn serves(store: bool, d: u64, writable: bool) -> bool
-    ensures { λ r. ⌜ r ≡ servesOf store d writable ⌝ }
+fn serves(store: bool, depth: u64, writable: bool) -> bool
+    ensures { λ r. ⌜ r ≡ servesOf store depth writable ⌝ }
 {
-    if d == 0 {
+    if depth == 0 {
         walk::granted(store, writable)
     } else {
         true
     }
 }
 
-// The page number of an address without its d lowest indexes.
-fn path_of(a: GuestVirtual, d: u64) -> u64
-    requires { ⌜ d ≤ 7 ⌝ }
-    ensures { λ r. ⌜ r ≡ pathOf d (a .0) ⌝ }
+// The page number of an address without its lowest indexes, as many as the depth.
+fn path_of(address: GuestVirtual, depth: u64) -> u64
+    requires { ⌜ depth ≤ 7 ⌝ }
+    ensures { λ r. ⌜ r ≡ pathOf depth (address .0) ⌝ }
 {
-    a.page() >> (9 * d)
+    address.page() >> (9 * depth)
 }
 
-// The path held at depth d: a shadow entry, or at the depth of all levels the frame in the record.
-fn found(mem: &[u64], l: Layout, held: Held, a: GuestVirtual, d: u64) -> HostWalk
-    requires { ⌜ LayoutFits l ⌝ }
-    ensures { λ r. ⌜ r ≡ foundOf (config l) (now (mem .entry)) held (a .0) d ⌝ }
+// The path held at that depth: a shadow entry, or at the depth of all levels the frame in the record.
+fn found(mem: &[u64], layout: Layout, held: Held, address: GuestVirtual, depth: u64) -> HostWalk
+    requires { ⌜ LayoutFits layout ⌝ }
+    ensures { λ r. ⌜ r ≡ foundOf (config layout) (now (mem .entry)) held (address .0) depth ⌝ }
 {
-    if d < l.levels {
-        return shadow::held(mem, l, held.pool.top, path_of(a, d), l.levels - d);
+    if depth < layout.levels {
+        return shadow::held(mem, layout, held.pool.top, path_of(address, depth), layout.levels - depth);
     }
     if held.frame.0 == 0 {
         return HostWalk::Absent { reads: 0 };
@@ -160,47 +160,47 @@ fn damaged(held: Held) -> Translated
 // The path is filled, and the request served through it; guests: the host frames of the guest tables on its way.
 fn filled(
     mem: &mut [u64],
-    s: Space,
+    space: Space,
     held: Held,
     guests: &[u64; 8],
-    q: Request,
+    request: Request,
     page: HostPhysical,
     writable: bool,
 ) -> Translated
-    requires { ⌜ (LayoutFits (s .layout)) × (q .depth ≤ s .layout .levels) × (page .0 < frameLimit) ⌝ }
-    ensures { λ r. ⌜ yields r (now (mem .exit)) ≡ filledOf (config (s .layout)) (s .top) (now (mem .entry)) held (now (guests .entry)) (q .store) (q .address .0) (q .depth) (page .0) writable ⌝ }
+    requires { ⌜ (LayoutFits (space .layout)) × (request .depth ≤ space .layout .levels) × (page .0 < frameLimit) ⌝ }
+    ensures { λ r. ⌜ yields r (now (mem .exit)) ≡ filledOf (config (space .layout)) (space .top) (now (mem .entry)) held (now (guests .entry)) (request .store) (request .address .0) (request .depth) (page .0) writable ⌝ }
 {
-    let l = s.layout;
+    let l = space.layout;
     let pool = held.pool;
     let frame = held.frame;
-    if l.levels <= q.depth {
+    if l.levels <= request.depth {
         return serve(
             mem,
-            s,
+            space,
             Held {
                 pool: pool,
                 frame: page,
             },
-            q,
+            request,
             page,
             writable,
             1,
         );
     }
-    let e = shadow::entry_for(page, 0 < q.depth, writable);
-    let path = path_of(q.address, q.depth);
-    let went = shadow::fill(mem, l, pool, guests, path, l.levels - q.depth, e);
+    let e = shadow::entry_for(page, 0 < request.depth, writable);
+    let path = path_of(request.address, request.depth);
+    let went = shadow::fill(mem, l, pool, guests, path, l.levels - request.depth, e);
     let way = went.way;
     let after = went.pool;
     match way {
         Way::To(f) => serve(
             mem,
-            s,
+            space,
             Held {
                 pool: after,
                 frame: frame,
             },
-            q,
+            request,
             page,
             writable,
             1,
@@ -211,19 +211,19 @@ fn filled(
 }
 
 // The path does not serve: its shadow part is walked, and filled where it arrives.
-fn missed(mem: &mut [u64], s: Space, root: GuestPhysical, held: Held, q: Request) -> Translated
-    requires { ⌜ (LayoutFits (s .layout)) × (q .depth ≤ s .layout .levels) ⌝ }
-    ensures { λ r. ⌜ yields r (now (mem .exit)) ≡ missedOf (config (s .layout)) (s .top) (now (mem .entry)) held (root .0) (q .store) (q .address .0) (q .depth) ⌝ }
+fn missed(mem: &mut [u64], space: Space, root: GuestPhysical, held: Held, request: Request) -> Translated
+    requires { ⌜ (LayoutFits (space .layout)) × (request .depth ≤ space .layout .levels) ⌝ }
+    ensures { λ r. ⌜ yields r (now (mem .exit)) ≡ missedOf (config (space .layout)) (space .top) (now (mem .entry)) held (root .0) (request .store) (request .address .0) (request .depth) ⌝ }
 {
-    let path = path_of(q.address, q.depth);
+    let path = path_of(request.address, request.depth);
     let trail = walk::walk_root(
         mem,
-        s,
-        q.store,
+        space,
+        request.store,
         root,
         path,
-        s.layout.levels - q.depth,
-        q.depth,
+        space.layout.levels - request.depth,
+        request.depth,
     );
     let walked = trail.walked;
     match walked {
@@ -231,7 +231,7 @@ fn missed(mem: &mut [u64], s: Space, root: GuestPhysical, held: Held, q: Request
             page,
             writable,
             reads,
-        } => filled(mem, s, held, &trail.tables, q, page, writable),
+        } => filled(mem, space, held, &trail.tables, request, page, writable),
         Walked::Faulted { fault, reads } => Translated {
             held: held,
             exits: 1,
@@ -246,16 +246,16 @@ fn missed(mem: &mut [u64], s: Space, root: GuestPhysical, held: Held, q: Request
 // Where nothing is shadowed: the whole plain walk.
 fn plain(
     mem: &[u64],
-    s: Space,
+    space: Space,
     root: GuestPhysical,
     held: Held,
     store: bool,
-    a: GuestVirtual,
+    address: GuestVirtual,
 ) -> Translated
-    requires { ⌜ LayoutFits (s .layout) ⌝ }
-    ensures { λ r. ⌜ r ≡ plainOf (config (s .layout)) (s .top) (now (mem .entry)) held (root .0) store (a .0) ⌝ }
+    requires { ⌜ LayoutFits (space .layout) ⌝ }
+    ensures { λ r. ⌜ r ≡ plainOf (config (space .layout)) (space .top) (now (mem .entry)) held (root .0) store (address .0) ⌝ }
 {
-    let trail = walk::walk_root(mem, s, store, root, a.page(), s.layout.levels, 0);
+    let trail = walk::walk_root(mem, space, store, root, address.page(), space.layout.levels, 0);
     let walked = trail.walked;
     Translated {
         held: held,
@@ -267,25 +267,25 @@ fn plain(
 // A request's translation.
 pub fn translate(
     mem: &mut [u64],
-    s: Space,
+    space: Space,
     root: GuestPhysical,
     held: Held,
-    q: Request,
+    request: Request,
 ) -> Translated
-    requires { ⌜ (LayoutFits (s .layout)) × (held .frame .0 < frameLimit) ⌝ }
-    ensures { λ r. ⌜ yields r (now (mem .exit)) ≡ translateOf (config (s .layout)) (s .top) (now (mem .entry)) held (root .0) (q .store) (q .address .0) (q .depth) ⌝ }
+    requires { ⌜ (LayoutFits (space .layout)) × (held .frame .0 < frameLimit) ⌝ }
+    ensures { λ r. ⌜ yields r (now (mem .exit)) ≡ translateOf (config (space .layout)) (space .top) (now (mem .entry)) held (root .0) (request .store) (request .address .0) (request .depth) ⌝ }
 {
-    if s.layout.levels < q.depth {
-        return plain(mem, s, root, held, q.store, q.address);
+    if space.layout.levels < request.depth {
+        return plain(mem, space, root, held, request.store, request.address);
     }
-    match found(mem, s.layout, held, q.address, q.depth) {
+    match found(mem, space.layout, held, request.address, request.depth) {
         HostWalk::Found { page, writable } => {
-            if serves(q.store, q.depth, writable) {
-                return serve(mem, s, held, q, page, writable, 0);
+            if serves(request.store, request.depth, writable) {
+                return serve(mem, space, held, request, page, writable, 0);
             }
-            missed(mem, s, root, held, q)
+            missed(mem, space, root, held, request)
         }
-        HostWalk::Absent { reads } => missed(mem, s, root, held, q),
+        HostWalk::Absent { reads } => missed(mem, space, root, held, request),
         HostWalk::Damaged => damaged(held),
     }
 }

@@ -42,11 +42,11 @@ fn served(unit: Record, s: Served) -> Reply
 }
 
 // The reply of a call that may have changed the whole head.
-fn turned(unit: Record, t: Turn) -> Reply
-    ensures { λ r. ⌜ r ≡ turnReply unit t ⌝ }
+fn turned(unit: Record, turn: Turn) -> Reply
+    ensures { λ r. ⌜ r ≡ turnReply unit turn ⌝ }
 {
-    let head = t.head;
-    let answer = t.answer;
+    let head = turn.head;
+    let answer = turn.answer;
     Reply {
         unit: unit.with_head(head),
         answer: answer,
@@ -78,45 +78,45 @@ pub fn open(mem: &mut [u64], hosts: u64, shadows: u64) -> Reply
     }
 }
 
-pub fn load(unit: Record, mem: &mut [u64], a: u64) -> Reply
-    ensures { λ r. ⌜ Promises r (now (mem .exit)) (loadCall unit (now (mem .entry)) a) ⌝ }
+pub fn load(unit: Record, mem: &mut [u64], address: u64) -> Reply
+    ensures { λ r. ⌜ Promises r (now (mem .exit)) (loadCall unit (now (mem .entry)) address) ⌝ }
 {
-    let s = calls::load_at(unit.head(), &unit.guest.marks.place, mem, a);
+    let s = calls::load_at(unit.head(), &unit.guest.marks.place, mem, address);
     served(unit, s)
 }
 
-pub fn store(unit: Record, mem: &mut [u64], a: u64, v: u64) -> Reply
-    ensures { λ r. ⌜ Promises r (now (mem .exit)) (storeCall unit (now (mem .entry)) a v) ⌝ }
+pub fn store(unit: Record, mem: &mut [u64], address: u64, value: u64) -> Reply
+    ensures { λ r. ⌜ Promises r (now (mem .exit)) (storeCall unit (now (mem .entry)) address value) ⌝ }
 {
-    let s = calls::store_at(unit.head(), &unit.guest.marks.place, mem, a, v);
+    let s = calls::store_at(unit.head(), &unit.guest.marks.place, mem, address, value);
     served(unit, s)
 }
 
-pub fn device_store(unit: Record, mem: &mut [u64], a: u64, v: u64) -> Reply
-    ensures { λ r. ⌜ Promises r (now (mem .exit)) (deviceCall unit (now (mem .entry)) a v) ⌝ }
+pub fn device_store(unit: Record, mem: &mut [u64], address: u64, value: u64) -> Reply
+    ensures { λ r. ⌜ Promises r (now (mem .exit)) (deviceCall unit (now (mem .entry)) address value) ⌝ }
 {
-    let s = calls::device_store_at(unit.head(), &unit.guest.marks.place, mem, a, v);
+    let s = calls::device_store_at(unit.head(), &unit.guest.marks.place, mem, address, value);
     served(unit, s)
 }
 
-pub fn load_root(unit: Record, mem: &mut [u64], g: u64) -> Reply
-    ensures { λ r. ⌜ Promises r (now (mem .exit)) (rootCall unit (now (mem .entry)) g) ⌝ }
+pub fn load_root(unit: Record, mem: &mut [u64], guest: u64) -> Reply
+    ensures { λ r. ⌜ Promises r (now (mem .exit)) (rootCall unit (now (mem .entry)) guest) ⌝ }
 {
-    let t = calls::root_at(unit.head(), &unit.guest.marks.place, mem, g);
+    let t = calls::root_at(unit.head(), &unit.guest.marks.place, mem, guest);
     turned(unit, t)
 }
 
-pub fn map(unit: Record, mem: &mut [u64], g: u64, f: u64, writable: bool) -> Reply
-    ensures { λ r. ⌜ Promises r (now (mem .exit)) (mapCall unit (now (mem .entry)) g f writable) ⌝ }
+pub fn map(unit: Record, mem: &mut [u64], guest: u64, frame: u64, writable: bool) -> Reply
+    ensures { λ r. ⌜ Promises r (now (mem .exit)) (mapCall unit (now (mem .entry)) guest frame writable) ⌝ }
 {
-    let t = calls::map_at(unit.head(), &unit.guest.marks.place, mem, g, f, writable);
+    let t = calls::map_at(unit.head(), &unit.guest.marks.place, mem, guest, frame, writable);
     turned(unit, t)
 }
 
-pub fn unmap(unit: Record, mem: &mut [u64], g: u64) -> Reply
-    ensures { λ r. ⌜ Promises r (now (mem .exit)) (unmapCall unit (now (mem .entry)) g) ⌝ }
+pub fn unmap(unit: Record, mem: &mut [u64], guest: u64) -> Reply
+    ensures { λ r. ⌜ Promises r (now (mem .exit)) (unmapCall unit (now (mem .entry)) guest) ⌝ }
 {
-    let t = calls::unmap_at(unit.head(), &unit.guest.marks.place, mem, g);
+    let t = calls::unmap_at(unit.head(), &unit.guest.marks.place, mem, guest);
     turned(unit, t)
 }
 
@@ -143,13 +143,13 @@ fn with_marks(unit: Record, marks: Marks, held: Held) -> Record
 
 // The record gets these marks, and the paths that begin with the prefix of the mark of that level are dropped. The mark keeps
 // as many indexes as tables stand above one of its level.
-fn marked(unit: Record, mem: &mut [u64], a: GuestVirtual, level: u64, marks: Marks) -> Reply
+fn marked(unit: Record, mem: &mut [u64], address: GuestVirtual, level: u64, marks: Marks) -> Reply
     requires { ⌜ (Sound unit) × (level < 8) ⌝ }
-    ensures { λ r. ⌜ yields r (now (mem .exit)) ≡ markedOf unit (now (mem .entry)) (a .0) level marks ⌝ }
+    ensures { λ r. ⌜ yields r (now (mem .exit)) ≡ markedOf unit (now (mem .entry)) (address .0) level marks ⌝ }
 {
     let l = unit.layout;
     let kept = drops::links(l.levels, level);
-    let left = drops::drop_prefix(mem, l, unit.pools.shadow, a.page() >> (9 * level), kept);
+    let left = drops::drop_prefix(mem, l, unit.pools.shadow, address.page() >> (9 * level), kept);
     let pool = left.pool;
     if !left.ok {
         return refused(unit, 11);
@@ -200,10 +200,10 @@ fn marks_after(marks: Marks, key: u64, setting: bool) -> Marks
 }
 
 // A mark is set, or one is cleared.
-fn mark_call(unit: Record, mem: &mut [u64], a: u64, level: u64, setting: bool) -> Reply
-    ensures { λ r. ⌜ yields r (now (mem .exit)) ≡ markCall setting unit (now (mem .entry)) a level ⌝ }
+fn mark_call(unit: Record, mem: &mut [u64], address: u64, level: u64, setting: bool) -> Reply
+    ensures { λ r. ⌜ yields r (now (mem .exit)) ≡ markCall setting unit (now (mem .entry)) address level ⌝ }
 {
-    let at = GuestVirtual(a);
+    let at = GuestVirtual(address);
     if !unit.fits(mem.len()) {
         return refused(unit, 3);
     }
@@ -218,15 +218,15 @@ fn mark_call(unit: Record, mem: &mut [u64], a: u64, level: u64, setting: bool) -
 }
 
 // Sets a mark: 3, 4, 5, 6, 7, 11.
-pub fn set_mark(unit: Record, mem: &mut [u64], a: u64, level: u64) -> Reply
-    ensures { λ r. ⌜ Promises r (now (mem .exit)) (setMarkCall unit (now (mem .entry)) a level) ⌝ }
+pub fn set_mark(unit: Record, mem: &mut [u64], address: u64, level: u64) -> Reply
+    ensures { λ r. ⌜ Promises r (now (mem .exit)) (setMarkCall unit (now (mem .entry)) address level) ⌝ }
 {
-    mark_call(unit, mem, a, level, true)
+    mark_call(unit, mem, address, level, true)
 }
 
 // Clears a mark: 3, 4, 5, 6, 11.
-pub fn clear_mark(unit: Record, mem: &mut [u64], a: u64, level: u64) -> Reply
-    ensures { λ r. ⌜ Promises r (now (mem .exit)) (clearMarkCall unit (now (mem .entry)) a level) ⌝ }
+pub fn clear_mark(unit: Record, mem: &mut [u64], address: u64, level: u64) -> Reply
+    ensures { λ r. ⌜ Promises r (now (mem .exit)) (clearMarkCall unit (now (mem .entry)) address level) ⌝ }
 {
-    mark_call(unit, mem, a, level, false)
+    mark_call(unit, mem, address, level, false)
 }

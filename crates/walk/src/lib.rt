@@ -41,19 +41,19 @@ fn both(a: bool, b: bool) -> bool
     if a { b } else { false }
 }
 
-// On to the guest table in frame g. Reading a table needs no write right.
-fn to_table(mem: &[u64], s: Space, g: GuestPhysical, right: bool, read: u64) -> Walked
-    requires { ⌜ (LayoutFits (s .layout)) × (read ≤ 65536) ⌝ }
-    ensures { λ r. ⌜ r ≡ walkedOf (config (s .layout)) (s .top) (now (mem .entry)) read (next false false (g .0) right) ⌝ }
+// On to the guest table in a guest frame. Reading a table needs no write right.
+fn to_table(mem: &[u64], space: Space, guest: GuestPhysical, right: bool, read: u64) -> Walked
+    requires { ⌜ (LayoutFits (space .layout)) × (read ≤ 65536) ⌝ }
+    ensures { λ r. ⌜ r ≡ walkedOf (config (space .layout)) (space .top) (now (mem .entry)) read (next false false (guest .0) right) ⌝ }
 {
-    match host::host_walk(mem, s, g) {
+    match host::host_walk(mem, space, guest) {
         HostWalk::Found { page, writable } => Walked::Arrived {
             page: page,
             writable: right,
-            reads: read + s.layout.levels,
+            reads: read + space.layout.levels,
         },
         HostWalk::Absent { reads } => Walked::Faulted {
-            fault: Fault::HostAbsent(g.0),
+            fault: Fault::HostAbsent(guest.0),
             reads: read + reads,
         },
         HostWalk::Damaged => Walked::Damaged,
@@ -63,13 +63,13 @@ fn to_table(mem: &[u64], s: Space, g: GuestPhysical, right: bool, read: u64) -> 
 // The page is found: a store needs its write right.
 fn to_found(
     store: bool,
-    g: GuestPhysical,
+    guest: GuestPhysical,
     page: HostPhysical,
     writable: bool,
     right: bool,
     reads: u64,
 ) -> Walked
-    ensures { λ r. ⌜ r ≡ foundOf store (g .0) page writable right reads ⌝ }
+    ensures { λ r. ⌜ r ≡ foundOf store (guest .0) page writable right reads ⌝ }
 {
     if granted(store, writable) {
         Walked::Arrived {
@@ -79,36 +79,36 @@ fn to_found(
         }
     } else {
         Walked::Faulted {
-            fault: Fault::HostReadOnly(g.0),
+            fault: Fault::HostReadOnly(guest.0),
             reads: reads,
         }
     }
 }
 
-// On to the page in frame g.
+// On to the page in a guest frame.
 pub fn to_page(
     mem: &[u64],
-    s: Space,
+    space: Space,
     store: bool,
-    g: GuestPhysical,
+    guest: GuestPhysical,
     right: bool,
     read: u64,
 ) -> Walked
-    requires { ⌜ (LayoutFits (s .layout)) × (read ≤ 65536) ⌝ }
-    ensures { λ r. ⌜ r ≡ walkedOf (config (s .layout)) (s .top) (now (mem .entry)) read (next store true (g .0) right) ⌝ }
+    requires { ⌜ (LayoutFits (space .layout)) × (read ≤ 65536) ⌝ }
+    ensures { λ r. ⌜ r ≡ walkedOf (config (space .layout)) (space .top) (now (mem .entry)) read (next store true (guest .0) right) ⌝ }
 {
     if granted(store, right) {
-        match host::host_walk(mem, s, g) {
+        match host::host_walk(mem, space, guest) {
             HostWalk::Found { page, writable } => to_found(
                 store,
-                g,
+                guest,
                 page,
                 writable,
                 right,
-                read + s.layout.levels,
+                read + space.layout.levels,
             ),
             HostWalk::Absent { reads } => Walked::Faulted {
-                fault: Fault::HostAbsent(g.0),
+                fault: Fault::HostAbsent(guest.0),
                 reads: read + reads,
             },
             HostWalk::Damaged => Walked::Damaged,
@@ -121,43 +121,43 @@ pub fn to_page(
     }
 }
 
-// On to the frame g that an entry of a level names.
+// On to the guest frame that an entry of a level names.
 fn to_frame(
     mem: &[u64],
-    s: Space,
+    space: Space,
     store: bool,
     level: u64,
-    g: GuestPhysical,
+    guest: GuestPhysical,
     right: bool,
     read: u64,
 ) -> Walked
-    requires { ⌜ (LayoutFits (s .layout)) × (read ≤ 65536) ⌝ }
-    ensures { λ r. ⌜ r ≡ walkedOf (config (s .layout)) (s .top) (now (mem .entry)) read (next store (eqb level 1) (g .0) right) ⌝ }
+    requires { ⌜ (LayoutFits (space .layout)) × (read ≤ 65536) ⌝ }
+    ensures { λ r. ⌜ r ≡ walkedOf (config (space .layout)) (space .top) (now (mem .entry)) read (next store (eqb level 1) (guest .0) right) ⌝ }
 {
     if level == 1 {
-        to_page(mem, s, store, g, right, read)
+        to_page(mem, space, store, guest, right, read)
     } else {
-        to_table(mem, s, g, right, read)
+        to_table(mem, space, guest, right, read)
     }
 }
 
-// One level: the entry at index i of a table, and on to the frame that it names.
+// One level: the entry at the index of a table, and on to the frame that it names.
 fn descend(
     mem: &[u64],
-    s: Space,
+    space: Space,
     store: bool,
     level: u64,
     table: HostPhysical,
-    i: u64,
+    index: u64,
     right: bool,
     read: u64,
 ) -> Walked
-    requires { ⌜ (LayoutFits (s .layout)) × (read ≤ 65535) × (table .0 < frameLimit) × (i < 512) ⌝ }
-    ensures { λ r. ⌜ r ≡ walkedOf (config (s .layout)) (s .top) (now (mem .entry)) read (turn (config (s .layout)) store level (table .0) i right) ⌝ }
+    requires { ⌜ (LayoutFits (space .layout)) × (read ≤ 65535) × (table .0 < frameLimit) × (index < 512) ⌝ }
+    ensures { λ r. ⌜ r ≡ walkedOf (config (space .layout)) (space .top) (now (mem .entry)) read (turn (config (space .layout)) store level (table .0) index right) ⌝ }
 {
-    let e = words::word_in(mem, table.0, i);
+    let e = words::word_in(mem, table.0, index);
     if entry::present(e) {
-        if entry::malformed(s.layout.levels, level, e) {
+        if entry::malformed(space.layout.levels, level, e) {
             Walked::Faulted {
                 fault: Fault::Malformed(level),
                 reads: read + 1,
@@ -166,7 +166,7 @@ fn descend(
             let g = GuestPhysical(entry::frame_of(e));
             to_frame(
                 mem,
-                s,
+                space,
                 store,
                 level,
                 g,
@@ -188,22 +188,22 @@ pub struct Trail {
     pub tables: [u64; 8],
 }
 
-// By the k lowest indexes of a page number, from a table down to the table of level `below`, or to the page where it is 0.
+// By the `steps` lowest indexes of a page number, from a table down to the table of level `below`, or to the page where it is 0.
 pub fn walk_tables(
     mem: &[u64],
-    s: Space,
+    space: Space,
     store: bool,
     path: u64,
-    k: u64,
+    steps: u64,
     below: u64,
     table: HostPhysical,
     right: bool,
     read: u64,
 ) -> Trail
-    requires { ⌜ (LayoutFits (s .layout)) × (k + below ≤ s .layout .levels) × (read ≤ 1024) × (table .0 < frameLimit) ⌝ }
-    ensures { λ r. ⌜ r ≡ trailOf (config (s .layout)) (s .top) (now (mem .entry)) read (levels (config (s .layout)) store (below + k) (table .0) right (indexes k path)) ⌝ }
+    requires { ⌜ (LayoutFits (space .layout)) × (steps + below ≤ space .layout .levels) × (read ≤ 1024) × (table .0 < frameLimit) ⌝ }
+    ensures { λ r. ⌜ r ≡ trailOf (config (space .layout)) (space .top) (now (mem .entry)) read (levels (config (space .layout)) store (below + steps) (table .0) right (indexes steps path)) ⌝ }
 {
-    let mut left = k;
+    let mut left = steps;
     let mut at = table.0;
     let mut w = right;
     let mut n = read;
@@ -214,7 +214,7 @@ pub fn walk_tables(
         tables[depth] = at;
         depth += 1;
         let i = entry::index_of(path, left) as u64;
-        match descend(mem, s, store, below + left + 1, HostPhysical(at), i, w, n) {
+        match descend(mem, space, store, below + left + 1, HostPhysical(at), i, w, n) {
             Walked::Arrived {
                 page,
                 writable,
@@ -251,26 +251,26 @@ pub fn walk_tables(
     }
 }
 
-// From the root, by the k highest indexes of an address down to the table of level `below`: path is its page number
+// From the root, by the `steps` highest indexes of an address down to the table of level `below`: path is its page number
 // without the indexes below.
 pub fn walk_root(
     mem: &[u64],
-    s: Space,
+    space: Space,
     store: bool,
     root: GuestPhysical,
     path: u64,
-    k: u64,
+    steps: u64,
     below: u64,
 ) -> Trail
-    requires { ⌜ (LayoutFits (s .layout)) × (below + k ≡ s .layout .levels) ⌝ }
-    ensures { λ r. ⌜ r ≡ trailOf (config (s .layout)) (s .top) (now (mem .entry)) 0 (walk (config (s .layout)) store (root .0) (indexes k path)) ⌝ }
+    requires { ⌜ (LayoutFits (space .layout)) × (below + steps ≡ space .layout .levels) ⌝ }
+    ensures { λ r. ⌜ r ≡ trailOf (config (space .layout)) (space .top) (now (mem .entry)) 0 (walk (config (space .layout)) store (root .0) (indexes steps path)) ⌝ }
 {
-    match to_table(mem, s, root, true, 0) {
+    match to_table(mem, space, root, true, 0) {
         Walked::Arrived {
             page,
             writable,
             reads,
-        } => walk_tables(mem, s, store, path, k, below, page, true, reads),
+        } => walk_tables(mem, space, store, path, steps, below, page, true, reads),
         Walked::Faulted { fault, reads } => Trail {
             walked: Walked::Faulted {
                 fault: fault,

@@ -22,19 +22,19 @@ pub fn set_word(mem: &mut [u64], place: usize, value: u64)
 }
 
 // A word of a frame.
-pub fn word_in(mem: &[u64], frame: u64, i: u64) -> u64
-    requires { ⌜ (frame < frameLimit) × (i < 512) ⌝ }
-    ensures { λ r. ⌜ r ≡ wordIn (now (mem .entry)) frame i ⌝ }
+pub fn word_in(mem: &[u64], frame: u64, index: u64) -> u64
+    requires { ⌜ (frame < frameLimit) × (index < 512) ⌝ }
+    ensures { λ r. ⌜ r ≡ wordIn (now (mem .entry)) frame index ⌝ }
 {
-    word_at(mem, (frame * 512 + i) as usize)
+    word_at(mem, (frame * 512 + index) as usize)
 }
 
 // A store to a word of a frame.
-pub fn set_in(mem: &mut [u64], frame: u64, i: u64, value: u64)
-    requires { ⌜ (frame < frameLimit) × (i < 512) ⌝ }
-    ensures { λ r. ⌜ now (mem .exit) ≡ setIn (now (mem .entry)) frame i value ⌝ }
+pub fn set_in(mem: &mut [u64], frame: u64, index: u64, value: u64)
+    requires { ⌜ (frame < frameLimit) × (index < 512) ⌝ }
+    ensures { λ r. ⌜ now (mem .exit) ≡ setIn (now (mem .entry)) frame index value ⌝ }
 {
-    set_word(mem, (frame * 512 + i) as usize, value);
+    set_word(mem, (frame * 512 + index) as usize, value);
 }
 
 // A whole frame is set to 0.

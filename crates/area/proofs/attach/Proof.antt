@@ -11,7 +11,7 @@ mul-put-entry c =
     let args = c .before .before .before .before .before .before .before .before .before .args in
     let new-table = c .before .before .before .before .before .before .new-table in
     let way = c .before .before .way in
-    let good = rw (way .given .1) at (rw (← new-table .ensures) at (table-good (args .a) (args .p) (args .mem .now) (args .guest) (args .level) (args .f) (args .i))) in
+    let good = rw (way .given .1) at (rw (← new-table .ensures) at (table-good (args .area) (args .pool) (args .mem .now) (args .guest) (args .level) (args .frame) (args .index))) in
     omega arith
 
 add-put-entry : tie.Need-add-put-entry
@@ -19,7 +19,7 @@ add-put-entry c =
     let args = c .before .before .before .before .before .before .before .before .before .args in
     let new-table = c .before .before .before .before .before .before .new-table in
     let way = c .before .before .way in
-    let good = rw (way .given .1) at (rw (← new-table .ensures) at (table-good (args .a) (args .p) (args .mem .now) (args .guest) (args .level) (args .f) (args .i))) in
+    let good = rw (way .given .1) at (rw (← new-table .ensures) at (table-good (args .area) (args .pool) (args .mem .now) (args .guest) (args .level) (args .frame) (args .index))) in
     omega arith
 
 enum-told : tie.Need-enum-told

@@ -21,8 +21,8 @@ abbrev μ-loop : tie.MeasureT-loop
 turn : (c : tie.After-descend Inv-loop μ-loop) →
     let a = c .before .before .before .before .before .before .before .before .before .args in
     let l = c .before .before .before .before .before .before .loop in
-    onward (yields (c .descend .result) (c .descend .last .1 .1 .0)) (λ q n h. downOf (a .a) (a .guests .now) q n (l .depth + 1) h (index (l .left - 1) (a .g)) (indexes (l .left - 1) (a .g)) (a .e))
-    ≡ downOf (a .a) (a .guests .now) (a .p) (a .mem .now) 0 (a .f) (index (a .k - 1) (a .g)) (indexes (a .k - 1) (a .g)) (a .e)
+    onward (yields (c .descend .result) (c .descend .last .1 .1 .0)) (λ q n h. downOf (a .area) (a .guests .now) q n (l .depth + 1) h (index (l .left - 1) (a .path)) (indexes (l .left - 1) (a .path)) (a .entry))
+    ≡ downOf (a .area) (a .guests .now) (a .pool) (a .mem .now) 0 (a .frame) (index (a .steps - 1) (a .path)) (indexes (a .steps - 1) (a .path)) (a .entry)
 turn c =
     let args = c .before .before .before .before .before .before .before .before .before .args in
     let loop = c .before .before .before .before .before .before .loop in
@@ -33,9 +33,9 @@ turn c =
     let a = args in
     let l = loop in
     rw (← index-at .ensures, ← word-at .ensures, ← descend .ensures) at
-    (sym (down-step (a .a) (a .guests .now) (l .cur) (l .mem) (l .depth) (l .t) (a .g) (l .left) (a .e) (loop-test .taken)) ∙ l .inv .3)
+    (sym (down-step (a .area) (a .guests .now) (l .cur) (l .mem) (l .depth) (l .t) (a .path) (l .left) (a .entry) (loop-test .taken)) ∙ l .inv .3)
 
-way-known : (c : tie.After-descend Inv-loop μ-loop) → AreaGood (c .before .before .before .before .before .before .before .before .before .args .a) (c .descend .result .way)
+way-known : (c : tie.After-descend Inv-loop μ-loop) → AreaGood (c .before .before .before .before .before .before .before .before .before .args .area) (c .descend .result .way)
 way-known c =
     let args = c .before .before .before .before .before .before .before .before .before .args in
     let loop = c .before .before .before .before .before .before .loop in
@@ -44,7 +44,7 @@ way-known c =
     let descend = c .descend in
     let a = args in
     let l = loop in
-    rw (← descend .ensures) at (descend-good (a .a) (l .cur) (l .mem) (word-at .result) (a .a .levels - (l .depth + 1)) (l .t) (index-at .result))
+    rw (← descend .ensures) at (descend-good (a .area) (l .cur) (l .mem) (word-at .result) (a .area .levels - (l .depth + 1)) (l .t) (index-at .result))
 
 sub-left : tie.Need-sub-left Inv-loop μ-loop
 sub-left c = search needs
@@ -69,7 +69,7 @@ descend-requires c κs =
     let args = c .before .before .before .before .before .before .before .before .args in
     let loop = c .before .before .before .before .before .loop in
     let index-at = c .index-at in
-    let i = rw (← index-at .ensures) at (index-fits (loop .left) (args .g)) in
+    let i = rw (← index-at .ensures) at (index-fits (loop .left) (args .path)) in
     (omega arith, omega arith, i)
 
 enum-known-way : tie.Need-enum-known-way Inv-loop μ-loop
@@ -115,7 +115,7 @@ put-entry-requires : tie.Need-put-entry-requires Inv-loop μ-loop
 put-entry-requires c κs =
     let args = c .before .before .before .before .before .before .args in
     let index-at2 = c .index-at2 in
-    let i = rw (← index-at2 .ensures) at (index-fits 0 (args .g)) in
+    let i = rw (← index-at2 .ensures) at (index-fits 0 (args .path)) in
     (omega arith, i)
 
 same-length-3 : tie.Need-same-length-3 Inv-loop μ-loop

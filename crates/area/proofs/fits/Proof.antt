@@ -7,12 +7,12 @@ use Rattle.area.proofs.fits.Tie as tie
 returns : tie.Need-returns
 returns c =
     let args = c .before .args in
-    leb-same (args .n) (args .size - args .used) (args .used + args .n) (args .size) (omega arith) (omega arith)
+    leb-same (args .more) (args .size - args .used) (args .used + args .more) (args .size) (omega arith) (omega arith)
 
 returns-2 : tie.Need-returns-2
 returns-2 c =
     let args = c .before .args in
-    leb-same (args .used) (args .size) (args .used + args .n) (args .size) (omega arith) (omega arith)
+    leb-same (args .used) (args .size) (args .used + args .more) (args .size) (omega arith) (omega arith)
 
 pub fits-spec : {M : Type 1} → statement M
 fits-spec = tie.close (tie.spec returns returns-2)

@@ -11,10 +11,10 @@ use Rattle.area.proofs.insert.Tie as tie
 
 seen : (c : tie.After-room) →
     let a = c .before .before .before .before .args in
-    c .room .result ≡ roomOf (a .a) (a .p) (a .mem .now) (index (a .k - 1) (a .g) ∷ indexes (a .k - 1) (a .g))
+    c .room .result ≡ roomOf (a .area) (a .pool) (a .mem .now) (index (a .steps - 1) (a .path) ∷ indexes (a .steps - 1) (a .path))
 seen c =
     let a = c .before .before .before .before .args in
-    c .room .ensures ∙ ap (roomOf (a .a) (a .p) (a .mem .now)) (indexes-step (a .k) (a .g) (omega arith))
+    c .room .ensures ∙ ap (roomOf (a .area) (a .pool) (a .mem .now)) (indexes-step (a .steps) (a .path) (omega arith))
 
 enum-told : tie.Need-enum-told
 enum-told c = search needs
@@ -26,21 +26,21 @@ returns c =
     let pre = c .before .before .before .before .before .before .before .before .before .before .before .pre in
     let n = c .before .before .before .before .before .n in
     let place = c .before .before .place in
-    rw (indexes-step (args .k) (args .g) (omega (arith, pre .1)), ← seen (c .before .before .before .before .before .before .before), n .given .1) (place .ensures)
+    rw (indexes-step (args .steps) (args .path) (omega (arith, pre .1)), ← seen (c .before .before .before .before .before .before .before), n .given .1) (place .ensures)
 
 returns-2 : tie.Need-returns-2
 unfolding insertOf
 returns-2 c =
     let args = c .before .before .before .before .before .before .args in
     let enum-told = c .enum-told in
-    rw (indexes-step (args .k) (args .g) (omega arith), ← seen (c .before .before), enum-told .given .1)
+    rw (indexes-step (args .steps) (args .path) (omega arith), ← seen (c .before .before), enum-told .given .1)
 
 returns-3 : tie.Need-returns-3
 unfolding insertOf
 returns-3 c =
     let args = c .before .before .before .before .before .before .args in
     let enum-told2 = c .enum-told2 in
-    rw (indexes-step (args .k) (args .g) (omega arith), ← seen (c .before .before), enum-told2 .given .1)
+    rw (indexes-step (args .steps) (args .path) (omega arith), ← seen (c .before .before), enum-told2 .given .1)
 
 pub insert-spec : {M : Type 1} → statement M
 insert-spec =

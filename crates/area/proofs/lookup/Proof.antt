@@ -39,7 +39,7 @@ entry-at-requires c κs =
     let f = c .before .before .f in
     let index-at = c .index-at in
     let good = rw (← follow .ensures, f .given .1) at (follow-small (args .base) (args .size) (loop .at)) in
-    let i = rw (← index-at .ensures) at (index-fits (loop .left - 1) (args .g)) in
+    let i = rw (← index-at .ensures) at (index-fits (loop .left - 1) (args .path)) in
     (good, i)
 
 add-n : tie.Need-add-n Inv-loop μ-loop
@@ -57,7 +57,7 @@ loop-again c =
     let f = c .before .before .before .f in
     let index-at = c .before .index-at in
     let entry-at = c .entry-at in
-    (omega (arith, loop .inv .0), omega (arith, loop .inv .1), rw (entry-at .ensures, index-at .ensures) (rw (← follow .ensures, f .given .1) at (sym (look-step (args .base) (args .size) (args .mem .now) (loop .at) (args .g) (loop .left) (loop .n) (loop-test .taken)) ∙ loop .inv .2)))
+    (omega (arith, loop .inv .0), omega (arith, loop .inv .1), rw (entry-at .ensures, index-at .ensures) (rw (← follow .ensures, f .given .1) at (sym (look-step (args .base) (args .size) (args .mem .now) (loop .at) (args .path) (loop .left) (loop .n) (loop-test .taken)) ∙ loop .inv .2)))
 
 enum-told : tie.Need-enum-told Inv-loop μ-loop
 enum-told c = search needs

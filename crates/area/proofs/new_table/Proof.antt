@@ -10,7 +10,7 @@ write-header-requires c κs =
     let args = c .before .before .before .before .before .before .before .before .before .args in
     let take-frame = c .before .before .before .before .before .before .take-frame in
     let way = c .before .before .way in
-    let good = rw (way .given .1) at (rw (← take-frame .ensures) at (take-good (args .a) (args .p) (args .mem .now))) in
+    let good = rw (way .given .1) at (rw (← take-frame .ensures) at (take-good (args .area) (args .pool) (args .mem .now))) in
     omega arith
 
 enum-told : tie.Need-enum-told

@@ -11,14 +11,14 @@ mul-with-top c =
     let args = c .before .before .before .before .before .before .before .before .before .args in
     let new-table = c .before .before .before .before .before .before .new-table in
     let way = c .before .way in
-    let good = rw (← new-table .ensures, way .given .1) at (table-good (args .a) (args .p) (args .mem .now) (args .guest) (args .a .levels) 0 0) in omega (arith, good .1)
+    let good = rw (← new-table .ensures, way .given .1) at (table-good (args .area) (args .pool) (args .mem .now) (args .guest) (args .area .levels) 0 0) in omega (arith, good .1)
 
 add-with-top : tie.Need-add-with-top
 add-with-top c =
     let args = c .before .before .before .before .before .before .before .before .before .args in
     let new-table = c .before .before .before .before .before .before .new-table in
     let way = c .before .way in
-    let good = rw (← new-table .ensures, way .given .1) at (table-good (args .a) (args .p) (args .mem .now) (args .guest) (args .a .levels) 0 0) in omega (arith, good .1)
+    let good = rw (← new-table .ensures, way .given .1) at (table-good (args .area) (args .pool) (args .mem .now) (args .guest) (args .area .levels) 0 0) in omega (arith, good .1)
 
 enum-told : tie.Need-enum-told
 enum-told c = search needs

@@ -11,7 +11,7 @@ down-requires c κs =
     let word-at = c .before .before .before .before .before .before .before .before .before .word-at in
     let enter = c .before .before .before .before .before .before .before .enter in
     let way = c .before .before .way in
-    let good = rw (way .given .1) at (rw (← enter .ensures) at (enter-good (args .a) (args .p) (args .mem .now) (word-at .result))) in
+    let good = rw (way .given .1) at (rw (← enter .ensures) at (enter-good (args .area) (args .pool) (args .mem .now) (word-at .result))) in
     (omega arith, omega arith, omega arith, omega arith, omega arith)
 
 enum-told : tie.Need-enum-told

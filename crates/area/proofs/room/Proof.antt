@@ -7,11 +7,11 @@ use borrow.Author.Needs.{needs}
 use Rattle.area.proofs.room.Statement.{statement}
 use Rattle.area.proofs.room.Tie as tie
 
-counted : (c : tie.After-lookup) → LookGood (c .before .before .args .k) (c .lookup .result)
+counted : (c : tie.After-lookup) → LookGood (c .before .before .args .steps) (c .lookup .result)
 counted c =
     let args = c .before .before .args in
     let lookup = c .lookup in
-    let l = indexes-length (args .k) (args .g) in rw (← lookup .ensures) at (look-good (args .a .base) (args .a .size) (args .mem .now) (args .p .top) (indexes (args .k) (args .g)) 0 (args .k) (omega arith))
+    let l = indexes-length (args .steps) (args .path) in rw (← lookup .ensures) at (look-good (args .area .base) (args .area .size) (args .mem .now) (args .pool .top) (indexes (args .steps) (args .path)) 0 (args .steps) (omega arith))
 
 sub-fits : tie.Need-sub-fits
 sub-fits c = let n = rw (c .before .e .given .1) at (counted (c .before .before .before)) in omega arith

@@ -12,14 +12,14 @@ returns c =
     let args = c .before .before .args in
     let frame-bits = c .before .frame-bits in
     let if1 = c .if1 in
-    rw (← shift-out (args .a) (12 + frameBits (ofLevels (args .levels))), eq-eqb _ _ (rw (frame-bits .ensures) at (if1 .taken)))
+    rw (← shift-out (args .address) (12 + frameBits (ofLevels (args .levels))), eq-eqb _ _ (rw (frame-bits .ensures) at (if1 .taken)))
 
 returns-2 : tie.Need-returns-2
 returns-2 c =
     let args = c .before .before .args in
     let frame-bits = c .before .frame-bits in
     let if1 = c .if1 in
-    rw (← shift-out (args .a) (12 + frameBits (ofLevels (args .levels))), ne-eqb _ _ (rw (frame-bits .ensures) at (if1 .left)))
+    rw (← shift-out (args .address) (12 + frameBits (ofLevels (args .levels))), ne-eqb _ _ (rw (frame-bits .ensures) at (if1 .left)))
 
 pub device-ok-spec : {M : Type 1} → statement M
 device-ok-spec = tie.close (tie.spec (λ c κs. search needs) (λ c. search needs) (λ c. search needs) returns returns-2)

@@ -28,19 +28,19 @@ loop-less : tie.Need-loop-less Inv-loop μ-loop
 loop-less c = search needs
 
 loop-again : tie.Need-loop-again Inv-loop μ-loop
-loop-again c = (omega (arith, c .before .before .before .before .before .before .loop .inv .0), omega arith, c .before .before .before .clear-one .kept .0 ∙ c .before .before .before .before .before .before .loop .inv .2, rw (clear-step (config (c .before .before .before .before .before .before .before .before .args .l)) (c .before .before .before .before .before .before .before .before .args .cut) (c .before .before .before .before .before .before .before .before .args .all) (c .before .before .before .before .before .before .before .before .args .lowest) (c .before .before .before .before .before .before .before .before .args .f) (c .before .before .before .before .before .before .before .before .args .hi) (c .before .before .before .before .before .before .loop .i) (c .before .before .before .before .before .before .loop .mem) (c .before .before .before .before .before .loop-test .taken), ← c .before .before .before .clear-one .ensures, c .if1 .taken) at (c .before .before .before .before .before .before .loop .inv .3))
+loop-again c = (omega (arith, c .before .before .before .before .before .before .loop .inv .0), omega arith, c .before .before .before .clear-one .kept .0 ∙ c .before .before .before .before .before .before .loop .inv .2, rw (clear-step (config (c .before .before .before .before .before .before .before .before .args .layout)) (c .before .before .before .before .before .before .before .before .args .cut) (c .before .before .before .before .before .before .before .before .args .all) (c .before .before .before .before .before .before .before .before .args .lowest) (c .before .before .before .before .before .before .before .before .args .frame) (c .before .before .before .before .before .before .before .before .args .hi) (c .before .before .before .before .before .before .loop .i) (c .before .before .before .before .before .before .loop .mem) (c .before .before .before .before .before .loop-test .taken), ← c .before .before .before .clear-one .ensures, c .if1 .taken) at (c .before .before .before .before .before .before .loop .inv .3))
 
 same-length : tie.Need-same-length Inv-loop μ-loop
 same-length c = search needs
 
 returns : tie.Need-returns Inv-loop μ-loop
-returns c = rw (clear-step (config (c .before .before .before .before .before .before .before .before .args .l)) (c .before .before .before .before .before .before .before .before .args .cut) (c .before .before .before .before .before .before .before .before .args .all) (c .before .before .before .before .before .before .before .before .args .lowest) (c .before .before .before .before .before .before .before .before .args .f) (c .before .before .before .before .before .before .before .before .args .hi) (c .before .before .before .before .before .before .loop .i) (c .before .before .before .before .before .before .loop .mem) (c .before .before .before .before .before .loop-test .taken), ← c .before .before .before .clear-one .ensures, c .if1 .left) at (c .before .before .before .before .before .before .loop .inv .3)
+returns c = rw (clear-step (config (c .before .before .before .before .before .before .before .before .args .layout)) (c .before .before .before .before .before .before .before .before .args .cut) (c .before .before .before .before .before .before .before .before .args .all) (c .before .before .before .before .before .before .before .before .args .lowest) (c .before .before .before .before .before .before .before .before .args .frame) (c .before .before .before .before .before .before .before .before .args .hi) (c .before .before .before .before .before .before .loop .i) (c .before .before .before .before .before .before .loop .mem) (c .before .before .before .before .before .loop-test .taken), ← c .before .before .before .clear-one .ensures, c .if1 .left) at (c .before .before .before .before .before .before .loop .inv .3)
 
 same-length-2 : tie.Need-same-length-2 Inv-loop μ-loop
 same-length-2 c = search needs
 
 returns-2 : tie.Need-returns-2 Inv-loop μ-loop
-returns-2 c = rw (clear-none (config (c .before .before .before .args .l)) (c .before .before .before .args .cut) (c .before .before .before .args .all) (c .before .before .before .args .lowest) (c .before .before .before .args .f) (c .before .before .before .args .hi) (c .before .loop .i) (c .before .loop .mem) (c .loop-test .left)) at (c .before .loop .inv .3)
+returns-2 c = rw (clear-none (config (c .before .before .before .args .layout)) (c .before .before .before .args .cut) (c .before .before .before .args .all) (c .before .before .before .args .lowest) (c .before .before .before .args .frame) (c .before .before .before .args .hi) (c .before .loop .i) (c .before .loop .mem) (c .loop-test .left)) at (c .before .loop .inv .3)
 
 pub clear-leaves-spec : {M : Type 1} → statement M
 clear-leaves-spec =

@@ -6,7 +6,7 @@ use Rattle.drops.proofs.cut_at.Statement.{statement}
 use Rattle.drops.proofs.cut_at.Tie as tie
 
 word-in-requires : tie.Need-word-in-requires
-word-in-requires c κs = let g = guest-small (c .before .before .before .before .before .args .mem .now) (c .before .before .before .before .before .args .f) in (omega (arith, c .guest2 .ensures), c .before .before .before .before .before .pre .1)
+word-in-requires c κs = let g = guest-small (c .before .before .before .before .before .args .mem .now) (c .before .before .before .before .before .args .table) in (omega (arith, c .guest2 .ensures), c .before .before .before .before .before .pre .1)
 
 returns : tie.Need-returns
 returns c = rw (c .before .before .before .before .cut .given .1, eq-eqb _ _ (c .before .before .if1 .taken), c .before .guest .ensures)

@@ -10,7 +10,7 @@ returns : tie.Need-returns
 returns c =
     let args = c .before .before .before .args in
     let no-tables = c .no-tables in
-    let z : args .k ≡ 0 = omega arith in rw (z, prefix-none, no-tables .ensures)
+    let z : args .steps ≡ 0 = omega arith in rw (z, prefix-none, no-tables .ensures)
 
 enum-told : tie.Need-enum-told
 enum-told c = search needs
@@ -22,21 +22,21 @@ returns-2 c =
     let f = c .before .before .before .before .before .before .f in
     let index-at = c .before .before .before .index-at in
     let scan = c .before .before .scan in
-    rw (prefix-step (config (args .l)) (args .p) (args .mem .now) (args .path) (args .k) (omega arith), ← holder .ensures, f .given .1, ← index-at .ensures) (scan .ensures)
+    rw (prefix-step (config (args .layout)) (args .pool) (args .mem .now) (args .path) (args .steps) (omega arith), ← holder .ensures, f .given .1, ← index-at .ensures) (scan .ensures)
 
 returns-3 : tie.Need-returns-3
 returns-3 c =
     let args = c .before .before .before .before .before .before .args in
     let holder = c .before .before .holder in
     let enum-told = c .enum-told in
-    rw (prefix-step (config (args .l)) (args .p) (args .mem .now) (args .path) (args .k) (omega arith), ← holder .ensures, enum-told .given .1)
+    rw (prefix-step (config (args .layout)) (args .pool) (args .mem .now) (args .path) (args .steps) (omega arith), ← holder .ensures, enum-told .given .1)
 
 returns-4 : tie.Need-returns-4
 returns-4 c =
     let args = c .before .before .before .before .before .before .args in
     let holder = c .before .before .holder in
     let enum-told2 = c .enum-told2 in
-    rw (prefix-step (config (args .l)) (args .p) (args .mem .now) (args .path) (args .k) (omega arith), ← holder .ensures, enum-told2 .given .1)
+    rw (prefix-step (config (args .layout)) (args .pool) (args .mem .now) (args .path) (args .steps) (omega arith), ← holder .ensures, enum-told2 .given .1)
 
 pub drop-prefix-spec : {M : Type 1} → statement M
 drop-prefix-spec =

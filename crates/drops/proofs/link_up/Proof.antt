@@ -6,7 +6,7 @@ use Rattle.drops.proofs.link_up.Statement.{statement}
 use Rattle.drops.proofs.link_up.Tie as tie
 
 cut-at-requires : tie.Need-cut-at-requires
-cut-at-requires c κs = let p = parent-small (c .before .before .before .before .before .args .mem .now) (c .before .before .before .before .before .args .f) in let s = slot-small (c .before .before .before .before .before .args .mem .now) (c .before .before .before .before .before .args .f) in (omega (arith, c .before .before .before .parent .ensures), omega (arith, c .slot .ensures))
+cut-at-requires c κs = let p = parent-small (c .before .before .before .before .before .args .mem .now) (c .before .before .before .before .before .args .frame) in let s = slot-small (c .before .before .before .before .before .args .mem .now) (c .before .before .before .before .before .args .frame) in (omega (arith, c .before .before .before .parent .ensures), omega (arith, c .slot .ensures))
 
 returns : tie.Need-returns
 unfolding aboveOf

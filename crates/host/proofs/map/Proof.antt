@@ -8,7 +8,7 @@ use Rattle.host.proofs.map.Tie as tie
 
 leaf-word-requires : tie.Need-leaf-word-requires
 leaf-word-requires c κs =
-    let b = in-guest-area (config (c .before .before .before .before .before .args .l)) (c .before .before .before .before .before .args .f .0) (rw (← c .before .in-guest-area .ensures, c .if2 .taken) tt) in
+    let b = in-guest-area (config (c .before .before .before .before .before .args .layout)) (c .before .before .before .before .before .args .frame .0) (rw (← c .before .in-guest-area .ensures, c .if2 .taken) tt) in
     omega (arith, b .1, c .before .before .before .before .before .pre)
 
 insert-requires : tie.Need-insert-requires

@@ -6,7 +6,7 @@ use Rattle.layout.proofs.frame_fits.Statement.{statement}
 use Rattle.layout.proofs.frame_fits.Tie as tie
 
 returns : tie.Need-returns
-returns c = rw (c .before .frame-bits .ensures) (shift-out (c .before .before .args .g .0) (frameBits (config (c .before .before .args .l))))
+returns c = rw (c .before .frame-bits .ensures) (shift-out (c .before .before .args .guest .0) (frameBits (config (c .before .before .args .layout))))
 
 pub frame-fits-spec : {M : Type 1} → statement M
 frame-fits-spec = tie.close (tie.spec (λ c κs. search needs) (λ c. search needs) returns)

@@ -33,7 +33,7 @@ returns c =
     let entry-at = c .before .before .entry-at in
     let present = c .before .present in
     let if1 = c .if1 in
-    rw (bare-more (args .mem .now) (args .f) (loop .k) (loop-test .taken), ← entry-at .ensures, ← present .ensures, if1 .taken) at (loop .inv .1)
+    rw (bare-more (args .mem .now) (args .frame) (loop .k) (loop-test .taken), ← entry-at .ensures, ← present .ensures, if1 .taken) at (loop .inv .1)
 
 loop-less : tie.Need-loop-less Inv-loop μ-loop
 loop-less c = search needs
@@ -46,14 +46,14 @@ loop-again c =
     let entry-at = c .before .before .entry-at in
     let present = c .before .present in
     let if1 = c .if1 in
-    (omega arith, rw (bare-more (args .mem .now) (args .f) (loop .k) (loop-test .taken), ← entry-at .ensures, ← present .ensures, if1 .left) at (loop .inv .1))
+    (omega arith, rw (bare-more (args .mem .now) (args .frame) (loop .k) (loop-test .taken), ← entry-at .ensures, ← present .ensures, if1 .left) at (loop .inv .1))
 
 returns-2 : tie.Need-returns-2 Inv-loop μ-loop
 returns-2 c =
     let args = c .before .before .before .args in
     let loop = c .before .loop in
     let z : loop .k ≡ 0 = omega arith in
-    rw (bare-none (args .mem .now) (args .f) (loop .k) z) at (loop .inv .1)
+    rw (bare-none (args .mem .now) (args .frame) (loop .k) z) at (loop .inv .1)
 
 pub bare-spec : {M : Type 1} → statement M
 bare-spec =

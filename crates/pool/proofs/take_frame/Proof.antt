@@ -11,7 +11,7 @@ take-freed-requires c κs =
     let args = c .before .before .before .before .before .before .before .before .before .args in
     let follow = c .before .before .before .before .follow in
     let f = c .before .before .f in
-    let good = rw (← follow .ensures, f .given .1) at (follow-good (args .a .base) (args .a .size) (args .p .free)) in
+    let good = rw (← follow .ensures, f .given .1) at (follow-good (args .area .base) (args .area .size) (args .pool .free)) in
     (omega arith, omega arith)
 
 enum-told : tie.Need-enum-told

@@ -9,7 +9,7 @@ use Rattle.pool.proofs.with_freed.Tie as tie
 returns : tie.Need-returns
 unfolding withFreed link
 returns c =
-    let none : c .before .before .args .p .used - 1 ≡ 0 = omega arith in
+    let none : c .before .before .args .pool .used - 1 ≡ 0 = omega arith in
     rw none
 
 returns-2 : tie.Need-returns-2

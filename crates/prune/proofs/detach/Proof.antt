@@ -10,8 +10,8 @@ put-entry-requires c κs =
     let args = c .before .before .before .before .before .before .before .before .before .before .before .args in
     let parent = c .before .before .before .before .before .parent in
     let slot = c .before .slot in
-    let p = parent-small (args .mem .now) (args .f) in
-    let s = slot-small (args .mem .now) (args .f) in
+    let p = parent-small (args .mem .now) (args .frame) in
+    let s = slot-small (args .mem .now) (args .frame) in
     (omega (arith, parent .ensures), omega (arith, slot .ensures))
 
 returns : tie.Need-returns

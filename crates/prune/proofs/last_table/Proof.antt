@@ -39,7 +39,7 @@ entry-at-requires c κs =
     let f = c .before .before .f in
     let index-at = c .index-at in
     let good = rw (← follow .ensures, f .given .1) at (follow-small (args .base) (args .size) (loop .at)) in
-    let i = rw (← index-at .ensures) at (index-fits (loop .left) (args .g)) in
+    let i = rw (← index-at .ensures) at (index-fits (loop .left) (args .path)) in
     (good, i)
 
 enum-told : tie.Need-enum-told Inv-loop μ-loop
@@ -79,7 +79,7 @@ loop-again c =
     let f = c .before .before .before .f in
     let index-at = c .before .index-at in
     let entry-at = c .entry-at in
-    (omega (arith, loop .inv .0), rw (entry-at .ensures, index-at .ensures) (rw (← follow .ensures, f .given .1) at (sym (last-step (args .base) (args .size) (args .mem .now) (loop .at) (args .g) (loop .left) (loop-test .taken)) ∙ loop .inv .1)))
+    (omega (arith, loop .inv .0), rw (entry-at .ensures, index-at .ensures) (rw (← follow .ensures, f .given .1) at (sym (last-step (args .base) (args .size) (args .mem .now) (loop .at) (args .path) (loop .left) (loop-test .taken)) ∙ loop .inv .1)))
 
 follow-requires-2 : tie.Need-follow-requires-2 Inv-loop μ-loop
 follow-requires-2 c κs = search needs

@@ -36,7 +36,7 @@ returns c =
     let loop = c .before .before .before .before .before .before .before .before .loop in
     let detach = c .before .before .before .before .before .detach in
     let enum-told = c .enum-told in
-    rw (release-step (args .a) (args .stays) (loop .cur) (loop .mem) (loop .links) (loop .t) (omega arith), ← detach .ensures, enum-told .given .1) at (loop .inv .2)
+    rw (release-step (args .area) (args .stays) (loop .cur) (loop .mem) (loop .links) (loop .t) (omega arith), ← detach .ensures, enum-told .given .1) at (loop .inv .2)
 
 enum-told-2 : tie.Need-enum-told-2 Inv-loop μ-loop
 enum-told-2 c = search needs
@@ -50,7 +50,7 @@ returns-2 c =
     let loop = c .before .before .before .before .before .before .before .before .loop in
     let detach = c .before .before .before .before .before .detach in
     let enum-told2 = c .enum-told2 in
-    rw (release-step (args .a) (args .stays) (loop .cur) (loop .mem) (loop .links) (loop .t) (omega arith), ← detach .ensures, enum-told2 .given .1) at (loop .inv .2)
+    rw (release-step (args .area) (args .stays) (loop .cur) (loop .mem) (loop .links) (loop .t) (omega arith), ← detach .ensures, enum-told2 .given .1) at (loop .inv .2)
 
 sub-links : tie.Need-sub-links Inv-loop μ-loop
 sub-links c = search needs
@@ -64,8 +64,8 @@ loop-again c =
     let loop = c .before .before .before .before .before .before .before .before .before .loop in
     let detach = c .before .before .before .before .before .before .detach in
     let way = c .before .way in
-    let good = rw (← detach .ensures, way .given .1) at (detach-good (args .a) (loop .cur) (loop .mem) (loop .t)) in
-    (omega (arith, good .1), detach .kept .1 .1 .0 ∙ loop .inv .1, rw (release-step (args .a) (args .stays) (loop .cur) (loop .mem) (loop .links) (loop .t) (omega arith), ← detach .ensures, way .given .1) at (loop .inv .2))
+    let good = rw (← detach .ensures, way .given .1) at (detach-good (args .area) (loop .cur) (loop .mem) (loop .t)) in
+    (omega (arith, good .1), detach .kept .1 .1 .0 ∙ loop .inv .1, rw (release-step (args .area) (args .stays) (loop .cur) (loop .mem) (loop .links) (loop .t) (omega arith), ← detach .ensures, way .given .1) at (loop .inv .2))
 
 release-top-requires : tie.Need-release-top-requires Inv-loop μ-loop
 release-top-requires c κs = search needs

@@ -15,8 +15,8 @@ clear-requires c κs =
     let last-table = c .before .before .before .before .before .last-table in
     let f = c .before .before .before .f in
     let index-at = c .index-at in
-    let good = rw (← last-table .ensures, f .given .1) at (last-small (args .a .base) (args .a .size) (args .mem .now) (args .p .top) (index (args .k - 1) (args .g)) (indexes (args .k - 1) (args .g))) in
-    let i = rw (← index-at .ensures) at (index-fits 0 (args .g)) in
+    let good = rw (← last-table .ensures, f .given .1) at (last-small (args .area .base) (args .area .size) (args .mem .now) (args .pool .top) (index (args .steps - 1) (args .path)) (indexes (args .steps - 1) (args .path))) in
+    let i = rw (← index-at .ensures) at (index-fits 0 (args .path)) in
     (good, omega arith, i)
 
 enum-told : tie.Need-enum-told
@@ -31,7 +31,7 @@ returns c =
     let f = c .before .before .before .before .before .before .f in
     let index-at = c .before .before .before .index-at in
     let clear = c .before .before .clear in
-    rw (indexes-step (args .k) (args .g) (omega (arith, pre .1)), ← last-table .ensures, f .given .1, indexes-length, indexes-last, ← index-at .ensures) (clear .ensures)
+    rw (indexes-step (args .steps) (args .path) (omega (arith, pre .1)), ← last-table .ensures, f .given .1, indexes-length, indexes-last, ← index-at .ensures) (clear .ensures)
 
 returns-2 : tie.Need-returns-2
 unfolding removeOf
@@ -39,7 +39,7 @@ returns-2 c =
     let args = c .before .before .before .before .before .args in
     let last-table = c .before .before .last-table in
     let enum-told = c .enum-told in
-    rw (indexes-step (args .k) (args .g) (omega arith), ← last-table .ensures, enum-told .given .1)
+    rw (indexes-step (args .steps) (args .path) (omega arith), ← last-table .ensures, enum-told .given .1)
 
 returns-3 : tie.Need-returns-3
 unfolding removeOf
@@ -47,7 +47,7 @@ returns-3 c =
     let args = c .before .before .before .before .before .args in
     let last-table = c .before .before .last-table in
     let enum-told2 = c .enum-told2 in
-    rw (indexes-step (args .k) (args .g) (omega arith), ← last-table .ensures, enum-told2 .given .1)
+    rw (indexes-step (args .steps) (args .path) (omega arith), ← last-table .ensures, enum-told2 .given .1)
 
 pub remove-spec : {M : Type 1} → statement M
 remove-spec =

@@ -14,7 +14,7 @@ written-requires c κs =
     let pre = c .before .before .before .before .before .before .before .pre in
     let to-page = c .before .before .before .before .to-page in
     let walked = c .before .before .walked in
-    let at = rw (← to-page .ensures, walked .given .1) at (device-in (config (args .s .layout)) (args .s .top) (args .mem .now) (args .a / 4096)) in
+    let at = rw (← to-page .ensures, walked .given .1) at (device-in (config (args .space .layout)) (args .space .top) (args .mem .now) (args .address / 4096)) in
     (pre .0, pre .1, omega (arith, at .1, pre .0), omega arith)
 
 enum-told : tie.Need-enum-told

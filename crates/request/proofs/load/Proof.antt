@@ -10,18 +10,18 @@ use Rattle.request.proofs.load.Statement.{statement}
 use Rattle.request.proofs.load.Tie as tie
 
 -- what the translation leaves
-left : (c : tie.After-translate) → Leaves (config (c .before .before .before .args .s .layout)) (c .before .before .before .args .mem .now) (yields (c .translate .result) (c .translate .last .0))
+left : (c : tie.After-translate) → Leaves (config (c .before .before .before .args .space .layout)) (c .before .before .before .args .mem .now) (yields (c .translate .result) (c .translate .last .0))
 left c =
     let args = c .before .before .before .args in
     let pre = c .before .before .before .pre in
     let translate = c .translate in
-    rw (translate .ensures) (translate-leaves (config (args .s .layout)) (args .s .top) (args .mem .now) false (args .held) (pre .1) (args .root .0) (args .a .0) (args .d))
+    rw (translate .ensures) (translate-leaves (config (args .space .layout)) (args .space .top) (args .mem .now) false (args .held) (pre .1) (args .root .0) (args .address .0) (args .depth))
 
 translate-requires : tie.Need-translate-requires
 translate-requires c κs =
     let pre = c .before .before .pre in
     let args = c .before .before .args in
-    (pre .0, held-small (config (args .s .layout)) (args .held) (pre .1) (pre .0 .3))
+    (pre .0, held-small (config (args .space .layout)) (args .held) (pre .1) (pre .0 .3))
 
 read-word-requires : tie.Need-read-word-requires
 read-word-requires c κs =

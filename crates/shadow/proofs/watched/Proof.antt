@@ -27,13 +27,13 @@ watches-requires c κs = search needs
 
 returns : tie.Need-returns Inv-loop μ-loop
 unfolding watchedOf
-returns c = rw (watched-step (c .before .before .before .before .before .before .args .mem .now) (c .before .before .before .before .before .before .args .l .hosts) (c .before .before .before .before .before .before .args .frame .0) (c .before .before .before .before .loop .k) (c .before .before .before .loop-test .taken), ← c .before .watches .ensures, c .if1 .taken) at (c .before .before .before .before .loop .inv .1)
+returns c = rw (watched-step (c .before .before .before .before .before .before .args .mem .now) (c .before .before .before .before .before .before .args .layout .hosts) (c .before .before .before .before .before .before .args .frame .0) (c .before .before .before .before .loop .k) (c .before .before .before .loop-test .taken), ← c .before .watches .ensures, c .if1 .taken) at (c .before .before .before .before .loop .inv .1)
 
 loop-less : tie.Need-loop-less Inv-loop μ-loop
 loop-less c = search needs
 
 loop-again : tie.Need-loop-again Inv-loop μ-loop
-loop-again c = (omega (arith, c .before .before .before .before .loop .inv .0), rw (watched-step (c .before .before .before .before .before .before .args .mem .now) (c .before .before .before .before .before .before .args .l .hosts) (c .before .before .before .before .before .before .args .frame .0) (c .before .before .before .before .loop .k) (c .before .before .before .loop-test .taken), ← c .before .watches .ensures, c .if1 .left) at (c .before .before .before .before .loop .inv .1))
+loop-again c = (omega (arith, c .before .before .before .before .loop .inv .0), rw (watched-step (c .before .before .before .before .before .before .args .mem .now) (c .before .before .before .before .before .before .args .layout .hosts) (c .before .before .before .before .before .before .args .frame .0) (c .before .before .before .before .loop .k) (c .before .before .before .loop-test .taken), ← c .before .watches .ensures, c .if1 .left) at (c .before .before .before .before .loop .inv .1))
 
 returns-2 : tie.Need-returns-2 Inv-loop μ-loop
 unfolding watchedOf

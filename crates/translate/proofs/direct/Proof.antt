@@ -17,9 +17,9 @@ unfolding directOf
 returns c =
     let args = c .before .before .before .args in
     let if1 = c .if1 in
-    let none : args .q .depth ≡ 0 = if1 .taken in
-    let all : args .s .layout .levels - args .q .depth ≡ args .s .layout .levels = omega arith in
-    sym (loop-end (config (args .s .layout)) (args .s .top) (args .mem .now) (args .s .layout .levels - args .q .depth) (args .q .store) 0 (args .q .depth) (args .page .0) (pageOf (args .q .address .0)) (args .writable) none ∙ ap (walked.Arrived (args .page) (args .writable)) all)
+    let none : args .request .depth ≡ 0 = if1 .taken in
+    let all : args .space .layout .levels - args .request .depth ≡ args .space .layout .levels = omega arith in
+    sym (loop-end (config (args .space .layout)) (args .space .top) (args .mem .now) (args .space .layout .levels - args .request .depth) (args .request .store) 0 (args .request .depth) (args .page .0) (pageOf (args .request .address .0)) (args .writable) none ∙ ap (walked.Arrived (args .page) (args .writable)) all)
 
 returns-2 : tie.Need-returns-2
 unfolding directOf trailFrom

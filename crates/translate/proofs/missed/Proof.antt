@@ -13,7 +13,7 @@ use borrow.Author.Needs.{needs}
 use Rattle.translate.proofs.missed.Statement.{statement}
 use Rattle.translate.proofs.missed.Tie as tie
 
-came : (c : tie.After-walk-root) → walkedOf (config (c .before .before .before .before .before .before .args .s .layout)) (c .before .before .before .before .before .before .args .s .top) (c .before .before .before .before .before .before .args .mem .now) 0 (walk (config (c .before .before .before .before .before .before .args .s .layout)) (c .before .before .before .before .before .before .args .q .store) (c .before .before .before .before .before .before .args .root .0) (indexes (c .before .before .before .before .before .before .args .s .layout .levels - c .before .before .before .before .before .before .args .q .depth) (c .before .before .before .before .path-of .result))) ≡ c .walk-root .result .walked
+came : (c : tie.After-walk-root) → walkedOf (config (c .before .before .before .before .before .before .args .space .layout)) (c .before .before .before .before .before .before .args .space .top) (c .before .before .before .before .before .before .args .mem .now) 0 (walk (config (c .before .before .before .before .before .before .args .space .layout)) (c .before .before .before .before .before .before .args .request .store) (c .before .before .before .before .before .before .args .root .0) (indexes (c .before .before .before .before .before .before .args .space .layout .levels - c .before .before .before .before .before .before .args .request .depth) (c .before .before .before .before .path-of .result))) ≡ c .walk-root .result .walked
 unfolding trailFrom
 came c = sym (ap (λ (t : Trail). t .walked) (c .walk-root .ensures))
 
@@ -23,7 +23,7 @@ filled-requires c κs =
     let pre = c .before .before .before .before .before .before .before .before .before .before .before .before .pre in
     let path-of = c .before .before .before .before .before .before .before .before .before .before .path-of in
     let walked = c .before .before .before .before .walked in
-    let at = rw (came (c .before .before .before .before .before .before), walked .given .1) at (walk-in (config (args .s .layout)) (args .s .top) (args .mem .now) (args .q .store) 0 (args .root .0) (indexes (args .s .layout .levels - args .q .depth) (path-of .result))) in
+    let at = rw (came (c .before .before .before .before .before .before), walked .given .1) at (walk-in (config (args .space .layout)) (args .space .top) (args .mem .now) (args .request .store) 0 (args .root .0) (indexes (args .space .layout .levels - args .request .depth) (path-of .result))) in
     (pre .0, pre .1, omega (arith, at .1, pre .0))
 
 enum-told : tie.Need-enum-told

@@ -23,7 +23,7 @@ serve-requires c κs =
     let if1 = c .before .before .before .before .before .before .before .before .if1 in
     let found = c .before .before .before .before .before .before .found in
     let page = c .before .before .before .before .page in
-    let at = rw (← found .ensures, page .given .1) at (found-is (config (args .s .layout)) (λ f. f < frameLimit) (λ f g. omega (arith, g .1, pre .0)) (args .mem .now) (args .held) (args .q .address .0) (args .q .depth) (λ z. pre .1)) in
+    let at = rw (← found .ensures, page .given .1) at (found-is (config (args .space .layout)) (λ f. f < frameLimit) (λ f g. omega (arith, g .1, pre .0)) (args .mem .now) (args .held) (args .request .address .0) (args .request .depth) (λ z. pre .1)) in
     (pre .0, if1 .left, at, omega arith)
 
 returns-2 : tie.Need-returns-2

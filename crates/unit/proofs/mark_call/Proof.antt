@@ -37,7 +37,7 @@ key-of-requires c κs =
     let if1 = c .before .before .before .before .before .if1 in
     let mark-refusal = c .before .before .mark-refusal in
     let if2 = c .before .if2 in
-    mark-level (args .t1) (args .a) (args .level) (fits-levels (args .t1) _ (sym (fits2 .ensures) ∙ not-false (fits2 .result) (if1 .left))) (args .setting) (sym (mark-refusal .ensures) ∙ if2 .left)
+    mark-level (args .t1) (args .address) (args .level) (fits-levels (args .t1) _ (sym (fits2 .ensures) ∙ not-false (fits2 .result) (if1 .left))) (args .setting) (sym (mark-refusal .ensures) ∙ if2 .left)
 
 marked-requires : tie.Need-marked-requires
 marked-requires c κs =
@@ -46,7 +46,7 @@ marked-requires c κs =
     let if1 = c .before .before .before .before .before .before .before .before .if1 in
     let mark-refusal = c .before .before .before .before .before .mark-refusal in
     let if2 = c .before .before .before .before .if2 in
-    (fits-sound (args .t1) _ (sym (fits2 .ensures) ∙ not-false (fits2 .result) (if1 .left)), mark-level (args .t1) (args .a) (args .level) (fits-levels (args .t1) _ (sym (fits2 .ensures) ∙ not-false (fits2 .result) (if1 .left))) (args .setting) (sym (mark-refusal .ensures) ∙ if2 .left))
+    (fits-sound (args .t1) _ (sym (fits2 .ensures) ∙ not-false (fits2 .result) (if1 .left)), mark-level (args .t1) (args .address) (args .level) (fits-levels (args .t1) _ (sym (fits2 .ensures) ∙ not-false (fits2 .result) (if1 .left))) (args .setting) (sym (mark-refusal .ensures) ∙ if2 .left))
 
 returns-3 : tie.Need-returns-3
 returns-3 c =

@@ -25,23 +25,23 @@ abbrev μ-loop : tie.MeasureT-loop
 
 -- the walk's trail, by where the turn came to
 turned : (c : tie.After-descend Inv-loop μ-loop)
-    → thenTrail (c .descend .result) (set (c .before .before .before .loop .tables) (c .before .before .before .loop .depth) (c .before .before .before .loop .at)) (λ u v j. trailFrom (config (c .before .before .before .before .before .args .s .layout)) (c .before .before .before .before .before .args .s .top) (c .before .before .before .before .before .args .mem .now) (set (c .before .before .before .loop .tables) (c .before .before .before .loop .depth) (c .before .before .before .loop .at)) (c .before .before .before .loop .depth + 1) j (levels (config (c .before .before .before .before .before .args .s .layout)) (c .before .before .before .before .before .args .store) (c .before .before .before .before .before .args .below + (c .before .before .before .loop .left - 1)) u v (indexes (c .before .before .before .loop .left - 1) (c .before .before .before .before .before .args .path))))
-    ≡ trailOf (config (c .before .before .before .before .before .args .s .layout)) (c .before .before .before .before .before .args .s .top) (c .before .before .before .before .before .args .mem .now) (c .before .before .before .before .before .args .read) (levels (config (c .before .before .before .before .before .args .s .layout)) (c .before .before .before .before .before .args .store) (c .before .before .before .before .before .args .below + c .before .before .before .before .before .args .k) (c .before .before .before .before .before .args .table .0) (c .before .before .before .before .before .args .right) (indexes (c .before .before .before .before .before .args .k) (c .before .before .before .before .before .args .path)))
+    → thenTrail (c .descend .result) (set (c .before .before .before .loop .tables) (c .before .before .before .loop .depth) (c .before .before .before .loop .at)) (λ u v j. trailFrom (config (c .before .before .before .before .before .args .space .layout)) (c .before .before .before .before .before .args .space .top) (c .before .before .before .before .before .args .mem .now) (set (c .before .before .before .loop .tables) (c .before .before .before .loop .depth) (c .before .before .before .loop .at)) (c .before .before .before .loop .depth + 1) j (levels (config (c .before .before .before .before .before .args .space .layout)) (c .before .before .before .before .before .args .store) (c .before .before .before .before .before .args .below + (c .before .before .before .loop .left - 1)) u v (indexes (c .before .before .before .loop .left - 1) (c .before .before .before .before .before .args .path))))
+    ≡ trailOf (config (c .before .before .before .before .before .args .space .layout)) (c .before .before .before .before .before .args .space .top) (c .before .before .before .before .before .args .mem .now) (c .before .before .before .before .before .args .read) (levels (config (c .before .before .before .before .before .args .space .layout)) (c .before .before .before .before .before .args .store) (c .before .before .before .before .before .args .below + c .before .before .before .before .before .args .steps) (c .before .before .before .before .before .args .table .0) (c .before .before .before .before .before .args .right) (indexes (c .before .before .before .before .before .args .steps) (c .before .before .before .before .before .args .path)))
 turned c =
     let args = c .before .before .before .before .before .args in
     let loop = c .before .before .before .loop in
     let loop-test = c .before .before .loop-test in
     let index-of = c .before .index-of in
     let descend = c .descend in
-    rw (descend .ensures, index-of .ensures, ← trail-step (config (args .s .layout)) (args .s .top) (args .mem .now) (loop .tables) (loop .depth) (loop .n) (args .store) (args .below) (loop .left) (loop .at) (args .path) (loop .w) (loop-test .taken)) (loop .inv .4)
+    rw (descend .ensures, index-of .ensures, ← trail-step (config (args .space .layout)) (args .space .top) (args .mem .now) (loop .tables) (loop .depth) (loop .n) (args .store) (args .below) (loop .left) (loop .at) (args .path) (loop .w) (loop-test .taken)) (loop .inv .4)
 
 -- where the turn arrived
-arrived : (c : tie.After-descend Inv-loop μ-loop) → TurnFits (config (c .before .before .before .before .before .args .s .layout)) (c .before .before .before .loop .n + 1) (c .descend .result)
+arrived : (c : tie.After-descend Inv-loop μ-loop) → TurnFits (config (c .before .before .before .before .before .args .space .layout)) (c .before .before .before .loop .n + 1) (c .descend .result)
 arrived c =
     let args = c .before .before .before .before .before .args in
     let loop = c .before .before .before .loop in
     let descend = c .descend in
-    rw (descend .ensures) (turn-fits (config (args .s .layout)) (args .s .top) (args .mem .now) (loop .n) (args .store) _ (loop .at) _ (loop .w))
+    rw (descend .ensures) (turn-fits (config (args .space .layout)) (args .space .top) (args .mem .now) (loop .n) (args .store) _ (loop .at) _ (loop .w))
 
 loop-holds : tie.Need-loop-holds Inv-loop μ-loop
 loop-holds c = (search needs, search needs, search needs, search needs, refl)
@@ -106,7 +106,7 @@ returns-3 c =
     let args = c .before .before .before .args in
     let loop = c .before .loop in
     let none : loop .left ≡ 0 = omega arith in
-    sym (trail-end (config (args .s .layout)) (args .s .top) (args .mem .now) (loop .tables) (loop .depth) (loop .n) (args .store) (args .below) (loop .left) (loop .at) (args .path) (loop .w) none) ∙ loop .inv .4
+    sym (trail-end (config (args .space .layout)) (args .space .top) (args .mem .now) (loop .tables) (loop .depth) (loop .n) (args .store) (args .below) (loop .left) (loop .at) (args .path) (loop .w) none) ∙ loop .inv .4
 
 pub walk-tables-spec : {M : Type 1} → statement M
 walk-tables-spec =
