@@ -101,7 +101,7 @@ fn held_none() -> Held
     }
 }
 
-// The same in parts.
+// A refusal: its number, with the head given.
 fn refused_in(head: Head, number: u64) -> Turn
     ensures { λ r. ⌜ r ≡ record { head = head; answer = Answer.Refused number } ⌝ }
 {

@@ -16,7 +16,7 @@ use Rattle.cangrieb.specs.declared.FlatAnswer.{FlatAnswer}
 
 -- ---- the head, in 15 words
 
--- the pool whose words begin at place i
+-- the pool whose words stand at these places
 abbrev pub poolIn : List ℕ → ℕ → ℕ → ℕ → ℕ → Pool
 poolIn ws i j k l = record { fresh = getD ws i 0; free = getD ws j 0; used = getD ws k 0; top = getD ws l 0 }
 

@@ -1,4 +1,4 @@
--- The steps of the loops' definitions, and what the answers of links, trails and scans always satisfy.
+-- The steps of links, scans and searches, and what they always satisfy.
 -- Assumes nothing.
 use mathlib.Core.Path.{_≡_, refl, ap, _∙_}
 use Prim.Native.Nat.{ℕ, zero, suc, _+_, _-_, _≤_, _<_}

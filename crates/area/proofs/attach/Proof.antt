@@ -1,3 +1,4 @@
+-- Three arms by the way of the new table; its frame lies in the area, so the link put into the table above fits a word.
 use native.Mathlib.Omega.{arith}
 use Rattle.pool.specs.Pool.{link}
 use Rattle.area.specs.Tree.{attachOf}

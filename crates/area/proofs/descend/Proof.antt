@@ -1,3 +1,4 @@
+-- The entry at the index decides: the table it names, a new one attached there, or damage.
 use Rattle.area.specs.Tree.{descendOf}
 use borrow.Author.Needs.{needs}
 use Rattle.area.proofs.descend.Statement.{statement}

@@ -1,3 +1,4 @@
+-- The loop goes down the path: what is left of the descent, from table t with the pool so far, gives what the whole gives.
 use Prim.Native.Nat.{_+_, _-_, _<_}
 use native.Mathlib.Omega.{arith}
 use mathlib.Core.Path.{_≡_, sym, _∙_}

@@ -1,3 +1,4 @@
+-- The pool's top entry decides: the table it names, a new top table, or damage.
 use Rattle.area.specs.Tree.{enterOf}
 use borrow.Author.Needs.{needs}
 use Rattle.area.proofs.enter.Statement.{statement}

@@ -1,3 +1,4 @@
+-- The code subtracts where the definition adds, so that no sum can overflow; either way the two tests agree.
 use Prim.Native.Nat.{_+_, _-_}
 use native.Mathlib.Omega.{arith}
 use Rattle.area.proofs.Laws.{leb-same}

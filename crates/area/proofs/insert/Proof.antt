@@ -1,3 +1,4 @@
+-- A path of k indexes is index k - 1 and the rest, as k is not 0; then the room that is found decides.
 use Prim.Native.Nat.{_-_}
 use native.Mathlib.Omega.{arith}
 use mathlib.Core.Path.{_≡_, ap, _∙_}

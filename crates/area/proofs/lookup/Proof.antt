@@ -1,3 +1,4 @@
+-- The loop goes down the path: the lookup of what is left, from the entry at hand with the words read, is the whole lookup.
 use Prim.Native.Nat.{_+_, _-_, _≤_}
 use native.Mathlib.Omega.{arith}
 use mathlib.Core.Path.{_≡_, sym, _∙_}

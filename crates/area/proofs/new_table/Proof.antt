@@ -1,3 +1,4 @@
+-- The frame taken lies in the area, so its header can be written; where none is taken that is the answer.
 use native.Mathlib.Omega.{arith}
 use Rattle.area.specs.Tree.{tableOf}
 use Rattle.pool.proofs.Laws.{take-good}

@@ -1,3 +1,4 @@
+-- The frame handed out lies in the area, so the top entry made of it fits a word; without one nothing is added.
 use native.Mathlib.Omega.{arith}
 use Rattle.pool.specs.Pool.{link}
 use Rattle.area.specs.Tree.{topOf}

@@ -1,3 +1,4 @@
+-- The top table that is entered lies in the area, so the descent may start in it; without one it is damage.
 use native.Mathlib.Omega.{arith}
 use Rattle.area.specs.Tree.{placeOf}
 use Rattle.area.proofs.Laws.{enter-good}

@@ -1,3 +1,4 @@
+-- A lookup reads at most a word for each index of the path, so k - n, the tables that lack, does not go below 0.
 use native.Mathlib.Omega.{arith}
 use Rattle.spec.specs.Entry.{indexes}
 use Rattle.area.specs.Tree.{roomOf}

@@ -1,3 +1,4 @@
+-- Where the address has too many bits both sides say no; else both test the remainder by 8.
 use borrow.Author.Needs.{needs}
 use Rattle.calls.proofs.address_ok.Statement.{statement}
 use Rattle.calls.proofs.address_ok.Tie as tie

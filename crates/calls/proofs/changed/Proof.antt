@@ -1,3 +1,4 @@
+-- A refusal comes first; then what the frame's host walk was: mapped, so paths may go, or absent, or damage.
 use borrow.Author.Tests.{eq-eqb, ne-eqb}
 use borrow.Author.Needs.{needs}
 use Rattle.calls.proofs.changed.Statement.{statement}

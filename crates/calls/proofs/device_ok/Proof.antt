@@ -1,3 +1,4 @@
+-- The shift leaves 0 exactly if the address is below that power of two; then both sides test the remainder by 8.
 use Prim.Native.Nat.{_+_}
 use borrow.Author.Tests.{eq-eqb, ne-eqb}
 use Rattle.spec.specs.Config.{frameBits}

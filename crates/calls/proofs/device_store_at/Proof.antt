@@ -1,3 +1,4 @@
+-- Refusals 3 and 4 by their tests; the record's rule gives the levels and ranges that the store below asks for.
 use mathlib.Core.Path.{sym, ap, _∙_}
 use borrow.Author.Tests.{not-true, not-false}
 use Rattle.record.specs.Record.{recordBy, headTables}

@@ -1,3 +1,4 @@
+-- Its pool is the one from which nothing was handed out, by the promise of that call.
 use borrow.Author.Needs.{needs}
 use Rattle.calls.proofs.held_none.Statement.{statement}
 use Rattle.calls.proofs.held_none.Tie as tie

@@ -1,3 +1,4 @@
+-- Refusals 3 and 4 by their tests; a record that fits has its layout and what it holds in range, its marks give the depth.
 use mathlib.Core.Path.{sym, ap, _∙_}
 use borrow.Author.Tests.{not-true, not-false}
 use Rattle.record.specs.Record.{recordBy, headTables}

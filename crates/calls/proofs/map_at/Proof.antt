@@ -1,3 +1,4 @@
+-- The host walk comes before the change, on the same memory as in the definition; the record's rule gives all ranges.
 use Rattle.calls.specs.Calls.{changedBy}
 use mathlib.Core.Path.{sym, ap₂, _∙_}
 use borrow.Author.Tests.{not-true, not-false}

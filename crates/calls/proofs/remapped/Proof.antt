@@ -1,3 +1,4 @@
+-- The root's own frame drops all paths without a scan; any other frame is scanned for, and damage is 11.
 use borrow.Author.Tests.{eq-eqb, ne-eqb, not-true, not-false}
 use Rattle.calls.specs.Calls.{unmappedOf}
 use borrow.Author.Needs.{needs}

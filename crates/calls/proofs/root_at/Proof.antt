@@ -1,3 +1,4 @@
+-- Refusals 3 and 8 by their tests; past them the head is emptied of held paths and then given its root.
 use mathlib.Core.Path.{sym, _∙_}
 use borrow.Author.Tests.{not-true, not-false}
 use Rattle.record.specs.Record.{recordBy}

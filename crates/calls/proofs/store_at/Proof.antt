@@ -1,3 +1,4 @@
+-- Refusals 3 and 4 by their tests; past them the record's rule gives the ranges, and what is served below is the reply.
 use mathlib.Core.Path.{sym, ap, _∙_}
 use borrow.Author.Tests.{not-true, not-false}
 use Rattle.record.specs.Record.{recordBy, headTables}

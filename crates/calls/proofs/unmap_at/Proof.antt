@@ -1,3 +1,4 @@
+-- Refusal 3 by its test; then the walk before the change and the change itself go on to `changed`, as in the definition.
 use Rattle.calls.specs.Calls.{changedBy}
 use mathlib.Core.Path.{sym, ap₂, _∙_}
 use borrow.Author.Tests.{not-true, not-false}

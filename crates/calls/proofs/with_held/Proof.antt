@@ -1,3 +1,4 @@
+-- One call, whose promise is the definition: the host pool stays, shadow pool and frame are what is held.
 use Rattle.calls.specs.Calls.{headHeld}
 use borrow.Author.Needs.{needs}
 use Rattle.calls.proofs.with_held.Statement.{statement}

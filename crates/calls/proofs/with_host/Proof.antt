@@ -1,3 +1,4 @@
+-- One call, whose promise is the definition: only the host pool is another.
 use Rattle.calls.specs.Calls.{headHost}
 use borrow.Author.Needs.{needs}
 use Rattle.calls.proofs.with_host.Statement.{statement}

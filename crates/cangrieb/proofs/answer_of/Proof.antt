@@ -1,3 +1,4 @@
+-- One arm for each kind of answer; a fault's letter, level and frame are what their calls promise.
 use borrow.Author.Needs.{needs}
 use Rattle.cangrieb.proofs.answer_of.Statement.{statement}
 use Rattle.cangrieb.proofs.answer_of.Tie as tie

@@ -1,3 +1,4 @@
+-- The record that head and places say goes through the call by value; both are overwritten from its reply.
 use borrow.Author.Needs.{needs}
 use Rattle.cangrieb.proofs.cangrieb_clear_mark.Statement.{statement}
 use Rattle.cangrieb.proofs.cangrieb_clear_mark.Tie as tie

@@ -1,3 +1,4 @@
+-- The words say the head, and the call in parts is given it; what is held then is written back, the places stay.
 use Rattle.cangrieb.specs.Flat.{leftOf}
 use mathlib.Core.Path.{ap}
 use borrow.Author.Needs.{needs}

@@ -1,3 +1,4 @@
+-- The words lent are not read: both parts are overwritten from the record that the opening hands back.
 use borrow.Author.Needs.{needs}
 use Rattle.cangrieb.proofs.cangrieb_open.Statement.{statement}
 use Rattle.cangrieb.proofs.cangrieb_open.Tie as tie

@@ -1,3 +1,4 @@
+-- As a mark changes the places too, the record goes by value, and the reply's record overwrites both parts.
 use borrow.Author.Needs.{needs}
 use Rattle.cangrieb.proofs.cangrieb_set_mark.Statement.{statement}
 use Rattle.cangrieb.proofs.cangrieb_set_mark.Tie as tie

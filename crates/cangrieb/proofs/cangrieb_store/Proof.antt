@@ -1,3 +1,4 @@
+-- What is held after the call in parts goes into the head's words for it, and the answer becomes seven numbers.
 use Rattle.cangrieb.specs.Flat.{leftOf}
 use mathlib.Core.Path.{ap}
 use borrow.Author.Needs.{needs}

@@ -1,3 +1,4 @@
+-- The head by its promise, and the places as they are lent.
 use borrow.Author.Needs.{needs}
 use Rattle.cangrieb.proofs.record_in.Statement.{statement}
 use Rattle.cangrieb.proofs.record_in.Tie as tie

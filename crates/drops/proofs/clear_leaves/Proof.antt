@@ -1,3 +1,4 @@
+-- Invariant: clearing on from i, in the memory so far, ends as clearing all from lo on; a damaged entry ends it there.
 use mathlib.Core.Path.{_≡_, refl, _∙_}
 use Prim.Native.Nat.{_-_, _≤_}
 use native.Mathlib.Omega.{arith}
@@ -28,19 +29,35 @@ loop-less : tie.Need-loop-less Inv-loop μ-loop
 loop-less c = search needs
 
 loop-again : tie.Need-loop-again Inv-loop μ-loop
-loop-again c = (omega (arith, c .before .before .before .before .before .before .loop .inv .0), omega arith, c .before .before .before .clear-one .kept .0 ∙ c .before .before .before .before .before .before .loop .inv .2, rw (clear-step (config (c .before .before .before .before .before .before .before .before .args .layout)) (c .before .before .before .before .before .before .before .before .args .cut) (c .before .before .before .before .before .before .before .before .args .all) (c .before .before .before .before .before .before .before .before .args .lowest) (c .before .before .before .before .before .before .before .before .args .frame) (c .before .before .before .before .before .before .before .before .args .hi) (c .before .before .before .before .before .before .loop .i) (c .before .before .before .before .before .before .loop .mem) (c .before .before .before .before .before .loop-test .taken), ← c .before .before .before .clear-one .ensures, c .if1 .taken) at (c .before .before .before .before .before .before .loop .inv .3))
+loop-again c =
+    let args = c .before .before .before .before .before .before .before .before .args in
+    let loop = c .before .before .before .before .before .before .loop in
+    let loop-test = c .before .before .before .before .before .loop-test in
+    let clear-one = c .before .before .before .clear-one in
+    let if1 = c .if1 in
+    (omega (arith, loop .inv .0), omega arith, clear-one .kept .0 ∙ loop .inv .2, rw (clear-step (config (args .layout)) (args .cut) (args .all) (args .lowest) (args .frame) (args .hi) (loop .i) (loop .mem) (loop-test .taken), ← clear-one .ensures, if1 .taken) at (loop .inv .3))
 
 same-length : tie.Need-same-length Inv-loop μ-loop
 same-length c = search needs
 
 returns : tie.Need-returns Inv-loop μ-loop
-returns c = rw (clear-step (config (c .before .before .before .before .before .before .before .before .args .layout)) (c .before .before .before .before .before .before .before .before .args .cut) (c .before .before .before .before .before .before .before .before .args .all) (c .before .before .before .before .before .before .before .before .args .lowest) (c .before .before .before .before .before .before .before .before .args .frame) (c .before .before .before .before .before .before .before .before .args .hi) (c .before .before .before .before .before .before .loop .i) (c .before .before .before .before .before .before .loop .mem) (c .before .before .before .before .before .loop-test .taken), ← c .before .before .before .clear-one .ensures, c .if1 .left) at (c .before .before .before .before .before .before .loop .inv .3)
+returns c =
+    let args = c .before .before .before .before .before .before .before .before .args in
+    let loop = c .before .before .before .before .before .before .loop in
+    let loop-test = c .before .before .before .before .before .loop-test in
+    let clear-one = c .before .before .before .clear-one in
+    let if1 = c .if1 in
+    rw (clear-step (config (args .layout)) (args .cut) (args .all) (args .lowest) (args .frame) (args .hi) (loop .i) (loop .mem) (loop-test .taken), ← clear-one .ensures, if1 .left) at (loop .inv .3)
 
 same-length-2 : tie.Need-same-length-2 Inv-loop μ-loop
 same-length-2 c = search needs
 
 returns-2 : tie.Need-returns-2 Inv-loop μ-loop
-returns-2 c = rw (clear-none (config (c .before .before .before .args .layout)) (c .before .before .before .args .cut) (c .before .before .before .args .all) (c .before .before .before .args .lowest) (c .before .before .before .args .frame) (c .before .before .before .args .hi) (c .before .loop .i) (c .before .loop .mem) (c .loop-test .left)) at (c .before .loop .inv .3)
+returns-2 c =
+    let args = c .before .before .before .args in
+    let loop = c .before .loop in
+    let loop-test = c .loop-test in
+    rw (clear-none (config (args .layout)) (args .cut) (args .all) (args .lowest) (args .frame) (args .hi) (loop .i) (loop .mem) (loop-test .left)) at (loop .inv .3)
 
 pub clear-leaves-spec : {M : Type 1} → statement M
 clear-leaves-spec =

@@ -1,3 +1,4 @@
+-- By the entry's kind: a leaf is cleared if it goes, damage says no, all others stay as they are.
 use Rattle.drops.specs.Drop.{clearOne}
 use borrow.Author.Needs.{needs}
 use Rattle.drops.proofs.clear_one.Statement.{statement}
@@ -12,11 +13,24 @@ returns c = rw (← c .before .before .before .entry-at .ensures, ← c .before 
 
 returns-2 : tie.Need-returns-2
 unfolding clearOne
-returns-2 c = rw (← c .before .before .before .before .before .before .before .before .before .before .entry-at .ensures, ← c .before .before .before .before .before .before .before .before .before .kind-of .ensures, c .before .before .before .before .before .before .before .enum-told2 .given .1, ← c .before .before .before .before .before .goes .ensures, c .before .before .before .before .if1 .taken, c .before .before .put-entry .ensures)
+returns-2 c =
+    let entry-at = c .before .before .before .before .before .before .before .before .before .before .entry-at in
+    let kind-of = c .before .before .before .before .before .before .before .before .before .kind-of in
+    let enum-told2 = c .before .before .before .before .before .before .before .enum-told2 in
+    let goes = c .before .before .before .before .before .goes in
+    let if1 = c .before .before .before .before .if1 in
+    let put-entry = c .before .before .put-entry in
+    rw (← entry-at .ensures, ← kind-of .ensures, enum-told2 .given .1, ← goes .ensures, if1 .taken, put-entry .ensures)
 
 returns-3 : tie.Need-returns-3
 unfolding clearOne
-returns-3 c = rw (← c .before .before .before .before .before .before .entry-at .ensures, ← c .before .before .before .before .before .kind-of .ensures, c .before .before .before .enum-told2 .given .1, ← c .before .goes .ensures, c .if1 .left)
+returns-3 c =
+    let entry-at = c .before .before .before .before .before .before .entry-at in
+    let kind-of = c .before .before .before .before .before .kind-of in
+    let enum-told2 = c .before .before .before .enum-told2 in
+    let goes = c .before .goes in
+    let if1 = c .if1 in
+    rw (← entry-at .ensures, ← kind-of .ensures, enum-told2 .given .1, ← goes .ensures, if1 .left)
 
 returns-4 : tie.Need-returns-4
 unfolding clearOne

@@ -1,3 +1,4 @@
+-- One arm for each kind of cut; a header's guest frame is small by its bits, so the word of its table can be read.
 use native.Mathlib.Omega.{arith}
 use borrow.Author.Tests.{eq-eqb, ne-eqb}
 use Rattle.pool.proofs.Laws.{guest-small}

@@ -1,3 +1,4 @@
+-- A prefix of no index drops all; else the scan cuts at its last entry, in the table that holds it, if there is one.
 use borrow.Author.Needs.{needs}
 use native.Mathlib.Omega.{arith}
 use mathlib.Core.Path.{_≡_}

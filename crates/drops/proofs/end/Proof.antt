@@ -1,3 +1,4 @@
+-- By the kind of cut; a remainder by 512 leaves room for the 1 that is added.
 use borrow.Author.Needs.{needs}
 use Rattle.drops.proofs.end.Statement.{statement}
 use Rattle.drops.proofs.end.Tie as tie

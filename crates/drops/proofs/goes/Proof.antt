@@ -1,3 +1,4 @@
+-- Where all go the cut is not asked; else its answer is the definition's.
 use Rattle.drops.specs.Drop.{goesOf}
 use borrow.Author.Needs.{needs}
 use Rattle.drops.proofs.goes.Statement.{statement}

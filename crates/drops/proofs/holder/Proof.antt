@@ -1,3 +1,4 @@
+-- The loop goes down the prefix: the holder of what is left, from the entry at hand, is the holder of the whole.
 use mathlib.Core.Path.{_≡_, refl}
 use Prim.Native.Nat.{_-_, _≤_}
 use native.Mathlib.Omega.{arith}
@@ -32,19 +33,39 @@ index-at-requires : tie.Need-index-at-requires Inv-loop μ-loop
 index-at-requires c κs = search needs
 
 entry-at-requires : tie.Need-entry-at-requires Inv-loop μ-loop
-entry-at-requires c κs = let g = rw (← c .before .before .before .before .table-named .ensures, c .before .before .f .given .1) at (named-small (config (c .before .before .before .before .before .before .before .before .args .layout)) (c .before .before .before .before .before .before .loop .at)) in let i = rw (← c .index-at .ensures) at (index-fits (c .before .before .before .before .before .before .loop .left) (c .before .before .before .before .before .before .before .before .args .path)) in (g, i)
+entry-at-requires c κs =
+    let args = c .before .before .before .before .before .before .before .before .args in
+    let loop = c .before .before .before .before .before .before .loop in
+    let table-named = c .before .before .before .before .table-named in
+    let f = c .before .before .f in
+    let index-at = c .index-at in
+    let g = rw (← table-named .ensures, f .given .1) at (named-small (config (args .layout)) (loop .at)) in
+    let i = rw (← index-at .ensures) at (index-fits (loop .left) (args .path)) in
+    (g, i)
 
 enum-told : tie.Need-enum-told Inv-loop μ-loop
 enum-told c = search needs
 
 returns : tie.Need-returns Inv-loop μ-loop
-returns c = rw (holder-step (config (c .before .before .before .before .before .before .args .layout)) (c .before .before .before .before .before .before .args .mem .now) (c .before .before .before .before .loop .at) (c .before .before .before .before .before .before .args .path) (c .before .before .before .before .loop .left) (c .before .before .before .loop-test .taken), ← c .before .before .table-named .ensures, c .enum-told .given .1) at (c .before .before .before .before .loop .inv .1)
+returns c =
+    let args = c .before .before .before .before .before .before .args in
+    let loop = c .before .before .before .before .loop in
+    let loop-test = c .before .before .before .loop-test in
+    let table-named = c .before .before .table-named in
+    let enum-told = c .enum-told in
+    rw (holder-step (config (args .layout)) (args .mem .now) (loop .at) (args .path) (loop .left) (loop-test .taken), ← table-named .ensures, enum-told .given .1) at (loop .inv .1)
 
 enum-told-2 : tie.Need-enum-told-2 Inv-loop μ-loop
 enum-told-2 c = search needs
 
 returns-2 : tie.Need-returns-2 Inv-loop μ-loop
-returns-2 c = rw (holder-step (config (c .before .before .before .before .before .before .args .layout)) (c .before .before .before .before .before .before .args .mem .now) (c .before .before .before .before .loop .at) (c .before .before .before .before .before .before .args .path) (c .before .before .before .before .loop .left) (c .before .before .before .loop-test .taken), ← c .before .before .table-named .ensures, c .enum-told2 .given .1) at (c .before .before .before .before .loop .inv .1)
+returns-2 c =
+    let args = c .before .before .before .before .before .before .args in
+    let loop = c .before .before .before .before .loop in
+    let loop-test = c .before .before .before .loop-test in
+    let table-named = c .before .before .table-named in
+    let enum-told2 = c .enum-told2 in
+    rw (holder-step (config (args .layout)) (args .mem .now) (loop .at) (args .path) (loop .left) (loop-test .taken), ← table-named .ensures, enum-told2 .given .1) at (loop .inv .1)
 
 sub-left-2 : tie.Need-sub-left-2 Inv-loop μ-loop
 sub-left-2 c = search needs
@@ -53,7 +74,15 @@ loop-less : tie.Need-loop-less Inv-loop μ-loop
 loop-less c = search needs
 
 loop-again : tie.Need-loop-again Inv-loop μ-loop
-loop-again c = (omega (arith, c .before .before .before .before .before .before .before .loop .inv .0), rw (c .entry-at .ensures, c .before .index-at .ensures) (rw (holder-step (config (c .before .before .before .before .before .before .before .before .before .args .layout)) (c .before .before .before .before .before .before .before .before .before .args .mem .now) (c .before .before .before .before .before .before .before .loop .at) (c .before .before .before .before .before .before .before .before .before .args .path) (c .before .before .before .before .before .before .before .loop .left) (c .before .before .before .before .before .before .loop-test .taken), ← c .before .before .before .before .before .table-named .ensures, c .before .before .before .f .given .1) at (c .before .before .before .before .before .before .before .loop .inv .1)))
+loop-again c =
+    let args = c .before .before .before .before .before .before .before .before .before .args in
+    let loop = c .before .before .before .before .before .before .before .loop in
+    let loop-test = c .before .before .before .before .before .before .loop-test in
+    let table-named = c .before .before .before .before .before .table-named in
+    let f = c .before .before .before .f in
+    let index-at = c .before .index-at in
+    let entry-at = c .entry-at in
+    (omega (arith, loop .inv .0), rw (entry-at .ensures, index-at .ensures) (rw (holder-step (config (args .layout)) (args .mem .now) (loop .at) (args .path) (loop .left) (loop-test .taken), ← table-named .ensures, f .given .1) at (loop .inv .1)))
 
 table-named-requires-2 : tie.Need-table-named-requires-2 Inv-loop μ-loop
 table-named-requires-2 c κs = search needs

@@ -1,3 +1,4 @@
+-- In a table of level 1 each present entry is a leaf; above it the switch bit says so.
 use Rattle.drops.specs.Cut.{isLeaf}
 use borrow.Author.Needs.{needs}
 use Rattle.drops.proofs.is_leaf.Statement.{statement}

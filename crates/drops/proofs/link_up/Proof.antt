@@ -1,3 +1,4 @@
+-- Parent and slot are small by the header's bits, so the cut can be asked there; a parent outside the area is damage.
 use native.Mathlib.Omega.{arith}
 use Rattle.drops.specs.Cut.{aboveOf}
 use Rattle.pool.proofs.Laws.{parent-small, slot-small}

@@ -1,3 +1,4 @@
+-- The loop climbs the links: what is left of the climb ends as the whole does; a parent is below the frame limit.
 use mathlib.Core.Path.{_≡_, refl}
 use Prim.Native.Nat.{_-_, _<_}
 use native.Mathlib.Omega.{arith}
@@ -25,7 +26,12 @@ enum-told : tie.Need-enum-told Inv-loop μ-loop
 enum-told c = search needs
 
 returns : tie.Need-returns Inv-loop μ-loop
-returns c = rw (up-step (config (c .before .before .before .before .before .before .args .layout)) (c .before .before .before .before .before .before .args .cut) (c .before .before .before .before .before .before .args .mem .now) (c .before .before .before .before .loop .links) (c .before .before .before .before .loop .t) (omega arith), ← c .before .before .link-up .ensures, c .enum-told .given .1) at (c .before .before .before .before .loop .inv .1)
+returns c =
+    let args = c .before .before .before .before .before .before .args in
+    let loop = c .before .before .before .before .loop in
+    let link-up = c .before .before .link-up in
+    let enum-told = c .enum-told in
+    rw (up-step (config (args .layout)) (args .cut) (args .mem .now) (loop .links) (loop .t) (omega arith), ← link-up .ensures, enum-told .given .1) at (loop .inv .1)
 
 enum-known-p : tie.Need-enum-known-p Inv-loop μ-loop
 enum-known-p c = search needs
@@ -34,7 +40,12 @@ enum-told-2 : tie.Need-enum-told-2 Inv-loop μ-loop
 enum-told-2 c = search needs
 
 returns-2 : tie.Need-returns-2 Inv-loop μ-loop
-returns-2 c = rw (up-step (config (c .before .before .before .before .before .before .args .layout)) (c .before .before .before .before .before .before .args .cut) (c .before .before .before .before .before .before .args .mem .now) (c .before .before .before .before .loop .links) (c .before .before .before .before .loop .t) (omega arith), ← c .before .before .link-up .ensures, c .enum-told2 .given .1) at (c .before .before .before .before .loop .inv .1)
+returns-2 c =
+    let args = c .before .before .before .before .before .before .args in
+    let loop = c .before .before .before .before .loop in
+    let link-up = c .before .before .link-up in
+    let enum-told2 = c .enum-told2 in
+    rw (up-step (config (args .layout)) (args .cut) (args .mem .now) (loop .links) (loop .t) (omega arith), ← link-up .ensures, enum-told2 .given .1) at (loop .inv .1)
 
 sub-links : tie.Need-sub-links Inv-loop μ-loop
 sub-links c = search needs
@@ -43,7 +54,13 @@ loop-less : tie.Need-loop-less Inv-loop μ-loop
 loop-less c = search needs
 
 loop-again : tie.Need-loop-again Inv-loop μ-loop
-loop-again c = let g = rw (← c .before .before .before .link-up .ensures, c .before .p .given .1) at (above-small (config (c .before .before .before .before .before .before .before .args .layout)) (c .before .before .before .before .before .before .before .args .cut) (c .before .before .before .before .before .before .before .args .mem .now) (c .before .before .before .before .before .loop .t)) in (omega (arith, g), rw (up-step (config (c .before .before .before .before .before .before .before .args .layout)) (c .before .before .before .before .before .before .before .args .cut) (c .before .before .before .before .before .before .before .args .mem .now) (c .before .before .before .before .before .loop .links) (c .before .before .before .before .before .loop .t) (omega arith), ← c .before .before .before .link-up .ensures, c .before .p .given .1) at (c .before .before .before .before .before .loop .inv .1))
+loop-again c =
+    let args = c .before .before .before .before .before .before .before .args in
+    let loop = c .before .before .before .before .before .loop in
+    let link-up = c .before .before .before .link-up in
+    let p = c .before .p in
+    let g = rw (← link-up .ensures, p .given .1) at (above-small (config (args .layout)) (args .cut) (args .mem .now) (loop .t)) in
+    (omega (arith, g), rw (up-step (config (args .layout)) (args .cut) (args .mem .now) (loop .links) (loop .t) (omega arith), ← link-up .ensures, p .given .1) at (loop .inv .1))
 
 returns-3 : tie.Need-returns-3 Inv-loop μ-loop
 returns-3 c = let z : c .before .loop .links ≡ 0 = omega arith in rw (z, up-none) at (c .before .loop .inv .1)

@@ -1,3 +1,4 @@
+-- By the kind of cut; each arm is the definition's.
 use borrow.Author.Needs.{needs}
 use Rattle.drops.proofs.low.Statement.{statement}
 use Rattle.drops.proofs.low.Tie as tie

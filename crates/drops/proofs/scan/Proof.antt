@@ -1,3 +1,4 @@
+-- Invariant: the scan on from frame i, with pool and memory so far, ends as the whole scan does; damage ends it there.
 use mathlib.Core.Path.{_≡_, refl, _∙_}
 use Prim.Native.Nat.{_-_, _≤_}
 use native.Mathlib.Omega.{arith}
@@ -31,21 +32,39 @@ loop-less : tie.Need-loop-less Inv-loop μ-loop
 loop-less c = search needs
 
 loop-again : tie.Need-loop-again Inv-loop μ-loop
-loop-again c = (omega arith, c .before .before .before .before .visit .kept .0 ∙ c .before .before .before .before .before .before .before .before .loop .inv .1, rw (scan-step (config (c .before .before .before .before .before .before .before .before .before .before .args .layout)) (c .before .before .before .before .before .before .before .before .before .before .args .cut) (c .before .before .before .before .before .before .before .before .before .before .args .pool .fresh) (c .before .before .before .before .before .before .before .before .loop .i) (c .before .before .before .before .before .before .before .before .loop .cur) (c .before .before .before .before .before .before .before .before .loop .mem) (c .before .before .before .before .before .before .before .loop-test .taken), ← c .before .before .before .before .visit .ensures, c .if1 .taken) at (c .before .before .before .before .before .before .before .before .loop .inv .2))
+loop-again c =
+    let args = c .before .before .before .before .before .before .before .before .before .before .args in
+    let loop = c .before .before .before .before .before .before .before .before .loop in
+    let loop-test = c .before .before .before .before .before .before .before .loop-test in
+    let visit = c .before .before .before .before .visit in
+    let if1 = c .if1 in
+    (omega arith, visit .kept .0 ∙ loop .inv .1, rw (scan-step (config (args .layout)) (args .cut) (args .pool .fresh) (loop .i) (loop .cur) (loop .mem) (loop-test .taken), ← visit .ensures, if1 .taken) at (loop .inv .2))
 
 same-length : tie.Need-same-length Inv-loop μ-loop
 same-length c = search needs
 
 returns : tie.Need-returns Inv-loop μ-loop
 unfolding scanOf
-returns c = let z : c .before .before .before .before .before .before .before .before .before .before .args .pool .fresh - 0 ≡ c .before .before .before .before .before .before .before .before .before .before .args .pool .fresh = omega arith in rw (c .if1 .left) (rw (scan-step (config (c .before .before .before .before .before .before .before .before .before .before .args .layout)) (c .before .before .before .before .before .before .before .before .before .before .args .cut) (c .before .before .before .before .before .before .before .before .before .before .args .pool .fresh) (c .before .before .before .before .before .before .before .before .loop .i) (c .before .before .before .before .before .before .before .before .loop .cur) (c .before .before .before .before .before .before .before .before .loop .mem) (c .before .before .before .before .before .before .before .loop-test .taken), ← c .before .before .before .before .visit .ensures, c .if1 .left, z) at (c .before .before .before .before .before .before .before .before .loop .inv .2))
+returns c =
+    let args = c .before .before .before .before .before .before .before .before .before .before .args in
+    let loop = c .before .before .before .before .before .before .before .before .loop in
+    let loop-test = c .before .before .before .before .before .before .before .loop-test in
+    let visit = c .before .before .before .before .visit in
+    let if1 = c .if1 in
+    let z : args .pool .fresh - 0 ≡ args .pool .fresh = omega arith in
+    rw (if1 .left) (rw (scan-step (config (args .layout)) (args .cut) (args .pool .fresh) (loop .i) (loop .cur) (loop .mem) (loop-test .taken), ← visit .ensures, if1 .left, z) at (loop .inv .2))
 
 same-length-2 : tie.Need-same-length-2 Inv-loop μ-loop
 same-length-2 c = search needs
 
 returns-2 : tie.Need-returns-2 Inv-loop μ-loop
 unfolding scanOf
-returns-2 c = let z : c .before .before .before .args .pool .fresh - 0 ≡ c .before .before .before .args .pool .fresh = omega arith in rw (scan-none (config (c .before .before .before .args .layout)) (c .before .before .before .args .cut) (c .before .before .before .args .pool .fresh) (c .before .loop .i) (c .before .loop .cur) (c .before .loop .mem) (c .loop-test .left), z) at (c .before .loop .inv .2)
+returns-2 c =
+    let args = c .before .before .before .args in
+    let loop = c .before .loop in
+    let loop-test = c .loop-test in
+    let z : args .pool .fresh - 0 ≡ args .pool .fresh = omega arith in
+    rw (scan-none (config (args .layout)) (args .cut) (args .pool .fresh) (loop .i) (loop .cur) (loop .mem) (loop-test .left), z) at (loop .inv .2)
 
 pub scan-spec : {M : Type 1} → statement M
 scan-spec =

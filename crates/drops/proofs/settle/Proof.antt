@@ -1,3 +1,4 @@
+-- As many links are climbed as levels stand above n; the release's way then says only whether it met damage.
 use native.Mathlib.Omega.{arith}
 use Rattle.drops.specs.Drop.{settleOf}
 use borrow.Author.Needs.{needs}

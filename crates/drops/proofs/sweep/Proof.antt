@@ -1,3 +1,4 @@
+-- The table is settled in the memory that the clearing left; a damaged entry ends it before that.
 use Rattle.drops.specs.Drop.{sweepOf}
 use borrow.Author.Needs.{needs}
 use Rattle.drops.proofs.sweep.Statement.{statement}

@@ -1,3 +1,4 @@
+-- Of the four kinds of entry only a table leads on, and only damage is told apart from the rest.
 use Rattle.drops.specs.Drop.{tableNamed}
 use borrow.Author.Needs.{needs}
 use Rattle.drops.proofs.table_named.Statement.{statement}

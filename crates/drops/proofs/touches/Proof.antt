@@ -1,3 +1,4 @@
+-- By the kind of cut: the guest frame is compared, any table may be cut, or the frame itself is compared.
 use borrow.Author.Needs.{needs}
 use Rattle.drops.proofs.touches.Statement.{statement}
 use Rattle.drops.proofs.touches.Tie as tie

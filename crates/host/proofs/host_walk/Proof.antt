@@ -1,3 +1,4 @@
+-- The leaf at the end of the guest frame's whole path in the first H frames: code and definition say the same.
 use Rattle.host.specs.Walk.{hostWalkOf}
 use borrow.Author.Needs.{needs}
 use Rattle.host.proofs.host_walk.Statement.{statement}

@@ -1,3 +1,4 @@
+-- Both entries are the definition's, by the flag; a frame below 65,536 leaves room for the low bits.
 use Rattle.area_laws.specs.Host.{hostEntry}
 use borrow.Author.Needs.{needs}
 use Rattle.host.proofs.leaf_word.Statement.{statement}

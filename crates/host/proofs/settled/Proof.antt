@@ -1,3 +1,4 @@
+-- One arm for each way: the new pool and 0, the old pool and the given number, the old pool and 11.
 use borrow.Author.Needs.{needs}
 use Rattle.host.proofs.settled.Statement.{statement}
 use Rattle.host.proofs.settled.Tie as tie

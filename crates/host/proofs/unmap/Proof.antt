@@ -1,3 +1,4 @@
+-- Refusal 8 by its test; else the way of the removal is settled with 12. The layout bounds the host area.
 use native.Mathlib.Omega.{arith}
 use Rattle.host.specs.Map.{unmapOf}
 use borrow.Author.Needs.{needs}
@@ -5,13 +6,21 @@ use Rattle.host.proofs.unmap.Statement.{statement}
 use Rattle.host.proofs.unmap.Tie as tie
 
 remove-requires : tie.Need-remove-requires
-remove-requires c κs = rw (c .before .tables .ensures) (omega (arith, c .before .before .before .before .before .pre), omega (arith, c .before .before .before .before .before .pre), omega (arith, c .before .before .before .before .before .pre))
+remove-requires c κs =
+    let pre = c .before .before .before .before .before .pre in
+    let tables = c .before .tables in
+    rw (tables .ensures) (omega (arith, pre), omega (arith, pre), omega (arith, pre))
 
 returns : tie.Need-returns
 unfolding unmapOf
 returns c =
-    let q = rw (c .before .before .before .before .before .before .tables .ensures) at (c .before .before .before .before .remove .ensures) in
-    rw (← c .before .before .before .before .before .before .before .before .frame-fits .ensures, c .before .before .before .before .before .before .before .if1 .taken, ← q, c .settled .ensures)
+    let frame-fits = c .before .before .before .before .before .before .before .before .frame-fits in
+    let if1 = c .before .before .before .before .before .before .before .if1 in
+    let tables = c .before .before .before .before .before .before .tables in
+    let remove = c .before .before .before .before .remove in
+    let settled = c .settled in
+    let q = rw (tables .ensures) at (remove .ensures) in
+    rw (← frame-fits .ensures, if1 .taken, ← q, settled .ensures)
 
 returns-2 : tie.Need-returns-2
 unfolding unmapOf

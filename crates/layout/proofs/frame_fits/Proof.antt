@@ -1,3 +1,4 @@
+-- A shift by the frame bits leaves 0 exactly if the number is below their power of two.
 use Rattle.spec.specs.Config.{frameBits}
 use Rattle.layout.specs.Layout.{config}
 use Rattle.entry.proofs.Entries.{shift-out}

@@ -1,3 +1,4 @@
+-- The guest area's first frame is the sum of two sizes, small by the layout; then the tests are the definition's.
 use borrow.Author.Tests.{le-leb, lt-leb}
 use borrow.Author.Needs.{needs}
 use Rattle.layout.proofs.in_guest_area.Statement.{statement}

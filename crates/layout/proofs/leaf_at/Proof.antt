@@ -1,3 +1,4 @@
+-- The lookup comes to an entry, whose leaf is the answer, or to damage.
 use borrow.Author.Needs.{needs}
 use Rattle.layout.proofs.leaf_at.Statement.{statement}
 use Rattle.layout.proofs.leaf_at.Tie as tie

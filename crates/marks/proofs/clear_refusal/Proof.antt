@@ -21,11 +21,27 @@ key-of-requires c κs = omega (arith, level-below (c .before .before .before .be
 
 returns-3 : tie.Need-returns-3
 unfolding clearRefusal
-returns-3 c = rw (← c .before .before .before .before .before .before .fits2 .ensures, not-false (c .before .before .before .before .before .before .fits2 .result) (c .before .before .before .before .before .if1 .left), ← c .before .before .before .before .level-fits .ensures, not-false (c .before .before .before .before .level-fits .result) (c .before .before .before .if2 .left), ← c .before .before .key-of .ensures, ← c .before .holds .ensures, c .if3 .taken)
+returns-3 c =
+    let fits2 = c .before .before .before .before .before .before .fits2 in
+    let if1 = c .before .before .before .before .before .if1 in
+    let level-fits = c .before .before .before .before .level-fits in
+    let if2 = c .before .before .before .if2 in
+    let key-of = c .before .before .key-of in
+    let holds = c .before .holds in
+    let if3 = c .if3 in
+    rw (← fits2 .ensures, not-false (fits2 .result) (if1 .left), ← level-fits .ensures, not-false (level-fits .result) (if2 .left), ← key-of .ensures, ← holds .ensures, if3 .taken)
 
 returns-4 : tie.Need-returns-4
 unfolding clearRefusal
-returns-4 c = rw (← c .before .before .before .before .before .before .fits2 .ensures, not-false (c .before .before .before .before .before .before .fits2 .result) (c .before .before .before .before .before .if1 .left), ← c .before .before .before .before .level-fits .ensures, not-false (c .before .before .before .before .level-fits .result) (c .before .before .before .if2 .left), ← c .before .before .key-of .ensures, ← c .before .holds .ensures, c .if3 .left)
+returns-4 c =
+    let fits2 = c .before .before .before .before .before .before .fits2 in
+    let if1 = c .before .before .before .before .before .if1 in
+    let level-fits = c .before .before .before .before .level-fits in
+    let if2 = c .before .before .before .if2 in
+    let key-of = c .before .before .key-of in
+    let holds = c .before .holds in
+    let if3 = c .if3 in
+    rw (← fits2 .ensures, not-false (fits2 .result) (if1 .left), ← level-fits .ensures, not-false (level-fits .result) (if2 .left), ← key-of .ensures, ← holds .ensures, if3 .left)
 
 pub clear-refusal-spec : {M : Type 1} → statement M
 clear-refusal-spec =

@@ -24,19 +24,45 @@ key-of-requires c κs = omega (arith, level-below (c .before .before .before .be
 
 returns-3 : tie.Need-returns-3
 unfolding setRefusal
-returns-3 c = rw (← c .before .before .before .before .before .before .fits2 .ensures, not-false (c .before .before .before .before .before .before .fits2 .result) (c .before .before .before .before .before .if1 .left), ← c .before .before .before .before .level-fits .ensures, not-false (c .before .before .before .before .level-fits .result) (c .before .before .before .if2 .left), ← c .before .before .key-of .ensures, ← c .before .holds .ensures, c .if3 .taken)
+returns-3 c =
+    let fits2 = c .before .before .before .before .before .before .fits2 in
+    let if1 = c .before .before .before .before .before .if1 in
+    let level-fits = c .before .before .before .before .level-fits in
+    let if2 = c .before .before .before .if2 in
+    let key-of = c .before .before .key-of in
+    let holds = c .before .holds in
+    let if3 = c .if3 in
+    rw (← fits2 .ensures, not-false (fits2 .result) (if1 .left), ← level-fits .ensures, not-false (level-fits .result) (if2 .left), ← key-of .ensures, ← holds .ensures, if3 .taken)
 
 returns-4 : tie.Need-returns-4
 unfolding setRefusal
 returns-4 c =
-    let free : length (keys (c .before .before .before .before .before .before .before .before .before .args .place .now) (c .before .before .before .before .before .before .before .before .before .args .set)) < 64 = omega (arith, c .before .count .ensures, keys-count (c .before .before .before .before .before .before .before .before .before .args .place .now) (c .before .before .before .before .before .before .before .before .before .args .set) (omega arith)) in
-    rw (← c .before .before .before .before .before .before .before .before .fits2 .ensures, not-false (c .before .before .before .before .before .before .before .before .fits2 .result) (c .before .before .before .before .before .before .before .if1 .left), ← c .before .before .before .before .before .before .level-fits .ensures, not-false (c .before .before .before .before .before .before .level-fits .result) (c .before .before .before .before .before .if2 .left), ← c .before .before .before .before .key-of .ensures, ← c .before .before .before .holds .ensures, c .before .before .if3 .left, lt-ltb _ 64 free)
+    let args = c .before .before .before .before .before .before .before .before .before .args in
+    let fits2 = c .before .before .before .before .before .before .before .before .fits2 in
+    let if1 = c .before .before .before .before .before .before .before .if1 in
+    let level-fits = c .before .before .before .before .before .before .level-fits in
+    let if2 = c .before .before .before .before .before .if2 in
+    let key-of = c .before .before .before .before .key-of in
+    let holds = c .before .before .before .holds in
+    let if3 = c .before .before .if3 in
+    let count = c .before .count in
+    let free : length (keys (args .place .now) (args .set)) < 64 = omega (arith, count .ensures, keys-count (args .place .now) (args .set) (omega arith)) in
+    rw (← fits2 .ensures, not-false (fits2 .result) (if1 .left), ← level-fits .ensures, not-false (level-fits .result) (if2 .left), ← key-of .ensures, ← holds .ensures, if3 .left, lt-ltb _ 64 free)
 
 returns-5 : tie.Need-returns-5
 unfolding setRefusal
 returns-5 c =
-    let full : 64 ≤ length (keys (c .before .before .before .before .before .before .before .before .before .args .place .now) (c .before .before .before .before .before .before .before .before .before .args .set)) = omega (arith, c .before .count .ensures, keys-count (c .before .before .before .before .before .before .before .before .before .args .place .now) (c .before .before .before .before .before .before .before .before .before .args .set) (omega arith)) in
-    rw (← c .before .before .before .before .before .before .before .before .fits2 .ensures, not-false (c .before .before .before .before .before .before .before .before .fits2 .result) (c .before .before .before .before .before .before .before .if1 .left), ← c .before .before .before .before .before .before .level-fits .ensures, not-false (c .before .before .before .before .before .before .level-fits .result) (c .before .before .before .before .before .if2 .left), ← c .before .before .before .before .key-of .ensures, ← c .before .before .before .holds .ensures, c .before .before .if3 .left, le-ltb _ 64 full)
+    let args = c .before .before .before .before .before .before .before .before .before .args in
+    let fits2 = c .before .before .before .before .before .before .before .before .fits2 in
+    let if1 = c .before .before .before .before .before .before .before .if1 in
+    let level-fits = c .before .before .before .before .before .before .level-fits in
+    let if2 = c .before .before .before .before .before .if2 in
+    let key-of = c .before .before .before .before .key-of in
+    let holds = c .before .before .before .holds in
+    let if3 = c .before .before .if3 in
+    let count = c .before .count in
+    let full : 64 ≤ length (keys (args .place .now) (args .set)) = omega (arith, count .ensures, keys-count (args .place .now) (args .set) (omega arith)) in
+    rw (← fits2 .ensures, not-false (fits2 .result) (if1 .left), ← level-fits .ensures, not-false (level-fits .result) (if2 .left), ← key-of .ensures, ← holds .ensures, if3 .left, le-ltb _ 64 full)
 
 pub set-refusal-spec : {M : Type 1} → statement M
 set-refusal-spec =

@@ -1,3 +1,4 @@
+-- The loop comes down from 512: while no entry from k on is present, the first k are bare exactly if all 512 are.
 use Prim.Native.Nat.{_≤_}
 use native.Mathlib.Omega.{arith}
 use mathlib.Core.Path.{_≡_, refl}

@@ -1,3 +1,4 @@
+-- The word read, less its header bits: the definition takes the same remainder.
 use Rattle.pool.specs.Header.{entryIn}
 use borrow.Author.Needs.{needs}
 use Rattle.pool.proofs.entry_at.Statement.{statement}

@@ -1,3 +1,4 @@
+-- Three ends, as the definition has them: not present, in the area, outside it.
 use Rattle.pool.specs.Pool.{followOf}
 use borrow.Author.Needs.{needs}
 use Rattle.pool.proofs.follow.Statement.{statement}

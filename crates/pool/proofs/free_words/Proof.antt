@@ -1,3 +1,4 @@
+-- Word 0 gets the link, then word 1 is cleared: the definition's two stores, in its order.
 use Rattle.pool.specs.Pool.{freeWords}
 use borrow.Author.Needs.{needs}
 use Rattle.pool.proofs.free_words.Statement.{statement}

@@ -1,3 +1,4 @@
+-- The header's frame number in words 0 and 1, which the call reads just as the definition says.
 use Rattle.pool.specs.Header.{guestOf}
 use borrow.Author.Needs.{needs}
 use Rattle.pool.proofs.guest.Statement.{statement}

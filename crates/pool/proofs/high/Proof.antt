@@ -1,3 +1,4 @@
+-- The word read, divided by the entry limit as in the definition.
 use Rattle.pool.specs.Header.{highOf}
 use borrow.Author.Needs.{needs}
 use Rattle.pool.proofs.high.Statement.{statement}

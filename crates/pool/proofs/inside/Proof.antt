@@ -1,3 +1,4 @@
+-- Where f is not below the base both sides compare the same difference; below it both say no.
 use borrow.Author.Tests.{lt-ltb, le-ltb}
 use Rattle.pool.specs.Header.{insideOf}
 use Rattle.pool.proofs.inside.Statement.{statement}

@@ -1,3 +1,4 @@
+-- Three bits of the high part of word 1: what the call reads is the definition's high part.
 use Rattle.pool.specs.Header.{levelOf}
 use borrow.Author.Needs.{needs}
 use Rattle.pool.proofs.level.Statement.{statement}

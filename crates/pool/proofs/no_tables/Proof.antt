@@ -1,3 +1,4 @@
+-- The definition's four zeros, field by field.
 use mathlib.Core.Path.{refl}
 use Rattle.pool.specs.Pool.{noneOf}
 use Rattle.pool.proofs.no_tables.Statement.{statement}

@@ -1,3 +1,4 @@
+-- The header's frame number in words 2 and 3, which the call reads just as the definition says.
 use Rattle.pool.specs.Header.{parentOf}
 use borrow.Author.Needs.{needs}
 use Rattle.pool.proofs.parent.Statement.{statement}

@@ -1,3 +1,4 @@
+-- The word stored has the header bits of the word read and the low 52 bits of e; the two share no bit, so their sum fits.
 use Rattle.pool.specs.Header.{putOf}
 use borrow.Author.Needs.{needs}
 use Rattle.pool.proofs.put_entry.Statement.{statement}

@@ -1,3 +1,4 @@
+-- Nine bits of the high part of word 4: what the call reads is the definition's high part.
 use Rattle.pool.specs.Header.{slotOf}
 use borrow.Author.Needs.{needs}
 use Rattle.pool.proofs.slot.Statement.{statement}

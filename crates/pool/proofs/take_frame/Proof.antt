@@ -1,3 +1,4 @@
+-- By room first, then by where the list of freed frames leads; a frame it leads to lies in the area, so below the limit.
 use native.Mathlib.Omega.{arith}
 use borrow.Author.Tests.{lt-ltb, le-ltb}
 use Rattle.pool.specs.Pool.{takeOf}

@@ -1,3 +1,4 @@
+-- The link is read before the frame is set to 0, so it is the old memory's, as in the definition.
 use Rattle.pool.specs.Pool.{freedOf}
 use borrow.Author.Needs.{needs}
 use Rattle.pool.proofs.take_freed.Statement.{statement}

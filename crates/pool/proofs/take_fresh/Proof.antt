@@ -1,3 +1,4 @@
+-- One test: the next frame lies in the area and is set to 0, or the count of frames handed out is past it, which is damage.
 use borrow.Author.Tests.{lt-ltb, le-ltb}
 use Rattle.pool.specs.Pool.{freshOf}
 use borrow.Author.Needs.{needs}

@@ -1,3 +1,4 @@
+-- Where nothing is in use the definition's subtraction stays at 0, so both arms of the code are its one line.
 use Prim.Native.Nat.{_-_}
 use native.Mathlib.Omega.{arith}
 use mathlib.Core.Path.{_≡_, refl}

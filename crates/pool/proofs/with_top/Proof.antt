@@ -1,3 +1,4 @@
+-- By the definition: the other three fields are the pool's own.
 use mathlib.Core.Path.{refl}
 use Rattle.pool.specs.Pool.{withTop}
 use Rattle.pool.proofs.with_top.Statement.{statement}

@@ -1,3 +1,4 @@
+-- Five stores, one for each header word: each promise names the memory before it, as the definition nests them.
 use Rattle.pool.specs.Header.{headOf}
 use borrow.Author.Needs.{needs}
 use Rattle.pool.proofs.write_header.Statement.{statement}

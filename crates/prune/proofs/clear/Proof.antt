@@ -1,3 +1,4 @@
+-- The entry decides: if it is present, the tables are released in the memory in which it is 0, else nothing changes.
 use borrow.Author.Needs.{needs}
 use Rattle.prune.specs.Remove.{clearOf}
 use Rattle.prune.proofs.clear.Statement.{statement}

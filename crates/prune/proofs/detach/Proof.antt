@@ -1,3 +1,4 @@
+-- Parent and slot are small by the header's own bits, whatever the memory holds, so the entry above can be cleared.
 use native.Mathlib.Omega.{arith}
 use Rattle.prune.specs.Remove.{detachOf}
 use Rattle.pool.proofs.Laws.{parent-small, slot-small}

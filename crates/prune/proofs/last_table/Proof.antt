@@ -1,3 +1,4 @@
+-- The loop goes down the path: the table that ends what is left, from the entry at hand, is the one that ends the whole.
 use Prim.Native.Nat.{_≤_}
 use native.Mathlib.Omega.{arith}
 use mathlib.Core.Path.{_≡_, sym, _∙_}

@@ -1,3 +1,4 @@
+-- The loop climbs from table to table: what is left of the release gives the whole; a table climbed to lies in the area.
 use Prim.Native.Nat.{_<_}
 use native.Mathlib.Omega.{arith}
 use mathlib.Core.Path.{_≡_, refl, _∙_}

@@ -1,3 +1,4 @@
+-- Three ends: the top table stays by the flag, goes since it is bare, or stays since it is not.
 use Rattle.prune.specs.Remove.{releaseTop}
 use borrow.Author.Needs.{needs}
 use Rattle.prune.proofs.release_top.Statement.{statement}

@@ -1,3 +1,4 @@
+-- The path's last index is index 0 of g, under k - 1 tables; a frame that was followed to is below the frame limit.
 use Prim.Native.Nat.{_-_}
 use native.Mathlib.Omega.{arith}
 use Rattle.spec.specs.Entry.{index, indexes}

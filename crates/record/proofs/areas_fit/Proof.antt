@@ -1,3 +1,4 @@
+-- The code subtracts H where the rule adds H and S, so that no sum can overflow; `below` says that the tests agree.
 use Prim.Native.Nat.{_+_}
 use native.Mathlib.Omega.{arith}
 use borrow.Author.Tests.{le-leb, lt-leb, le-ltb}

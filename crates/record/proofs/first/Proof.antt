@@ -1,3 +1,4 @@
+-- The shadow pool and the marks are the empty ones, by the promises of the calls that make them.
 use Rattle.record.specs.Open.{firstOf}
 use borrow.Author.Needs.{needs}
 use Rattle.record.proofs.first.Statement.{statement}

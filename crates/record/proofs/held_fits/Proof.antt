@@ -1,3 +1,4 @@
+-- 0 says that no frame is held; any other frame is tested against the guest area, as in the rule.
 use borrow.Author.Tests.{eq-eqb, ne-eqb}
 use borrow.Author.Needs.{needs}
 use Rattle.record.proofs.held_fits.Statement.{statement}

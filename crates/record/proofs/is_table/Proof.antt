@@ -1,3 +1,4 @@
+-- The low 12 bits are a link's or not; then the frame number is tested against the area.
 use borrow.Author.Tests.{eq-eqb, ne-eqb}
 use Rattle.record.specs.Record.{isTable}
 use borrow.Author.Needs.{needs}

@@ -1,3 +1,4 @@
+-- By the refusal's number: zeros and an unchanged memory, or a granted opening, where H + S is bounded by the sizes that fit.
 use mathlib.Core.Path.{sym, _∙_}
 use native.Mathlib.Omega.{arith}
 use lib.ListN.{length}

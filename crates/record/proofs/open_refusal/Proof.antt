@@ -1,3 +1,4 @@
+-- The words are tested before the areas, in the order of the rule's list; 0 says that no test failed.
 use borrow.Author.Tests.{not-true, not-false}
 use Rattle.spec.specs.Refusal.{openRefusal}
 use Rattle.record.specs.Open.{refusalOf}

@@ -1,3 +1,4 @@
+-- Each test that fails ends the rule with no; a top entry of 0 needs no further test.
 use borrow.Author.Tests.{le-leb, lt-leb, eq-eqb, ne-eqb}
 use Rattle.record.specs.Record.{poolFits}
 use borrow.Author.Needs.{needs}

@@ -1,3 +1,4 @@
+-- The frames are tested before the length, so that their words cannot overflow; all must hold, so the order is free.
 use borrow.Author.Tests.{le-ltb}
 use Rattle.spec.specs.Refusal.{areasFit}
 use Rattle.layout.specs.Layout.{config}

@@ -1,3 +1,4 @@
+-- Four tests in the rule's order: the held frame, the top host table, the host pool, the shadow pool.
 use borrow.Author.Tests.{not-true, not-false}
 use Rattle.record.specs.Record.{poolsFit, tablesFit}
 use borrow.Author.Needs.{needs}

@@ -1,3 +1,4 @@
+-- One step of a walk, with every right; it arrives in the guest area, so the word can be written there.
 use Prim.Native.Nat.{_/_}
 use native.Mathlib.Omega.{arith}
 use Rattle.spec.specs.Entry.{pageOf}

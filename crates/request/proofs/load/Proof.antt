@@ -1,3 +1,4 @@
+-- A translation arrives in the guest area, so the word can be read; a fault goes on as it is, damage is 11.
 use native.Mathlib.Omega.{arith}
 use mathlib.Core.Bool.{false}
 use Rattle.words.specs.After.{yields}

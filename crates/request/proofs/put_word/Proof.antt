@@ -1,3 +1,4 @@
+-- Not watched, watched and the paths dropped, or damage met: in the last the word is not written.
 use borrow.Author.Tests.{not-true, not-false}
 use Rattle.request.specs.Access.{putOf}
 use borrow.Author.Needs.{needs}

@@ -1,3 +1,4 @@
+-- The index by its promise, which also bounds it by 512; then the word is the definition's.
 use borrow.Author.Needs.{needs}
 use Rattle.request.proofs.read_word.Statement.{statement}
 use Rattle.request.proofs.read_word.Tie as tie

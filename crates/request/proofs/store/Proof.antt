@@ -1,3 +1,4 @@
+-- What a translation leaves has a pool in range, at most 2 exits and a page in the guest area: all that the writing asks for.
 use native.Mathlib.Omega.{arith}
 use mathlib.Core.Bool.{true}
 use Rattle.words.specs.After.{yields}

@@ -1,3 +1,4 @@
+-- By the definition; a remainder by 4096, divided by 8, is below 512.
 use mathlib.Core.Path.{refl}
 use native.Mathlib.Omega.{arith}
 use Rattle.spec.specs.Entry.{wordOf}

@@ -1,3 +1,4 @@
+-- Writing the word adds at most one exit, so the sum fits; where it met damage, the answer is 11 and what was held before.
 use native.Mathlib.Omega.{arith}
 use Rattle.spec.specs.Entry.{wordOf}
 use Rattle.layout.specs.Layout.{config}

@@ -1,3 +1,4 @@
+-- The bits add at most 515 to a frame number of 40 bits shifted by 12, so no sum overflows.
 use native.Mathlib.Omega.{arith}
 use Rattle.shadow.specs.Held.{entryFor}
 use Rattle.shadow.proofs.Laws.{bit-small}

@@ -1,3 +1,4 @@
+-- The first insert's way decides; only where it found no room is it tried again, from an empty pool, on the same area.
 use native.Mathlib.Omega.{arith}
 use Rattle.shadow.specs.Fill.{fillOf}
 use borrow.Author.Needs.{needs}

@@ -1,3 +1,4 @@
+-- The leaf at the end of the path in the S frames after the host's: code and definition say the same.
 use Rattle.shadow.specs.Held.{heldOf}
 use borrow.Author.Needs.{needs}
 use Rattle.shadow.proofs.held.Statement.{statement}

@@ -1,3 +1,4 @@
+-- The loop comes down over the frames handed out: none from k on watches, so any does exactly if one of the first k does.
 use mathlib.Core.Path.{_≡_, refl}
 use Prim.Native.Nat.{_-_, _≤_}
 use native.Mathlib.Omega.{arith}
@@ -27,13 +28,25 @@ watches-requires c κs = search needs
 
 returns : tie.Need-returns Inv-loop μ-loop
 unfolding watchedOf
-returns c = rw (watched-step (c .before .before .before .before .before .before .args .mem .now) (c .before .before .before .before .before .before .args .layout .hosts) (c .before .before .before .before .before .before .args .frame .0) (c .before .before .before .before .loop .k) (c .before .before .before .loop-test .taken), ← c .before .watches .ensures, c .if1 .taken) at (c .before .before .before .before .loop .inv .1)
+returns c =
+    let args = c .before .before .before .before .before .before .args in
+    let loop = c .before .before .before .before .loop in
+    let loop-test = c .before .before .before .loop-test in
+    let watches = c .before .watches in
+    let if1 = c .if1 in
+    rw (watched-step (args .mem .now) (args .layout .hosts) (args .frame .0) (loop .k) (loop-test .taken), ← watches .ensures, if1 .taken) at (loop .inv .1)
 
 loop-less : tie.Need-loop-less Inv-loop μ-loop
 loop-less c = search needs
 
 loop-again : tie.Need-loop-again Inv-loop μ-loop
-loop-again c = (omega (arith, c .before .before .before .before .loop .inv .0), rw (watched-step (c .before .before .before .before .before .before .args .mem .now) (c .before .before .before .before .before .before .args .layout .hosts) (c .before .before .before .before .before .before .args .frame .0) (c .before .before .before .before .loop .k) (c .before .before .before .loop-test .taken), ← c .before .watches .ensures, c .if1 .left) at (c .before .before .before .before .loop .inv .1))
+loop-again c =
+    let args = c .before .before .before .before .before .before .args in
+    let loop = c .before .before .before .before .loop in
+    let loop-test = c .before .before .before .loop-test in
+    let watches = c .before .watches in
+    let if1 = c .if1 in
+    (omega (arith, loop .inv .0), rw (watched-step (args .mem .now) (args .layout .hosts) (args .frame .0) (loop .k) (loop-test .taken), ← watches .ensures, if1 .left) at (loop .inv .1))
 
 returns-2 : tie.Need-returns-2 Inv-loop μ-loop
 unfolding watchedOf

@@ -1,3 +1,4 @@
+-- A frame of level 0 is no table and watches nothing; else its guest frame is compared.
 use borrow.Author.Tests.{eq-eqb, ne-eqb}
 use Rattle.shadow.specs.Watch.{watchesOf}
 use borrow.Author.Needs.{needs}

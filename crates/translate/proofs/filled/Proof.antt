@@ -1,3 +1,4 @@
+-- At the depth of all levels the frame goes into the record; below it the fill's way decides: served, or damage.
 use borrow.Author.Tests.{le-leb, lt-leb}
 use native.Mathlib.Omega.{arith}
 use Rattle.translate.specs.Translate.{filledOf}

@@ -1,3 +1,4 @@
+-- Below the depth of all levels a shadow entry is looked up; at it the record's frame is the path, or 0 if none is held.
 use borrow.Author.Tests.{lt-ltb, le-ltb, eq-eqb, ne-eqb}
 use Rattle.translate.specs.Translate.{foundOf}
 use borrow.Author.Needs.{needs}

@@ -13,7 +13,11 @@ use borrow.Author.Needs.{needs}
 use Rattle.translate.proofs.missed.Statement.{statement}
 use Rattle.translate.proofs.missed.Tie as tie
 
-came : (c : tie.After-walk-root) → walkedOf (config (c .before .before .before .before .before .before .args .space .layout)) (c .before .before .before .before .before .before .args .space .top) (c .before .before .before .before .before .before .args .mem .now) 0 (walk (config (c .before .before .before .before .before .before .args .space .layout)) (c .before .before .before .before .before .before .args .request .store) (c .before .before .before .before .before .before .args .root .0) (indexes (c .before .before .before .before .before .before .args .space .layout .levels - c .before .before .before .before .before .before .args .request .depth) (c .before .before .before .before .path-of .result))) ≡ c .walk-root .result .walked
+came : (c : tie.After-walk-root) →
+    let args = c .before .before .before .before .before .before .args in
+    let path-of = c .before .before .before .before .path-of in
+    walkedOf (config (args .space .layout)) (args .space .top) (args .mem .now) 0 (walk (config (args .space .layout)) (args .request .store) (args .root .0) (indexes (args .space .layout .levels - args .request .depth) (path-of .result)))
+    ≡ c .walk-root .result .walked
 unfolding trailFrom
 came c = sym (ap (λ (t : Trail). t .walked) (c .walk-root .ensures))
 

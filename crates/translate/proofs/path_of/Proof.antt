@@ -1,3 +1,4 @@
+-- Nine bits for each index are at most 63, so the shift is the definition's division of the page number.
 use borrow.Author.Needs.{needs}
 use Rattle.translate.proofs.path_of.Statement.{statement}
 use Rattle.translate.proofs.path_of.Tie as tie

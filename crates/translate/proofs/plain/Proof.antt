@@ -1,3 +1,4 @@
+-- Of the whole walk's trail only its end is used, and the exits are those of that end.
 use Rattle.walk.specs.Memory.{trailFrom}
 use Rattle.translate.specs.Translate.{plainOf}
 use borrow.Author.Needs.{needs}

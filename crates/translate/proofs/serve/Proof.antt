@@ -1,3 +1,4 @@
+-- The direct part costs at most one exit, so the sum fits; the rest is what its call promises.
 use native.Mathlib.Omega.{arith}
 use Rattle.translate.specs.Translate.{servedOf}
 use Rattle.translate.proofs.Fits.{exit-small}

@@ -1,3 +1,4 @@
+-- Only at depth 0 does the writable bit matter; at every other depth the path serves.
 use borrow.Author.Tests.{eq-eqb, ne-eqb}
 use Rattle.translate.specs.Translate.{servesOf}
 use borrow.Author.Needs.{needs}

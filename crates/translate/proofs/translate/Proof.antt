@@ -1,3 +1,4 @@
+-- By the depth, then by the path found; its frame lies in the guest area or stands in the record, so it is below the limit.
 use Prim.Native.Nat.{_<_}
 use native.Mathlib.Omega.{arith}
 use borrow.Author.Tests.{lt-ltb, le-ltb}

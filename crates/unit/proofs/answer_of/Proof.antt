@@ -1,3 +1,4 @@
+-- 0 is ok, every other number a refusal: one test on both sides.
 use borrow.Author.Tests.{eq-eqb, ne-eqb}
 use Rattle.unit.proofs.answer_of.Statement.{statement}
 use Rattle.unit.proofs.answer_of.Tie as tie

@@ -1,3 +1,4 @@
+-- The call for both kinds of change, with the flag for clearing; `promised` takes the line from the reply.
 use Rattle.calls.proofs.Laws.{promised}
 use Rattle.calls.specs.Calls.{clearMarkCall}
 use borrow.Author.Needs.{needs}

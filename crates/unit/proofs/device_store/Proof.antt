@@ -1,3 +1,4 @@
+-- The call in parts was lent the record's own head and places, so its reply is the record's; the line follows from it.
 use Rattle.calls.proofs.Laws.{promised}
 use borrow.Author.Needs.{needs}
 use Rattle.unit.proofs.device_store.Statement.{statement}

@@ -1,3 +1,4 @@
+-- One test on both sides: a mark below the top level keeps an index, and only then does the frame stay.
 use borrow.Author.Tests.{lt-ltb, le-ltb}
 use Rattle.unit.proofs.held_after.Statement.{statement}
 use Rattle.unit.proofs.held_after.Tie as tie

@@ -1,3 +1,4 @@
+-- The call in parts gets the record's own head and places; what it holds then goes back into the record. The line follows.
 use Rattle.calls.proofs.Laws.{promised}
 use borrow.Author.Needs.{needs}
 use Rattle.unit.proofs.load.Statement.{statement}

@@ -1,3 +1,4 @@
+-- The call in parts only reads the memory; its head, with the new root, goes back beside the marks' places.
 use Rattle.calls.proofs.Laws.{promised}
 use borrow.Author.Needs.{needs}
 use Rattle.unit.proofs.load_root.Statement.{statement}

@@ -1,3 +1,4 @@
+-- The head that the call in parts hands back goes into the record beside the same places; the line follows from the reply.
 use Rattle.calls.proofs.Laws.{promised}
 use borrow.Author.Needs.{needs}
 use Rattle.unit.proofs.map.Statement.{statement}

@@ -1,3 +1,4 @@
+-- Refusal 3, then the mark's own; where neither applies the level is below 8 and the record's ranges hold.
 use mathlib.Core.Path.{sym, _∙_}
 use borrow.Author.Tests.{eq-eqb, ne-eqb, not-true, not-false}
 use Rattle.calls.proofs.Laws.{broken}

@@ -1,3 +1,4 @@
+-- The flag chooses between two calls, and each promises the definition's arm.
 use borrow.Author.Needs.{needs}
 use Rattle.unit.proofs.mark_refusal.Statement.{statement}
 use Rattle.unit.proofs.mark_refusal.Tie as tie

@@ -1,3 +1,4 @@
+-- A mark keeps levels - level indexes, never more than there are; the drop of that prefix then is ok or damage.
 use native.Mathlib.Omega.{arith}
 use borrow.Author.Tests.{not-true, not-false}
 use Rattle.calls.specs.Calls.{markedOf}

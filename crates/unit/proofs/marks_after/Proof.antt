@@ -1,3 +1,4 @@
+-- The flag chooses: the key goes in or out, by the promise of either call.
 use borrow.Author.Needs.{needs}
 use Rattle.unit.proofs.marks_after.Statement.{statement}
 use Rattle.unit.proofs.marks_after.Tie as tie

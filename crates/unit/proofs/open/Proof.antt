@@ -1,3 +1,4 @@
+-- The opening's record and memory, its number said as an answer; the line follows from the reply.
 use Rattle.calls.proofs.Laws.{promised}
 use Rattle.calls.specs.Calls.{openCall}
 use borrow.Author.Needs.{needs}

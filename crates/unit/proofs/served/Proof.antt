@@ -1,3 +1,4 @@
+-- The head is taken out, given what is held now and put back; three promises, one after the other.
 use borrow.Author.Needs.{needs}
 use Rattle.unit.proofs.served.Statement.{statement}
 use Rattle.unit.proofs.served.Tie as tie

@@ -1,3 +1,4 @@
+-- The call for both kinds of change, with the flag for setting; `promised` takes the line from the reply.
 use Rattle.calls.proofs.Laws.{promised}
 use Rattle.calls.specs.Calls.{setMarkCall}
 use borrow.Author.Needs.{needs}

@@ -1,3 +1,4 @@
+-- The call in parts changes of the head only what is held, and that goes back into the record; the line follows.
 use Rattle.calls.proofs.Laws.{promised}
 use borrow.Author.Needs.{needs}
 use Rattle.unit.proofs.store.Statement.{statement}

@@ -1,3 +1,4 @@
+-- The head handed back replaces the record's, by the promise of one call.
 use borrow.Author.Needs.{needs}
 use Rattle.unit.proofs.turned.Statement.{statement}
 use Rattle.unit.proofs.turned.Tie as tie

@@ -1,3 +1,4 @@
+-- The call in parts on the record's own head and places; its head replaces the old one, and the line follows.
 use Rattle.calls.proofs.Laws.{promised}
 use borrow.Author.Needs.{needs}
 use Rattle.unit.proofs.unmap.Statement.{statement}

@@ -1,3 +1,4 @@
+-- The marks go in first, then what is held into the head of that record: the definition's order.
 use borrow.Author.Needs.{needs}
 use Rattle.unit.proofs.with_marks.Statement.{statement}
 use Rattle.unit.proofs.with_marks.Tie as tie

@@ -1,3 +1,4 @@
+-- A store that the mapping forbids is fault W; else the right is that of the guest entries and of the mapping.
 use Rattle.walk.specs.Memory.{foundOf}
 use borrow.Author.Needs.{needs}
 use Rattle.walk.proofs.to_found.Statement.{statement}

@@ -1,3 +1,4 @@
+-- Level 1 leads to the page; to a table the step is one and the same for loads and stores.
 use borrow.Author.Tests.{eq-eqb, ne-eqb}
 use Rattle.spec.specs.Plain.{next}
 use borrow.Author.Needs.{needs}

@@ -1,3 +1,4 @@
+-- By `table-step` the host walk's end decides; one that finds nothing read at most a word a level, so the count fits.
 use mathlib.Core.Bool.{false}
 use Rattle.layout.specs.Layout.{config}
 use Rattle.host.proofs.Laws.{host-fits}
@@ -9,20 +10,36 @@ use Rattle.walk.proofs.to_table.Tie as tie
 
 add-t13 : tie.Need-add-t13
 add-t13 c =
-    let good = rw (← c .before .before .before .host-walk .ensures, c .before .reads .given .1) at (host-fits (config (c .before .before .before .before .before .args .space .layout)) (c .before .before .before .before .before .args .space .top) (c .before .before .before .before .before .args .mem .now) (c .before .before .before .before .before .args .guest .0)) in
-    omega (arith, good, c .before .before .before .before .before .pre)
+    let args = c .before .before .before .before .before .args in
+    let pre = c .before .before .before .before .before .pre in
+    let host-walk = c .before .before .before .host-walk in
+    let reads = c .before .reads in
+    let good = rw (← host-walk .ensures, reads .given .1) at (host-fits (config (args .space .layout)) (args .space .top) (args .mem .now) (args .guest .0)) in
+    omega (arith, good, pre)
 
 enum-told : tie.Need-enum-told
 enum-told c = search needs
 
 returns : tie.Need-returns
-returns c = rw (table-step (config (c .before .before .before .before .before .before .args .space .layout)) (c .before .before .before .before .before .before .args .space .top) (c .before .before .before .before .before .before .args .mem .now) (c .before .before .before .before .before .before .args .read) false (c .before .before .before .before .before .before .args .guest .0) (c .before .before .before .before .before .before .args .right), ← c .before .before .before .before .host-walk .ensures, c .before .before .page .given .1)
+returns c =
+    let args = c .before .before .before .before .before .before .args in
+    let host-walk = c .before .before .before .before .host-walk in
+    let page = c .before .before .page in
+    rw (table-step (config (args .space .layout)) (args .space .top) (args .mem .now) (args .read) false (args .guest .0) (args .right), ← host-walk .ensures, page .given .1)
 
 returns-2 : tie.Need-returns-2
-returns-2 c = rw (table-step (config (c .before .before .before .before .before .args .space .layout)) (c .before .before .before .before .before .args .space .top) (c .before .before .before .before .before .args .mem .now) (c .before .before .before .before .before .args .read) false (c .before .before .before .before .before .args .guest .0) (c .before .before .before .before .before .args .right), ← c .before .before .before .host-walk .ensures, c .before .reads .given .1)
+returns-2 c =
+    let args = c .before .before .before .before .before .args in
+    let host-walk = c .before .before .before .host-walk in
+    let reads = c .before .reads in
+    rw (table-step (config (args .space .layout)) (args .space .top) (args .mem .now) (args .read) false (args .guest .0) (args .right), ← host-walk .ensures, reads .given .1)
 
 returns-3 : tie.Need-returns-3
-returns-3 c = rw (table-step (config (c .before .before .before .before .args .space .layout)) (c .before .before .before .before .args .space .top) (c .before .before .before .before .args .mem .now) (c .before .before .before .before .args .read) false (c .before .before .before .before .args .guest .0) (c .before .before .before .before .args .right), ← c .before .before .host-walk .ensures, c .enum-told .given .1)
+returns-3 c =
+    let args = c .before .before .before .before .args in
+    let host-walk = c .before .before .host-walk in
+    let enum-told = c .enum-told in
+    rw (table-step (config (args .space .layout)) (args .space .top) (args .mem .now) (args .read) false (args .guest .0) (args .right), ← host-walk .ensures, enum-told .given .1)
 
 pub to-table-spec : {M : Type 1} → statement M
 to-table-spec =

@@ -24,9 +24,11 @@ abbrev μ-loop : tie.MeasureT-loop
 μ-loop mem s store path k below right read left₀ at₀ w₀ n₀ tables₀ depth₀ left at w n tables depth = left
 
 -- the walk's trail, by where the turn came to
-turned : (c : tie.After-descend Inv-loop μ-loop)
-    → thenTrail (c .descend .result) (set (c .before .before .before .loop .tables) (c .before .before .before .loop .depth) (c .before .before .before .loop .at)) (λ u v j. trailFrom (config (c .before .before .before .before .before .args .space .layout)) (c .before .before .before .before .before .args .space .top) (c .before .before .before .before .before .args .mem .now) (set (c .before .before .before .loop .tables) (c .before .before .before .loop .depth) (c .before .before .before .loop .at)) (c .before .before .before .loop .depth + 1) j (levels (config (c .before .before .before .before .before .args .space .layout)) (c .before .before .before .before .before .args .store) (c .before .before .before .before .before .args .below + (c .before .before .before .loop .left - 1)) u v (indexes (c .before .before .before .loop .left - 1) (c .before .before .before .before .before .args .path))))
-    ≡ trailOf (config (c .before .before .before .before .before .args .space .layout)) (c .before .before .before .before .before .args .space .top) (c .before .before .before .before .before .args .mem .now) (c .before .before .before .before .before .args .read) (levels (config (c .before .before .before .before .before .args .space .layout)) (c .before .before .before .before .before .args .store) (c .before .before .before .before .before .args .below + c .before .before .before .before .before .args .steps) (c .before .before .before .before .before .args .table .0) (c .before .before .before .before .before .args .right) (indexes (c .before .before .before .before .before .args .steps) (c .before .before .before .before .before .args .path)))
+turned : (c : tie.After-descend Inv-loop μ-loop) →
+    let args = c .before .before .before .before .before .args in
+    let loop = c .before .before .before .loop in
+    thenTrail (c .descend .result) (set (loop .tables) (loop .depth) (loop .at)) (λ u v j. trailFrom (config (args .space .layout)) (args .space .top) (args .mem .now) (set (loop .tables) (loop .depth) (loop .at)) (loop .depth + 1) j (levels (config (args .space .layout)) (args .store) (args .below + (loop .left - 1)) u v (indexes (loop .left - 1) (args .path))))
+    ≡ trailOf (config (args .space .layout)) (args .space .top) (args .mem .now) (args .read) (levels (config (args .space .layout)) (args .store) (args .below + args .steps) (args .table .0) (args .right) (indexes (args .steps) (args .path)))
 turned c =
     let args = c .before .before .before .before .before .args in
     let loop = c .before .before .before .loop in

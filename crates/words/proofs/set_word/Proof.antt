@@ -1,3 +1,4 @@
+-- Only a place past the end needs a law: a store there leaves the list as it is.
 use mathlib.Core.Path.{sym}
 use lib.Seq.{set-out}
 use borrow.Author.Needs.{needs}

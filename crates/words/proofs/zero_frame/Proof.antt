@@ -1,3 +1,4 @@
+-- Invariant: i words from the frame's first place on are set to 0, the rest as lent; a round sets one more, and 512 are all.
 use Prim.Native.Nat.{_-_, _*_, _≤_}
 use mathlib.Core.Path.{_≡_, sym}
 use lib.ListN.{length}

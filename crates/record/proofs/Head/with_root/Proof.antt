@@ -1,3 +1,4 @@
+-- By the definition: only the root is another.
 use mathlib.Core.Path.{refl}
 use Rattle.record.specs.Record.{headRoot}
 use Rattle.record.proofs.Head.with_root.Statement.{statement}

@@ -1,3 +1,4 @@
+-- By the definition: pools and held frame are those given, the other fields stay.
 use mathlib.Core.Path.{refl}
 use Rattle.record.specs.Record.{headTables}
 use Rattle.record.proofs.Head.with_tables.Statement.{statement}

@@ -1,3 +1,4 @@
+-- The head and the places lent make the record again, so the rule that is tested is the record's.
 use borrow.Author.Needs.{needs}
 use Rattle.record.proofs.Record.fits.Statement.{statement}
 use Rattle.record.proofs.Record.fits.Tie as tie

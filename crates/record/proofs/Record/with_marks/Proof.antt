@@ -1,3 +1,4 @@
+-- By the definition: the guest's part goes back with its root and held frame, and with other marks.
 use mathlib.Core.Path.{refl}
 use Rattle.record.specs.Record.{withMarks}
 use Rattle.record.proofs.Record.with_marks.Statement.{statement}

@@ -1,3 +1,4 @@
+-- Both pools are those from which nothing was handed out; all else is 0 already.
 use Rattle.record.specs.Record.{zeros}
 use borrow.Author.Needs.{needs}
 use Rattle.record.proofs.Record.zeros.Statement.{statement}
