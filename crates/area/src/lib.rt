@@ -143,7 +143,15 @@ pub fn enter(area: Area, pool: Pool, mem: &mut [u64], guest: u64) -> Went
 }
 
 // A table is handed out and its entry put into the table above.
-fn attach(area: Area, pool: Pool, mem: &mut [u64], guest: u64, level: u64, frame: u64, index: u64) -> Went
+fn attach(
+    area: Area,
+    pool: Pool,
+    mem: &mut [u64],
+    guest: u64,
+    level: u64,
+    frame: u64,
+    index: u64,
+) -> Went
     requires { ⌜ (area .base + area .size < frameLimit) × (frame < frameLimit) × (index < 512) ⌝ }
     ensures { λ r. ⌜ yields r (now (mem .exit)) ≡ attachOf area pool (now (mem .entry)) guest level frame index ⌝ }
 {
@@ -160,7 +168,15 @@ fn attach(area: Area, pool: Pool, mem: &mut [u64], guest: u64, level: u64, frame
 }
 
 // The table below, hung there if there is none.
-fn descend(area: Area, pool: Pool, mem: &mut [u64], guest: u64, level: u64, frame: u64, index: u64) -> Went
+fn descend(
+    area: Area,
+    pool: Pool,
+    mem: &mut [u64],
+    guest: u64,
+    level: u64,
+    frame: u64,
+    index: u64,
+) -> Went
     requires { ⌜ (area .base + area .size < frameLimit) × (frame < frameLimit) × (index < 512) ⌝ }
     ensures { λ r. ⌜ yields r (now (mem .exit)) ≡ descendOf area pool (now (mem .entry)) guest level frame index ⌝ }
 {
@@ -178,7 +194,16 @@ fn descend(area: Area, pool: Pool, mem: &mut [u64], guest: u64, level: u64, fram
 }
 
 // From the top table down, `steps` indexes: tables handed out where they are missing, then the entry put.
-fn down(area: Area, guests: &[u64], pool: Pool, mem: &mut [u64], frame: u64, path: u64, steps: u64, entry: u64) -> Went
+fn down(
+    area: Area,
+    guests: &[u64],
+    pool: Pool,
+    mem: &mut [u64],
+    frame: u64,
+    path: u64,
+    steps: u64,
+    entry: u64,
+) -> Went
     requires { ⌜ (area .base + area .size < frameLimit) × (frame < frameLimit) × (1 ≤ steps) × (steps ≤ 7) × (steps ≤ area .levels) ⌝ }
     ensures { λ r. ⌜ yields r (now (mem .exit)) ≡ downOf area (now (guests .entry)) pool (now (mem .entry)) 0 frame (index (steps - 1) path) (indexes (steps - 1) path) entry ⌝ }
 {
@@ -189,7 +214,15 @@ fn down(area: Area, guests: &[u64], pool: Pool, mem: &mut [u64], frame: u64, pat
     while left > 0 {
         depth += 1;
         let guest = words::word_at(guests, depth as usize);
-        let went = descend(area, cur, mem, guest, area.levels - depth, t, index_at(path, left));
+        let went = descend(
+            area,
+            cur,
+            mem,
+            guest,
+            area.levels - depth,
+            t,
+            index_at(path, left),
+        );
         cur = went.pool;
         let way = went.way;
         match way {
@@ -219,7 +252,15 @@ fn down(area: Area, guests: &[u64], pool: Pool, mem: &mut [u64], frame: u64, pat
 }
 
 // The top table is handed out if there is none, then the path is filled from it down.
-fn place(area: Area, guests: &[u64], pool: Pool, mem: &mut [u64], path: u64, steps: u64, entry: u64) -> Went
+fn place(
+    area: Area,
+    guests: &[u64],
+    pool: Pool,
+    mem: &mut [u64],
+    path: u64,
+    steps: u64,
+    entry: u64,
+) -> Went
     requires { ⌜ (area .base + area .size < frameLimit) × (1 ≤ steps) × (steps ≤ 7) × (steps ≤ area .levels) ⌝ }
     ensures { λ r. ⌜ yields r (now (mem .exit)) ≡ placeOf area (now (guests .entry)) pool (now (mem .entry)) (index (steps - 1) path) (indexes (steps - 1) path) entry ⌝ }
 {
@@ -242,7 +283,15 @@ fn place(area: Area, guests: &[u64], pool: Pool, mem: &mut [u64], path: u64, ste
 
 // The entry of the path of the last `steps` indexes of `path` is set, with the tables that it needs, guests being their guest
 // tables' host frames from the top table down. Not, and nothing changed, if they find no room.
-pub fn insert(area: Area, guests: &[u64], pool: Pool, mem: &mut [u64], path: u64, steps: u64, entry: u64) -> Went
+pub fn insert(
+    area: Area,
+    guests: &[u64],
+    pool: Pool,
+    mem: &mut [u64],
+    path: u64,
+    steps: u64,
+    entry: u64,
+) -> Went
     requires { ⌜ (area .base + area .size < frameLimit) × (1 ≤ steps) × (steps ≤ 7) × (steps ≤ area .levels) ⌝ }
     ensures { λ r. ⌜ yields r (now (mem .exit)) ≡ insertOf area (now (guests .entry)) pool (now (mem .entry)) (indexes steps path) entry ⌝ }
 {

@@ -118,7 +118,11 @@ fn address_ok(levels: u64, address: GuestVirtual) -> bool
     requires { ⌜ levels < 6 ⌝ }
     ensures { λ r. ⌜ r ≡ (addressFits (ofLevels levels) (address .0) && wordAligned (address .0)) ⌝ }
 {
-    if address.fits(levels) { address.0 % 8 == 0 } else { false }
+    if address.fits(levels) {
+        address.0 % 8 == 0
+    } else {
+        false
+    }
 }
 
 // Is it the guest-physical address of a word?
@@ -166,7 +170,13 @@ pub fn store_at(head: Head, place: &[u64; 64], mem: &mut [u64], address: u64, va
 }
 
 // A device stores a word at a guest-physical address; the paths whose shadow part read it are dropped: 3, 4, 11.
-pub fn device_store_at(head: Head, place: &[u64; 64], mem: &mut [u64], address: u64, value: u64) -> Served
+pub fn device_store_at(
+    head: Head,
+    place: &[u64; 64],
+    mem: &mut [u64],
+    address: u64,
+    value: u64,
+) -> Served
     ensures { λ r. ⌜ yields (servedReply (recordBy head (now (place .entry))) r) (now (mem .exit)) ≡ deviceCall (recordBy head (now (place .entry))) (now (mem .entry)) address value ⌝ }
 {
     let held = held_in(head);
@@ -199,7 +209,13 @@ pub fn root_at(head: Head, place: &[u64; 64], mem: &[u64], guest: u64) -> Turn
 }
 
 // After a change of the mapping of a guest frame that left this pool of the host tables: the held paths that used it are dropped.
-fn remapped(head: Head, place: &[u64; 64], host: Pool, mem: &mut [u64], guest: GuestPhysical) -> Turn
+fn remapped(
+    head: Head,
+    place: &[u64; 64],
+    host: Pool,
+    mem: &mut [u64],
+    guest: GuestPhysical,
+) -> Turn
     requires { ⌜ Sound (recordBy head (now place)) ⌝ }
     ensures { λ r. ⌜ yields (turnReply (recordBy head (now (place .entry))) r) (now (mem .exit)) ≡ unmappedOf (recordBy head (now (place .entry))) host (now (mem .entry)) (guest .0) ⌝ }
 {

@@ -193,11 +193,23 @@ fn goes(mem: &[u64], cut: Cut, all: bool, frame: u64, index: u64) -> bool
     requires { ⌜ (frame < frameLimit) × (index < 512) ⌝ }
     ensures { λ r. ⌜ r ≡ goesOf (now (mem .entry)) cut all frame index ⌝ }
 {
-    if all { true } else { cut_at(mem, cut, frame, index) }
+    if all {
+        true
+    } else {
+        cut_at(mem, cut, frame, index)
+    }
 }
 
 // The entry at the index is cleared if it is a leaf that goes; false if it is damaged.
-fn clear_one(mem: &mut [u64], layout: Layout, cut: Cut, all: bool, lowest: bool, frame: u64, index: u64) -> bool
+fn clear_one(
+    mem: &mut [u64],
+    layout: Layout,
+    cut: Cut,
+    all: bool,
+    lowest: bool,
+    frame: u64,
+    index: u64,
+) -> bool
     requires { ⌜ (LayoutFits layout) × (frame < frameLimit) × (index < 512) ⌝ }
     ensures { λ r. ⌜ yields r (now (mem .exit)) ≡ clearOne (config layout) cut all lowest frame (now (mem .entry)) index ⌝ }
 {
@@ -246,7 +258,14 @@ fn settle(mem: &mut [u64], layout: Layout, before: Pool, level: u64, frame: u64)
     requires { ⌜ (LayoutFits layout) × (frame < frameLimit) ⌝ }
     ensures { λ r. ⌜ yields r (now (mem .exit)) ≡ settleOf (config layout) before (now (mem .entry)) level frame ⌝ }
 {
-    let went = prune::release(shadow::shadow_area(layout), false, before, mem, links(layout.levels, level), frame);
+    let went = prune::release(
+        shadow::shadow_area(layout),
+        false,
+        before,
+        mem,
+        links(layout.levels, level),
+        frame,
+    );
     let pool = went.pool;
     let way = went.way;
     match way {
@@ -283,7 +302,10 @@ fn sweep(
     if clear_leaves(mem, layout, cut, all, level == 1, frame, lo, hi) {
         settle(mem, layout, pool, level, frame)
     } else {
-        Left { pool: pool, ok: false }
+        Left {
+            pool: pool,
+            ok: false,
+        }
     }
 }
 
@@ -296,7 +318,10 @@ fn visit(mem: &mut [u64], layout: Layout, cut: Cut, pool: Pool, frame: u64) -> L
 {
     let n = pool::level(mem, frame);
     if n == 0 {
-        return Left { pool: pool, ok: true };
+        return Left {
+            pool: pool,
+            ok: true,
+        };
     }
     match links_up(mem, layout, cut, links(layout.levels, n), frame) {
         Above::Met => sweep(mem, layout, cut, true, n, frame, 0, 512, pool),
@@ -304,10 +329,16 @@ fn visit(mem: &mut [u64], layout: Layout, cut: Cut, pool: Pool, frame: u64) -> L
             if touches(mem, cut, frame) {
                 sweep(mem, layout, cut, false, n, frame, low(cut), end(cut), pool)
             } else {
-                Left { pool: pool, ok: true }
+                Left {
+                    pool: pool,
+                    ok: true,
+                }
             }
         }
-        Above::Damaged => Left { pool: pool, ok: false },
+        Above::Damaged => Left {
+            pool: pool,
+            ok: false,
+        },
     }
 }
 
@@ -335,7 +366,13 @@ fn scan(mem: &mut [u64], layout: Layout, cut: Cut, pool: Pool) -> Left
 }
 
 // A store to a word of a host frame drops the paths whose shadow part read it.
-pub fn drop_word(mem: &mut [u64], layout: Layout, pool: Pool, frame: HostPhysical, index: u64) -> Left
+pub fn drop_word(
+    mem: &mut [u64],
+    layout: Layout,
+    pool: Pool,
+    frame: HostPhysical,
+    index: u64,
+) -> Left
     requires { ⌜ (LayoutFits layout) × (pool .fresh ≤ layout .shadows) ⌝ }
     ensures { λ r. ⌜ yields r (now (mem .exit)) ≡ scanOf (config layout) (Cut.Word frame index) pool (now (mem .entry)) ⌝ }
 {
@@ -407,7 +444,13 @@ pub fn drop_prefix(mem: &mut [u64], layout: Layout, pool: Pool, path: u64, steps
             Cut::Slot(HostPhysical(f), area::index_at(path, 0)),
             pool,
         ),
-        Way::Not => Left { pool: pool, ok: true },
-        Way::Damaged => Left { pool: pool, ok: false },
+        Way::Not => Left {
+            pool: pool,
+            ok: true,
+        },
+        Way::Damaged => Left {
+            pool: pool,
+            ok: false,
+        },
     }
 }

@@ -97,7 +97,15 @@ pub fn map(
             // Host tables stand for no guest tables.
             let none = [0u64; 1];
             let e = leaf_word(frame, writable);
-            let went = area::insert(tables(layout), &none[..0], pool, mem, guest.0, layout.levels, e);
+            let went = area::insert(
+                tables(layout),
+                &none[..0],
+                pool,
+                mem,
+                guest.0,
+                layout.levels,
+                e,
+            );
             let way = went.way;
             let after = went.pool;
             settled(pool, after, way, 10)

@@ -130,7 +130,11 @@ pub fn write_header(mem: &mut [u64], frame: u64, guest: u64, level: u64, parent:
 pub fn inside(base: u64, size: u64, frame: u64) -> bool
     ensures { λ r. ⌜ r ≡ insideOf base size frame ⌝ }
 {
-    if frame < base { false } else { frame - base < size }
+    if frame < base {
+        false
+    } else {
+        frame - base < size
+    }
 }
 
 // Whether a table has no present entry.

@@ -122,7 +122,15 @@ fn last_table(base: u64, size: u64, entry: u64, mem: &[u64], path: u64, steps: u
 }
 
 // An entry of the table in that frame, which has `above` tables above it, is cleared; Not if there is none.
-fn clear(area: Area, stays: bool, pool: Pool, mem: &mut [u64], above: u64, frame: u64, index: u64) -> Went
+fn clear(
+    area: Area,
+    stays: bool,
+    pool: Pool,
+    mem: &mut [u64],
+    above: u64,
+    frame: u64,
+    index: u64,
+) -> Went
     requires { ⌜ (frame < frameLimit) × (area .base + area .size < frameLimit) × (index < 512) ⌝ }
     ensures { λ r. ⌜ yields r (now (mem .exit)) ≡ clearOf area stays pool (now (mem .entry)) above frame index ⌝ }
 {
@@ -143,7 +151,15 @@ pub fn remove(area: Area, stays: bool, pool: Pool, mem: &mut [u64], path: u64, s
     ensures { λ r. ⌜ yields r (now (mem .exit)) ≡ removeOf area stays pool (now (mem .entry)) (indexes steps path) ⌝ }
 {
     match last_table(area.base, area.size, pool.top, mem, path, steps) {
-        Way::To(f) => clear(area, stays, pool, mem, steps - 1, f, area::index_at(path, 0)),
+        Way::To(f) => clear(
+            area,
+            stays,
+            pool,
+            mem,
+            steps - 1,
+            f,
+            area::index_at(path, 0),
+        ),
         Way::Not => Went {
             pool: pool,
             way: Way::Not,

@@ -50,7 +50,14 @@ pub struct Put {
 
 // The word of a page that an address names gets the value, and the held paths whose shadow part read it are dropped. The drops are
 // found before the word is written, so that damage met on the way has changed no guest word.
-fn put_word(mem: &mut [u64], layout: Layout, pool: Pool, page: HostPhysical, address: u64, value: u64) -> Put
+fn put_word(
+    mem: &mut [u64],
+    layout: Layout,
+    pool: Pool,
+    page: HostPhysical,
+    address: u64,
+    value: u64,
+) -> Put
     requires { ⌜ (LayoutFits layout) × (pool .fresh ≤ layout .shadows) × (page .0 < frameLimit) ⌝ }
     ensures { λ r. ⌜ yields r (now (mem .exit)) ≡ putOf (config layout) (now (mem .entry)) pool (page .0) (wordOf address) value ⌝ }
 {
@@ -206,7 +213,17 @@ pub fn store(
             page,
             writable,
             reads,
-        } => written(mem, space.layout, held, after, page, address.0, value, reads, t.exits),
+        } => written(
+            mem,
+            space.layout,
+            held,
+            after,
+            page,
+            address.0,
+            value,
+            reads,
+            t.exits,
+        ),
         Walked::Faulted { fault, reads } => Served {
             held: after,
             answer: Answer::Faulted {
@@ -230,7 +247,17 @@ pub fn device_store(mem: &mut [u64], space: Space, held: Held, address: u64, val
             page,
             writable,
             reads,
-        } => written(mem, space.layout, held, held, page, address, value, reads, 0),
+        } => written(
+            mem,
+            space.layout,
+            held,
+            held,
+            page,
+            address,
+            value,
+            reads,
+            0,
+        ),
         Walked::Faulted { fault, reads } => Served {
             held: held,
             answer: Answer::Faulted {

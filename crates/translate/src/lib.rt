@@ -134,7 +134,13 @@ fn found(mem: &[u64], layout: Layout, held: Held, address: GuestVirtual, depth: 
     ensures { λ r. ⌜ r ≡ foundOf (config layout) (now (mem .entry)) held (address .0) depth ⌝ }
 {
     if depth < layout.levels {
-        return shadow::held(mem, layout, held.pool.top, path_of(address, depth), layout.levels - depth);
+        return shadow::held(
+            mem,
+            layout,
+            held.pool.top,
+            path_of(address, depth),
+            layout.levels - depth,
+        );
     }
     if held.frame.0 == 0 {
         return HostWalk::Absent { reads: 0 };
@@ -211,7 +217,13 @@ fn filled(
 }
 
 // The path does not serve: its shadow part is walked, and filled where it arrives.
-fn missed(mem: &mut [u64], space: Space, root: GuestPhysical, held: Held, request: Request) -> Translated
+fn missed(
+    mem: &mut [u64],
+    space: Space,
+    root: GuestPhysical,
+    held: Held,
+    request: Request,
+) -> Translated
     requires { ⌜ (LayoutFits (space .layout)) × (request .depth ≤ space .layout .levels) ⌝ }
     ensures { λ r. ⌜ yields r (now (mem .exit)) ≡ missedOf (config (space .layout)) (space .top) (now (mem .entry)) held (root .0) (request .store) (request .address .0) (request .depth) ⌝ }
 {
@@ -255,7 +267,15 @@ fn plain(
     requires { ⌜ LayoutFits (space .layout) ⌝ }
     ensures { λ r. ⌜ r ≡ plainOf (config (space .layout)) (space .top) (now (mem .entry)) held (root .0) store (address .0) ⌝ }
 {
-    let trail = walk::walk_root(mem, space, store, root, address.page(), space.layout.levels, 0);
+    let trail = walk::walk_root(
+        mem,
+        space,
+        store,
+        root,
+        address.page(),
+        space.layout.levels,
+        0,
+    );
     let walked = trail.walked;
     Translated {
         held: held,

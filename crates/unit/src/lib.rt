@@ -109,7 +109,14 @@ pub fn load_root(unit: Record, mem: &mut [u64], guest: u64) -> Reply
 pub fn map(unit: Record, mem: &mut [u64], guest: u64, frame: u64, writable: bool) -> Reply
     ensures { λ r. ⌜ Promises r (now (mem .exit)) (mapCall unit (now (mem .entry)) guest frame writable) ⌝ }
 {
-    let t = calls::map_at(unit.head(), &unit.guest.marks.place, mem, guest, frame, writable);
+    let t = calls::map_at(
+        unit.head(),
+        &unit.guest.marks.place,
+        mem,
+        guest,
+        frame,
+        writable,
+    );
     turned(unit, t)
 }
 
@@ -149,7 +156,13 @@ fn marked(unit: Record, mem: &mut [u64], address: GuestVirtual, level: u64, mark
 {
     let l = unit.layout;
     let kept = drops::links(l.levels, level);
-    let left = drops::drop_prefix(mem, l, unit.pools.shadow, address.page() >> (9 * level), kept);
+    let left = drops::drop_prefix(
+        mem,
+        l,
+        unit.pools.shadow,
+        address.page() >> (9 * level),
+        kept,
+    );
     let pool = left.pool;
     if !left.ok {
         return refused(unit, 11);

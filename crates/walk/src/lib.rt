@@ -214,7 +214,16 @@ pub fn walk_tables(
         tables[depth] = at;
         depth += 1;
         let i = entry::index_of(path, left) as u64;
-        match descend(mem, space, store, below + left + 1, HostPhysical(at), i, w, n) {
+        match descend(
+            mem,
+            space,
+            store,
+            below + left + 1,
+            HostPhysical(at),
+            i,
+            w,
+            n,
+        ) {
             Walked::Arrived {
                 page,
                 writable,
