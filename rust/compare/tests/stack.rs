@@ -62,16 +62,71 @@ fn calls_stay_within_the_bound() {
     };
     take("open", used(&mut || unit = Record::open(&mut memory, 8, 8).ok()));
     let mut unit = unit.unwrap();
-    take("map", used(&mut || drop(unit.map(&mut memory, 0, 16, true))));
-    take("root", used(&mut || drop(unit.root(&mut memory, 0))));
-    take("device store", used(&mut || drop(unit.device_store(&mut memory, 0, 3))));
-    take("load, filled", used(&mut || drop(unit.load(&mut memory, 0))));
-    take("load, held", used(&mut || drop(unit.load(&mut memory, 0))));
-    take("set mark", used(&mut || drop(unit.set_mark(&mut memory, 0, 2))));
-    take("load, at depth 2", used(&mut || drop(unit.load(&mut memory, 0))));
-    take("clear mark", used(&mut || drop(unit.clear_mark(&mut memory, 0, 2))));
-    take("load", used(&mut || drop(unit.load(&mut memory, 0))));
-    take("store that drops", used(&mut || drop(unit.store(&mut memory, 0, 3))));
-    take("unmap", used(&mut || drop(unit.unmap(&mut memory, 0))));
+    take(
+        "map",
+        used(&mut || {
+            unit.map(&mut memory, 0, 16, true);
+        }),
+    );
+    take(
+        "root",
+        used(&mut || {
+            unit.root(&mut memory, 0);
+        }),
+    );
+    take(
+        "device store",
+        used(&mut || {
+            unit.device_store(&mut memory, 0, 3);
+        }),
+    );
+    take(
+        "load, filled",
+        used(&mut || {
+            unit.load(&mut memory, 0);
+        }),
+    );
+    take(
+        "load, held",
+        used(&mut || {
+            unit.load(&mut memory, 0);
+        }),
+    );
+    take(
+        "set mark",
+        used(&mut || {
+            unit.set_mark(&mut memory, 0, 2);
+        }),
+    );
+    take(
+        "load, at depth 2",
+        used(&mut || {
+            unit.load(&mut memory, 0);
+        }),
+    );
+    take(
+        "clear mark",
+        used(&mut || {
+            unit.clear_mark(&mut memory, 0, 2);
+        }),
+    );
+    take(
+        "load",
+        used(&mut || {
+            unit.load(&mut memory, 0);
+        }),
+    );
+    take(
+        "store that drops",
+        used(&mut || {
+            unit.store(&mut memory, 0, 3);
+        }),
+    );
+    take(
+        "unmap",
+        used(&mut || {
+            unit.unmap(&mut memory, 0);
+        }),
+    );
     assert!(most > 0 && most <= MOST, "{most} bytes of stack");
 }
