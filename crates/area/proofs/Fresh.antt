@@ -13,9 +13,9 @@ use Rattle.pool.specs.declared.Area.{Area}
 use Rattle.pool.specs.declared.Pool.{Pool}
 use Rattle.pool.specs.declared.Way.{Way}
 use Rattle.pool.specs.declared.Way.the-variants as way
-use Rattle.pool.specs.Header.{entryIn}
+use Rattle.pool.specs.Header.{entryAtOf}
 use Rattle.pool.specs.Pool.{followOf, onWay, end, poolOf, noneOf, withTop, freshOf, freedOf, takeOf}
-use Rattle.area.specs.Tree.{roomOf, headed, tableOf, topped, topOf, enterOf, attached, attachOf, descendOf, downOf, placeOf, insertOf}
+use Rattle.area.specs.Tree.{roomOf, headed, newTableOf, topped, newTopOf, enterOf, attached, attachOf, descendOf, downOf, placeOf, insertOf}
 use Rattle.words.specs.After.{After}
 use Rattle.pool.specs.declared.Went.{Went}
 
@@ -50,8 +50,8 @@ module _ (a : Area) where
       go true way.Damaged = h
       go false w = h
 
-  table-fits : (p : Pool) (m : List ℕ) (guest level parent slot : ℕ) → PoolFits a p → Fits (tableOf a p m guest level parent slot)
-  unfolding tableOf
+  table-fits : (p : Pool) (m : List ℕ) (guest level parent slot : ℕ) → PoolFits a p → Fits (newTableOf a p m guest level parent slot)
+  unfolding newTableOf
   table-fits p m guest level parent slot h = go (t .result .way)
     where
       t : After Went
@@ -63,11 +63,11 @@ module _ (a : Area) where
       go way.Damaged = take-fits p m h
 
   enter-fits : (p : Pool) (m : List ℕ) (guest : ℕ) → PoolFits a p → Fits (enterOf a p m guest)
-  unfolding enterOf topOf withTop
+  unfolding enterOf newTopOf withTop
   enter-fits p m guest h = go (followOf (a .base) (a .size) (p .top))
     where
       new : After Went
-      new = tableOf a p m guest (a .levels) 0 0
+      new = newTableOf a p m guest (a .levels) 0 0
 
       top : (w : Way) → Fits (topped new w)
       top (way.To f) = table-fits p m guest (a .levels) 0 0 h
@@ -84,7 +84,7 @@ module _ (a : Area) where
   attach-fits p m guest level f i h = go (t .result .way)
     where
       t : After Went
-      t = tableOf a p m guest level f i
+      t = newTableOf a p m guest level f i
 
       go : (w : Way) → Fits (attached t w f i)
       go (way.To g) = table-fits p m guest level f i h
@@ -93,7 +93,7 @@ module _ (a : Area) where
 
   descend-fits : (p : Pool) (m : List ℕ) (guest level f i : ℕ) → PoolFits a p → Fits (descendOf a p m guest level f i)
   unfolding descendOf
-  descend-fits p m guest level f i h = go (followOf (a .base) (a .size) (entryIn m f i))
+  descend-fits p m guest level f i h = go (followOf (a .base) (a .size) (entryAtOf m f i))
     where
       go : (w : Way) → Fits (onWay w (attachOf a p m guest level f i) (end p way.Damaged m) (λ g. end p (way.To g) m))
       go (way.To g) = h

@@ -18,15 +18,15 @@ use Rattle.pool.specs.declared.Way.the-variants.{To, Not, Damaged}
 use Rattle.area.specs.declared.Look.{Look}
 use Rattle.area.specs.declared.Look.the-variants.{Seen}
 use Rattle.area.specs.declared.Look.the-variants as look
-use Rattle.pool.specs.Header.{entryIn, putOf}
+use Rattle.pool.specs.Header.{entryAtOf, putEntryOf}
 use Rattle.spec_laws.proofs.Indexes.{indexes-step}
 use Rattle.pool.specs.Pool.{followOf, onWay, end, takeOf}
-use Rattle.area.specs.Tree.{lookOf, headed, tableOf, topped, topOf, enterOf, attached, attachOf, descendOf, onward, downOf}
+use Rattle.area.specs.Tree.{lookupOf, headed, newTableOf, topped, newTopOf, enterOf, attached, attachOf, descendOf, onward, downOf}
 use Rattle.pool.proofs.Laws.{follow-good, AreaGood, take-good}
 
 -- ---- what is handed out lies in the area
-pub table-good : (a : Area) (p : Pool) (m : List ℕ) (guest level parent slot : ℕ) → AreaGood a (tableOf a p m guest level parent slot .result .way)
-unfolding tableOf
+pub table-good : (a : Area) (p : Pool) (m : List ℕ) (guest level parent slot : ℕ) → AreaGood a (newTableOf a p m guest level parent slot .result .way)
+unfolding newTableOf
 table-good a p m guest level parent slot = go (takeOf a p m .result .way) (take-good a p m)
   where
     go : (w : Way) → AreaGood a (takeOf a p m .result .way) → AreaGood a (headed (takeOf a p m) w guest level parent slot .result .way)
@@ -37,9 +37,9 @@ table-good a p m guest level parent slot = go (takeOf a p m .result .way) (take-
 attach-good : (a : Area) (p : Pool) (m : List ℕ) (guest level f i : ℕ) → AreaGood a (attachOf a p m guest level f i .result .way)
 unfolding attachOf
 attach-good a p m guest level f i =
-    go (tableOf a p m guest level f i .result .way) (table-good a p m guest level f i)
+    go (newTableOf a p m guest level f i .result .way) (table-good a p m guest level f i)
   where
-    go : (w : Way) → AreaGood a (tableOf a p m guest level f i .result .way) → AreaGood a (attached (tableOf a p m guest level f i) w f i .result .way)
+    go : (w : Way) → AreaGood a (newTableOf a p m guest level f i .result .way) → AreaGood a (attached (newTableOf a p m guest level f i) w f i .result .way)
     go (To f) g = g
     go Not g = g
     go Damaged g = g
@@ -47,7 +47,7 @@ attach-good a p m guest level f i =
 pub descend-good : (a : Area) (p : Pool) (m : List ℕ) (guest level f i : ℕ) → AreaGood a (descendOf a p m guest level f i .result .way)
 unfolding descendOf
 descend-good a p m guest level f i =
-    go (followOf (a .base) (a .size) (entryIn m f i)) (follow-good (a .base) (a .size) (entryIn m f i))
+    go (followOf (a .base) (a .size) (entryAtOf m f i)) (follow-good (a .base) (a .size) (entryAtOf m f i))
   where
     go : (w : Way) → AreaGood a w → AreaGood a (onWay w (attachOf a p m guest level f i) (end p Damaged m) (λ h. end p (To h) m) .result .way)
     go (To h) g = g
@@ -55,11 +55,11 @@ descend-good a p m guest level f i =
     go Damaged g = tt
 
 pub enter-good : (a : Area) (p : Pool) (m : List ℕ) (guest : ℕ) → AreaGood a (enterOf a p m guest .result .way)
-unfolding enterOf topOf
+unfolding enterOf newTopOf
 enter-good a p m guest = go (followOf (a .base) (a .size) (p .top)) (follow-good (a .base) (a .size) (p .top))
   where
     new : After Went
-    new = tableOf a p m guest (a .levels) 0 0
+    new = newTableOf a p m guest (a .levels) 0 0
 
     top : (w : Way) → AreaGood a w → AreaGood a (topped new w .result .way)
     top (To f) g = g
@@ -73,13 +73,13 @@ enter-good a p m guest = go (followOf (a .base) (a .size) (p .top)) (follow-good
 
 -- ---- loops
 pub look-step : (b s : ℕ) (m : List ℕ) (e g left n : ℕ) → 0 < left
-    → lookOf b s m e (indexes left g) n
-    ≡ onWay (followOf b s e) (Seen 0 n) look.Damaged (λ f. lookOf b s m (entryIn m f (index (left - 1) g)) (indexes (left - 1) g) (n + 1))
-unfolding lookOf
-look-step b s m e g left n l = ap (λ is. lookOf b s m e is n) (indexes-step left g l)
+    → lookupOf b s m e (indexes left g) n
+    ≡ onWay (followOf b s e) (Seen 0 n) look.Damaged (λ f. lookupOf b s m (entryAtOf m f (index (left - 1) g)) (indexes (left - 1) g) (n + 1))
+unfolding lookupOf
+look-step b s m e g left n l = ap (λ is. lookupOf b s m e is n) (indexes-step left g l)
 
-pub look-last : (b s : ℕ) (m : List ℕ) (e g n : ℕ) → lookOf b s m e (indexes 0 g) n ≡ Seen e n
-unfolding lookOf indexes
+pub look-last : (b s : ℕ) (m : List ℕ) (e g n : ℕ) → lookupOf b s m e (indexes 0 g) n ≡ Seen e n
+unfolding lookupOf indexes
 look-last b s m e g n = refl
 
 abbrev pub LookGood : ℕ → Look → Type 0
@@ -87,13 +87,13 @@ LookGood k (Seen e n) = n ≤ k
 LookGood k look.Damaged = Unit {0}
 
 -- a walk reads no more words than the path has indexes
-pub look-good : (b s : ℕ) (m : List ℕ) (e : ℕ) (is : List ℕ) (n k : ℕ) → n + length is ≤ k → LookGood k (lookOf b s m e is n)
-unfolding lookOf
+pub look-good : (b s : ℕ) (m : List ℕ) (e : ℕ) (is : List ℕ) (n k : ℕ) → n + length is ≤ k → LookGood k (lookupOf b s m e is n)
+unfolding lookupOf
 look-good b s m e [] n k l = omega arith
-look-good b s m e (i ∷ is) n k l = go (followOf b s e) (λ f. look-good b s m (entryIn m f i) is (n + 1) k (omega arith))
+look-good b s m e (i ∷ is) n k l = go (followOf b s e) (λ f. look-good b s m (entryAtOf m f i) is (n + 1) k (omega arith))
   where
-    go : (w : Way) → ((f : ℕ) → LookGood k (lookOf b s m (entryIn m f i) is (n + 1)))
-        → LookGood k (onWay w (Seen 0 n) look.Damaged (λ f. lookOf b s m (entryIn m f i) is (n + 1)))
+    go : (w : Way) → ((f : ℕ) → LookGood k (lookupOf b s m (entryAtOf m f i) is (n + 1)))
+        → LookGood k (onWay w (Seen 0 n) look.Damaged (λ f. lookupOf b s m (entryAtOf m f i) is (n + 1)))
     go (To f) h = h f
     go Not h = omega arith
     go Damaged h = tt
@@ -106,7 +106,7 @@ down-step a guests p m d f g left e l =
     ap (λ is. downOf a guests p m d f (index left g) is e) (indexes-step left g l)
 
 pub down-last : (a : Area) (guests : List ℕ) (p : Pool) (m : List ℕ) (d f g e : ℕ)
-    → downOf a guests p m d f (index 0 g) (indexes 0 g) e ≡ end p (To f) (putOf m f (index 0 g) e)
+    → downOf a guests p m d f (index 0 g) (indexes 0 g) e ≡ end p (To f) (putEntryOf m f (index 0 g) e)
 unfolding downOf indexes
 down-last a guests p m d f g e = refl
 

@@ -15,9 +15,9 @@ use Rattle.pool.specs.declared.Area.{Area}
 use Rattle.pool.specs.declared.Pool.{Pool}
 use Rattle.pool.specs.declared.Way.{Way}
 use Rattle.pool.specs.declared.Way.the-variants.{To, Not, Damaged}
-use Rattle.pool.specs.Header.{entryIn}
+use Rattle.pool.specs.Header.{entryAtOf}
 use Rattle.pool.specs.Pool.{link, followOf, onWay, end, poolOf, freshOf, freedOf, takeOf}
-use Rattle.area.specs.Tree.{roomOf, headed, tableOf, topped, topOf, enterOf, attached, attachOf, descendOf, downOf, placeOf, insertOf}
+use Rattle.area.specs.Tree.{roomOf, headed, newTableOf, topped, newTopOf, enterOf, attached, attachOf, descendOf, downOf, placeOf, insertOf}
 use Rattle.pool.specs.Outside.{SameOutside}
 use Rattle.area.specs.Outside.{Narrow}
 use Rattle.pool.proofs.Laws.{AreaGood, follow-good, take-good}
@@ -62,8 +62,8 @@ module _ (a : Area) where
       go true Damaged g = same m
       go false w g = same m
 
-  pub table-out : (p : Pool) (m : List ℕ) (guest level parent slot : ℕ) → Kept m (tableOf a p m guest level parent slot)
-  unfolding tableOf
+  pub table-out : (p : Pool) (m : List ℕ) (guest level parent slot : ℕ) → Kept m (newTableOf a p m guest level parent slot)
+  unfolding newTableOf
   table-out p m guest level parent slot = go (takeOf a p m .result .way) (take-good a p m)
     where
       go : (w : Way) → AreaGood a w → Kept m (headed (takeOf a p m) w guest level parent slot)
@@ -74,17 +74,17 @@ module _ (a : Area) where
 
   pub descend-out : (p : Pool) (m : List ℕ) (guest level f i : ℕ) → In f → i < 512 → Kept m (descendOf a p m guest level f i)
   unfolding descendOf attachOf
-  descend-out p m guest level f i h k = go (followOf (a .base) (a .size) (entryIn m f i))
+  descend-out p m guest level f i h k = go (followOf (a .base) (a .size) (entryAtOf m f i))
     where
-      attach : (w : Way) → Kept m (attached (tableOf a p m guest level f i) w f i)
+      attach : (w : Way) → Kept m (attached (newTableOf a p m guest level f i) w f i)
       attach (To d) =
-          after m (tableOf a p m guest level f i .memory) _ (put-out (a .base) (a .size) (tableOf a p m guest level f i .memory) f i (link d) (h .0) (h .1) k) (table-out p m guest level f i)
+          after m (newTableOf a p m guest level f i .memory) _ (put-out (a .base) (a .size) (newTableOf a p m guest level f i .memory) f i (link d) (h .0) (h .1) k) (table-out p m guest level f i)
       attach Not = table-out p m guest level f i
       attach Damaged = table-out p m guest level f i
 
       go : (w : Way) → Kept m (onWay w (attachOf a p m guest level f i) (end p Damaged m) (λ d. end p (To d) m))
       go (To d) = same m
-      go Not = attach (tableOf a p m guest level f i .result .way)
+      go Not = attach (newTableOf a p m guest level f i .result .way)
       go Damaged = same m
 
   pub down-out : (is guests : List ℕ) (p : Pool) (m : List ℕ) (d f i e : ℕ) → In f → i < 512 → Narrow is → Kept m (downOf a guests p m d f i is e)
@@ -106,11 +106,11 @@ module _ (a : Area) where
       go Damaged g next = one
 
   pub enter-out : (p : Pool) (m : List ℕ) (guest : ℕ) → Kept m (enterOf a p m guest)
-  unfolding enterOf topOf
+  unfolding enterOf newTopOf
   enter-out p m guest = go (followOf (a .base) (a .size) (p .top))
     where
       new : After Went
-      new = tableOf a p m guest (a .levels) 0 0
+      new = newTableOf a p m guest (a .levels) 0 0
 
       top : (w : Way) → Kept m (topped new w)
       top (To f) = table-out p m guest (a .levels) 0 0

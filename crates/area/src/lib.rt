@@ -3,7 +3,7 @@ ghost use mathlib.Core.Path.{_≡_};
 ghost use Prim.Native.Nat.{_+_, _-_, _<_, _≤_};
 ghost use lib.Dec.{leb};
 ghost use Rattle.spec.specs.Entry.{index, indexes, frameLimit};
-ghost use Rattle.area.specs.Tree.{topOf, lookOf, roomOf, tableOf, enterOf, attachOf, descendOf, downOf, placeOf, insertOf};
+ghost use Rattle.area.specs.Tree.{newTopOf, lookupOf, roomOf, newTableOf, enterOf, attachOf, descendOf, downOf, placeOf, insertOf};
 ghost use Rattle.words.specs.After.{yields};
 use pool::Area;
 use pool::Pool;
@@ -29,7 +29,7 @@ pub fn index_at(number: u64, below: u64) -> u64
 // The entry at the end of the path of the last `steps` indexes of `path`, on from the entry given; 0 if a table is missing on the way.
 pub fn lookup(base: u64, size: u64, entry: u64, mem: &[u64], path: u64, steps: u64) -> Look
     requires { ⌜ steps ≤ 7 ⌝ }
-    ensures { λ r. ⌜ r ≡ lookOf base size (now (mem .entry)) entry (indexes steps path) 0 ⌝ }
+    ensures { λ r. ⌜ r ≡ lookupOf base size (now (mem .entry)) entry (indexes steps path) 0 ⌝ }
 {
     let mut at = entry;
     let mut left = steps;
@@ -92,7 +92,7 @@ fn new_table(
     slot: u64,
 ) -> Went
     requires { ⌜ area .base + area .size < frameLimit ⌝ }
-    ensures { λ r. ⌜ yields r (now (mem .exit)) ≡ tableOf area pool (now (mem .entry)) guest level parent slot ⌝ }
+    ensures { λ r. ⌜ yields r (now (mem .exit)) ≡ newTableOf area pool (now (mem .entry)) guest level parent slot ⌝ }
 {
     let went = pool::take_frame(area, pool, mem);
     let way = went.way;
@@ -109,7 +109,7 @@ fn new_table(
 // A table is handed out and becomes the top one.
 fn new_top(area: Area, pool: Pool, mem: &mut [u64], guest: u64) -> Went
     requires { ⌜ area .base + area .size < frameLimit ⌝ }
-    ensures { λ r. ⌜ yields r (now (mem .exit)) ≡ topOf area pool (now (mem .entry)) guest ⌝ }
+    ensures { λ r. ⌜ yields r (now (mem .exit)) ≡ newTopOf area pool (now (mem .entry)) guest ⌝ }
 {
     let went = new_table(area, pool, mem, guest, area.levels, 0, 0);
     let way = went.way;

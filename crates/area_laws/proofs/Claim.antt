@@ -12,7 +12,7 @@ use Rattle.spec.specs.Prefix.{same, any, tablesOf}
 use Rattle.pool.specs.declared.Area.{Area}
 use Rattle.pool.specs.declared.Way.the-variants.{Not}
 use Rattle.pool.specs.Pool.{end}
-use Rattle.area.specs.Tree.{lookOf, insertOf}
+use Rattle.area.specs.Tree.{lookupOf, insertOf}
 use Rattle.prune.specs.Remove.{removeOf}
 use Rattle.area_laws.specs.Run.{Op, put, cut, see, did, saw, State, told, seen, left, answers, after, Map, get, without, paths, wordsRead, specified}
 use Rattle.spec_laws.proofs.Lists.{same-is, same-refl, or-cases, or-left, or-right, is-true}
@@ -133,7 +133,7 @@ module _ {a : Area} {stays : Bool} {guest : List ℕ → ℕ} {t : State} {es : 
   there : leaves es (onto [] is) ≡ get es is
   there = ap (get es) (turn-turn is)
 
-  pub see-is : seen (lookOf (a .base) (a .size) (t .memory) (t .pool .top) is 0) ≡ saw (get es is) (wordsRead stays (paths es) is)
+  pub see-is : seen (lookupOf (a .base) (a .size) (t .memory) (t .pool .top) is 0) ≡ saw (get es is) (wordsRead stays (paths es) is)
   see-is = ap seen (holds-look (v .holds) is f) ∙ ap₂ saw there (reads-is (v .holds) is f (paths es) (map-lists es (v .solid)))
 
   made : (fs : Map) (r : After Went) → Solid fs → Next a stays (t .pool) (t .memory) (leaves fs) guest r → Done a stays guest t r fs

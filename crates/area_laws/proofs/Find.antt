@@ -12,9 +12,9 @@ use Rattle.pool.specs.declared.Area.{Area}
 use Rattle.pool.specs.declared.Pool.{Pool}
 use Rattle.pool.specs.declared.Way.the-variants.{To, Not}
 use Rattle.area.specs.declared.Look.the-variants.{Seen, Damaged}
-use Rattle.pool.specs.Header.{entryIn}
+use Rattle.pool.specs.Header.{entryAtOf}
 use Rattle.pool.specs.Pool.{followOf, onWay}
-use Rattle.area.specs.Tree.{lookOf, roomOf}
+use Rattle.area.specs.Tree.{lookupOf, roomOf}
 use Rattle.area_laws.proofs.Change.{upd, upd-other}
 use Rattle.area_laws.proofs.Invariant.{slot, follow-zero, Tables, none-below, follow-table}
 use Rattle.area_laws.proofs.Paths.{onto, Small, Clear}
@@ -84,14 +84,14 @@ module _ {a : Area} {p : Pool} {ts : List ℕ → Option ℕ} {lv guest : List �
       go (some f) e ih = omega arith
 
   look-is : (x is : List ℕ) (e n : ℕ) → e ≡ slot (ts x) (lv x) → Clear lv x is → Small is → ts (onto x is) ≡ none
-      → lookOf (a .base) (a .size) m e is n ≡ Seen (lv (onto x is)) (n + steps ts x is)
-  unfolding lookOf onto steps
+      → lookupOf (a .base) (a .size) m e is n ≡ Seen (lv (onto x is)) (n + steps ts x is)
+  unfolding lookupOf onto steps
   look-is x [] e n q c l t = ap₂ Seen (q ∙ ap (λ o. slot o (lv x)) t) (omega arith)
-  look-is x (i ∷ is) e n q c l t = go (ts x) refl (λ f tx. look-is (i ∷ x) is (entryIn m f i) (n + 1) (g .word x f i tx (l .0)) (c .1) (l .1) t)
+  look-is x (i ∷ is) e n q c l t = go (ts x) refl (λ f tx. look-is (i ∷ x) is (entryAtOf m f i) (n + 1) (g .word x f i tx (l .0)) (c .1) (l .1) t)
     where
       go : (o : Option ℕ) → ts x ≡ o
-          → ((f : ℕ) → ts x ≡ some f → lookOf (a .base) (a .size) m (entryIn m f i) is (n + 1) ≡ Seen (lv (onto (i ∷ x) is)) (n + 1 + steps ts (i ∷ x) is))
-          → onWay (followOf (a .base) (a .size) e) (Seen 0 n) Damaged (λ f. lookOf (a .base) (a .size) m (entryIn m f i) is (n + 1))
+          → ((f : ℕ) → ts x ≡ some f → lookupOf (a .base) (a .size) m (entryAtOf m f i) is (n + 1) ≡ Seen (lv (onto (i ∷ x) is)) (n + 1 + steps ts (i ∷ x) is))
+          → onWay (followOf (a .base) (a .size) e) (Seen 0 n) Damaged (λ f. lookupOf (a .base) (a .size) m (entryAtOf m f i) is (n + 1))
           ≡ Seen (lv (onto (i ∷ x) is)) (n + onTable o 0 (1 + steps ts (i ∷ x) is))
       go none h ih =
           let z : followOf (a .base) (a .size) e ≡ Not = ap (followOf (a .base) (a .size)) (q ∙ ap (λ o. slot o (lv x)) h ∙ c .0) ∙ follow-zero (a .base) (a .size) in
@@ -102,7 +102,7 @@ module _ {a : Area} {p : Pool} {ts : List ℕ → Option ℕ} {lv guest : List �
 
   -- from the top: never broken
   pub lookup-is : (is : List ℕ) → Clear lv [] is → Small is → ts (onto [] is) ≡ none
-      → lookOf (a .base) (a .size) m (p .top) is 0 ≡ Seen (lv (onto [] is)) (steps ts [] is)
+      → lookupOf (a .base) (a .size) m (p .top) is 0 ≡ Seen (lv (onto [] is)) (steps ts [] is)
   lookup-is is c l t =
       look-is [] is (p .top) 0 (g .top ∙ ap (slot (ts [])) (sym (g .root))) c l t ∙ ap (Seen (lv (onto [] is))) (omega arith)
 

@@ -17,9 +17,9 @@ use Rattle.words.specs.Words.{at, wordIn, zeroed}
 use Rattle.pool.specs.declared.Area.{Area}
 use Rattle.pool.specs.declared.Pool.{Pool}
 use Rattle.pool.specs.declared.Way.the-variants.{To, Not}
-use Rattle.pool.specs.Header.{entryIn, putOf, guestOf, levelOf, parentOf, slotOf, headOf}
+use Rattle.pool.specs.Header.{entryAtOf, putEntryOf, guestOf, levelOf, parentOf, slotOf, headerOf}
 use Rattle.pool.specs.Pool.{link, followOf, end, poolOf, withTop, freshOf, freedOf, takeOf}
-use Rattle.area.specs.Tree.{topOf, tableOf, enterOf, attachOf}
+use Rattle.area.specs.Tree.{newTopOf, newTableOf, enterOf, attachOf}
 use Rattle.spec_laws.proofs.Lists.{same-is, or-cases, or-right}
 use Rattle.spec_laws.proofs.Distinct.{In, in-head}
 use Rattle.area_laws.proofs.Change.{eq?, upd, upd-on, upd-at, upd-other, longer, no-empty, some-inj, not-some, is-some}
@@ -112,8 +112,8 @@ module _ {a : Area} {p : Pool} {ts : List ℕ → Option ℕ} {lv guest : List �
     pub len : length n ≡ length m
     pub bare : ts x ≡ none
     pub leaf : lv x ≡ 0
-    pub zeros : (j : ℕ) → j < 512 → entryIn n f j ≡ 0
-    pub rest : (y : List ℕ) (h j : ℕ) → ts y ≡ some h → j < 512 → entryIn n h j ≡ slot (upd ts x (some f) (j ∷ y)) (lv (j ∷ y))
+    pub zeros : (j : ℕ) → j < 512 → entryAtOf n f j ≡ 0
+    pub rest : (y : List ℕ) (h j : ℕ) → ts y ≡ some h → j < 512 → entryAtOf n h j ≡ slot (upd ts x (some f) (j ∷ y)) (lv (j ∷ y))
     pub heads : (h : ℕ) → h ≢ f → SameHead m n h
     pub links : (h : ℕ) → Mem h kl → wordIn n h 0 ≡ wordIn m h 0
     pub top : t ≡ slot (upd ts x (some f) []) 0
@@ -172,12 +172,12 @@ module _ {a : Area} {p : Pool} {ts : List ℕ → Option ℕ} {lv guest : List �
       injs y z h ty tz (no u) (yes v) = absurd (other y h (old y h ty u) (sym (new z h tz v)))
       injs y z h ty tz (no u) (no v) = g .inj y z h (old y h ty u) (old z h tz v)
 
-      words : (y : List ℕ) (h j : ℕ) → tu y ≡ some h → j < 512 → Dec (x ≡ y) → entryIn n h j ≡ slot (tu (j ∷ y)) (lv (j ∷ y))
+      words : (y : List ℕ) (h j : ℕ) → tu y ≡ some h → j < 512 → Dec (x ≡ y) → entryAtOf n h j ≡ slot (tu (j ∷ y)) (lv (j ∷ y))
       words y h j ty l (no u) = c .rest y h j (old y h ty u) l
       words y h j ty l (yes u) =
           let e : tu (j ∷ y) ≡ none = ap (λ z. tu (j ∷ z)) (sym u) ∙ upd-other ts x (some f) (j ∷ x) (longer j x) ∙ none-below g j x (c .bare) in
           let z : lv (j ∷ y) ≡ 0 = ap (λ z. lv (j ∷ z)) (sym u) ∙ g .below j x (c .bare) in
-          ap (λ k. entryIn n k j) (sym (new y h ty u)) ∙ c .zeros j l ∙ sym (ap (λ o. slot o (lv (j ∷ y))) e ∙ z)
+          ap (λ k. entryAtOf n k j) (sym (new y h ty u)) ∙ c .zeros j l ∙ sym (ap (λ o. slot o (lv (j ∷ y))) e ∙ z)
 
       unders : (i : ℕ) (y : List ℕ) → tu y ≡ none → Dec (x ≡ y) → lv (i ∷ y) ≡ 0
       unders i y ty (yes u) = absurd (not-some ty (upd-on ts x (some f) y u))
@@ -244,7 +244,7 @@ module _ {a : Area} {p : Pool} {ts : List ℕ → Option ℕ} {lv guest : List �
 
   pub attach-is : (h i : ℕ) (x : List ℕ) → ts x ≡ some h → i < 512 → ts (i ∷ x) ≡ none → lv (i ∷ x) ≡ 0
       → length (i ∷ x) < a .levels → guest (i ∷ x) < 65536 → p .used < a .size → Hung h i x
-  unfolding attachOf tableOf withTop
+  unfolding attachOf newTableOf withTop
   attach-is h i x tx hi bare leaf deep thin l = record {
     pool = t .pool;
     list = t .list;
@@ -284,13 +284,13 @@ module _ {a : Area} {p : Pool} {ts : List ℕ → Option ℕ} {lv guest : List �
       k = t .took
 
       z : List ℕ
-      z = headOf (zeroed m (f * 512) 512) f (guest (i ∷ x)) (a .levels - length (i ∷ x)) h i
+      z = headerOf (zeroed m (f * 512) 512) f (guest (i ∷ x)) (a .levels - length (i ∷ x)) h i
 
       e : Empty m z f (guest (i ∷ x)) (a .levels - length (i ∷ x)) h i
       e = empty-is m f (guest (i ∷ x)) (a .levels - length (i ∷ x)) h i (omega (arith, k .high, k .room, g .long)) thin (omega (arith, g .flat)) (frame-small g x h tx .1) hi
 
       n : List ℕ
-      n = putOf z h i (link f)
+      n = putEntryOf z h i (link f)
 
       here : at h i < length z
       here = rw (e .long) (place-fits g x h i tx hi)
@@ -298,11 +298,11 @@ module _ {a : Area} {p : Pool} {ts : List ℕ → Option ℕ} {lv guest : List �
       new : SameHead z n f
       new = put-head z h i (link f) f here
 
-      rests : (y : List ℕ) (d j : ℕ) → ts y ≡ some d → j < 512 → Dec (i ∷ x ≡ j ∷ y) → entryIn n d j ≡ slot (upd ts (i ∷ x) (some f) (j ∷ y)) (lv (j ∷ y))
+      rests : (y : List ℕ) (d j : ℕ) → ts y ≡ some d → j < 512 → Dec (i ∷ x ≡ j ∷ y) → entryAtOf n d j ≡ slot (upd ts (i ∷ x) (some f) (j ∷ y)) (lv (j ∷ y))
       rests y d j ty hj (yes q) =
           let u : i ≡ j = head-eq-of-cons-eq q in
           let c : h ≡ d = some-inj (sym tx ∙ ap ts (tail-eq-of-cons-eq q) ∙ ty) in
-          ap₂ (entryIn n) (sym c) (sym u) ∙ put-here z h i (link f) here (link-small f (omega (arith, k .high, k .room, g .small)))
+          ap₂ (entryAtOf n) (sym c) (sym u) ∙ put-here z h i (link f) here (link-small f (omega (arith, k .high, k .room, g .small)))
           ∙ sym (ap (λ o. slot o (lv (j ∷ y))) (upd-on ts (i ∷ x) (some f) (j ∷ y) q))
       rests y d j ty hj (no q) =
           put-other z h i (link f) d j (λ c. q (place-inj g x y h d i j tx ty hi hj c))
@@ -324,7 +324,7 @@ module _ {a : Area} {p : Pool} {ts : List ℕ → Option ℕ} {lv guest : List �
     pub beside : Beside a m memory
 
   pub enter-is : ts [] ≡ none → 0 < a .levels → guest [] < 65536 → p .used < a .size → Entered
-  unfolding enterOf topOf tableOf withTop
+  unfolding enterOf newTopOf newTableOf withTop
   enter-is bare deep thin l = record {
     pool = withTop (t .pool) (link f);
     list = t .list;
@@ -363,14 +363,14 @@ module _ {a : Area} {p : Pool} {ts : List ℕ → Option ℕ} {lv guest : List �
       k = t .took
 
       z : List ℕ
-      z = headOf (zeroed m (f * 512) 512) f (guest []) (a .levels) 0 0
+      z = headerOf (zeroed m (f * 512) 512) f (guest []) (a .levels) 0 0
 
       e : Empty m z f (guest []) (a .levels) 0 0
       e = empty-is m f (guest []) (a .levels) 0 0 (omega (arith, k .high, k .room, g .long)) thin (g .flat) (omega arith) (omega arith)
 
   -- ---- an entry is put where no table hangs
   pub put-leaf : (h i : ℕ) (x : List ℕ) (e : ℕ) → ts x ≡ some h → i < 512 → ts (i ∷ x) ≡ none → e < entryLimit → (e ≢ 0 → present e ≡ true)
-      → Tables a p ts (upd lv (i ∷ x) e) guest fl ps (putOf m h i e)
+      → Tables a p ts (upd lv (i ∷ x) e) guest fl ps (putEntryOf m h i e)
   put-leaf h i x e tx hi bare thin set = record {
     small = g .small;
     flat = g .flat;
@@ -399,7 +399,7 @@ module _ {a : Area} {p : Pool} {ts : List ℕ → Option ℕ} {lv guest : List �
   }
     where
       n : List ℕ
-      n = putOf m h i e
+      n = putEntryOf m h i e
 
       here : at h i < length m
       here = place-fits g x h i tx hi
@@ -407,11 +407,11 @@ module _ {a : Area} {p : Pool} {ts : List ℕ → Option ℕ} {lv guest : List �
       heads : (d : ℕ) → SameHead m n d
       heads d = put-head m h i e d here
 
-      words : (y : List ℕ) (d j : ℕ) → ts y ≡ some d → j < 512 → Dec (i ∷ x ≡ j ∷ y) → entryIn n d j ≡ slot (ts (j ∷ y)) (upd lv (i ∷ x) e (j ∷ y))
+      words : (y : List ℕ) (d j : ℕ) → ts y ≡ some d → j < 512 → Dec (i ∷ x ≡ j ∷ y) → entryAtOf n d j ≡ slot (ts (j ∷ y)) (upd lv (i ∷ x) e (j ∷ y))
       words y d j ty hj (yes q) =
           let u : i ≡ j = head-eq-of-cons-eq q in
           let c : h ≡ d = some-inj (sym tx ∙ ap ts (tail-eq-of-cons-eq q) ∙ ty) in
-          ap₂ (entryIn n) (sym c) (sym u) ∙ put-here m h i e here thin
+          ap₂ (entryAtOf n) (sym c) (sym u) ∙ put-here m h i e here thin
           ∙ sym (ap₂ slot (ap ts (sym q) ∙ bare) (upd-on lv (i ∷ x) e (j ∷ y) q))
       words y d j ty hj (no q) =
           put-other m h i e d j (λ c. q (place-inj g x y h d i j tx ty hi hj c))
@@ -422,11 +422,11 @@ module _ {a : Area} {p : Pool} {ts : List ℕ → Option ℕ} {lv guest : List �
       solids y (no q) k = let u = upd-other lv (i ∷ x) e y q in rw u (g .solid y (λ c. k (u ∙ c)))
 
   pub set-leaf : (h i : ℕ) (x : List ℕ) (e : ℕ) → ts x ≡ some h → i < 512 → ts (i ∷ x) ≡ none → e < entryLimit → present e ≡ true
-      → Tables a p ts (upd lv (i ∷ x) e) guest fl ps (putOf m h i e)
+      → Tables a p ts (upd lv (i ∷ x) e) guest fl ps (putEntryOf m h i e)
   set-leaf h i x e tx hi bare thin set = put-leaf h i x e tx hi bare thin (λ k. set)
 
-  pub clear-leaf : (h i : ℕ) (x : List ℕ) → ts x ≡ some h → i < 512 → ts (i ∷ x) ≡ none → Tables a p ts (upd lv (i ∷ x) 0) guest fl ps (putOf m h i 0)
+  pub clear-leaf : (h i : ℕ) (x : List ℕ) → ts x ≡ some h → i < 512 → ts (i ∷ x) ≡ none → Tables a p ts (upd lv (i ∷ x) 0) guest fl ps (putEntryOf m h i 0)
   clear-leaf h i x tx hi bare = put-leaf h i x 0 tx hi bare (omega arith) (λ k. absurd (k refl))
 
-  pub put-beside : (h i : ℕ) (x : List ℕ) (e : ℕ) → ts x ≡ some h → i < 512 → Beside a m (putOf m h i e)
-  put-beside h i x e tx hi = beside-one a m (putOf m h i e) h (g .inside x h tx .0) (frame-small g x h tx .0) (put-length m h i e) (λ d ne. put-else m h i e d hi ne)
+  pub put-beside : (h i : ℕ) (x : List ℕ) (e : ℕ) → ts x ≡ some h → i < 512 → Beside a m (putEntryOf m h i e)
+  put-beside h i x e tx hi = beside-one a m (putEntryOf m h i e) h (g .inside x h tx .0) (frame-small g x h tx .0) (put-length m h i e) (λ d ne. put-else m h i e d hi ne)

@@ -19,7 +19,7 @@ use Rattle.pool.specs.declared.Pool.{Pool}
 use Rattle.pool.specs.declared.Way.the-variants.{Not}
 use Rattle.area.specs.declared.Look.the-variants.{Seen}
 use Rattle.pool.specs.Pool.{end}
-use Rattle.area.specs.Tree.{lookOf, insertOf}
+use Rattle.area.specs.Tree.{lookupOf, insertOf}
 use Rattle.prune.specs.Remove.{removeOf}
 use Rattle.area_laws.specs.Run.{get, without, paths, wordsRead}
 use Rattle.area_laws.specs.Host.{hostEntry, entryBy, hostMap}
@@ -133,7 +133,7 @@ module _ (c : Config) (g : ℕ) (small : g < 2 ^ (9 * c .levels)) where
     there = ap (get (hostMap c xs)) (turn-turn is) ∙ host-get xs k
 
     -- a host walk finds what the mapping says, and reads as many words
-    pub host-look : lookOf (a .base) (a .size) m (p .top) (indexes (c .levels) g) 0 ≡ Seen (entryBy (lookup g xs)) (hostCost c xs g)
+    pub host-look : lookupOf (a .base) (a .size) m (p .top) (indexes (c .levels) g) 0 ≡ Seen (entryBy (lookup g xs)) (hostCost c xs g)
     unfolding is hostCost
     host-look = holds-look h is fits ∙ ap₂ Seen there (cost (lookup g xs) refl)
       where

@@ -12,7 +12,7 @@ use Rattle.spec.specs.Entry.{present, entryLimit}
 use Rattle.pool.specs.declared.Area.{Area}
 use Rattle.pool.specs.declared.Pool.{Pool}
 use Rattle.pool.specs.declared.Way.the-variants.{To, Not}
-use Rattle.pool.specs.Header.{entryIn, putOf}
+use Rattle.pool.specs.Header.{entryAtOf, putEntryOf}
 use Rattle.pool.specs.Pool.{followOf, end}
 use Rattle.area.specs.Tree.{roomOf, enterOf, attachOf, descendOf, downOf, placeOf, insertOf}
 use Rattle.area_laws.proofs.Change.{eq?, upd, upd-on, upd-at, upd-other, not-some, is-some}
@@ -124,11 +124,11 @@ down-on : (a : Area) (gs : List ℕ) (p : Pool) (m : List ℕ) (d f i j : ℕ) (
 unfolding downOf
 down-on a gs p m d f i j is e q n h c = rw c
 
-descend-old : (a : Area) (p : Pool) (m : List ℕ) (gu l f i h : ℕ) → followOf (a .base) (a .size) (entryIn m f i) ≡ To h → descendOf a p m gu l f i ≡ end p (To h) m
+descend-old : (a : Area) (p : Pool) (m : List ℕ) (gu l f i h : ℕ) → followOf (a .base) (a .size) (entryAtOf m f i) ≡ To h → descendOf a p m gu l f i ≡ end p (To h) m
 unfolding descendOf
 descend-old a p m gu l f i h c = rw c
 
-descend-new : (a : Area) (p : Pool) (m : List ℕ) (gu l f i : ℕ) → followOf (a .base) (a .size) (entryIn m f i) ≡ Not → descendOf a p m gu l f i ≡ attachOf a p m gu l f i
+descend-new : (a : Area) (p : Pool) (m : List ℕ) (gu l f i : ℕ) → followOf (a .base) (a .size) (entryAtOf m f i) ≡ Not → descendOf a p m gu l f i ≡ attachOf a p m gu l f i
 unfolding descendOf
 descend-new a p m gu l f i c = rw c
 
@@ -157,7 +157,7 @@ down-is {p = p} {ts = ts} {fl = fl} {ps = ps} {m = m} g gs x d f i [] e dx tx hi
   tabs = ts;
   list = fl;
   pres = ps;
-  memory = putOf m f i e;
+  memory = putEntryOf m f i e;
   frame = f;
   done = refl;
   tables = set-leaf g f i x e tx hi (r .bare) thin set;
@@ -174,7 +174,7 @@ down-is {a = a} {p = p} {ts = ts} {lv = lv} {guest = guest} {fl = fl} {ps = ps} 
     (route-upd (i ∷ x) j is (some (u .frame)) (route-tail (i ∷ x) j is r)) thin set
     (let k = u .used in let n = lacks-none ts (i ∷ x) j is c in let v = lacks-upd ts (i ∷ x) (some (u .frame)) (j ∷ i ∷ x) is (omega arith) in omega (arith, room)))
   where
-    word : entryIn m f i ≡ slot (ts (i ∷ x)) (lv (i ∷ x))
+    word : entryAtOf m f i ≡ slot (ts (i ∷ x)) (lv (i ∷ x))
     word = g .word x f i tx hi
 
     step : (q : Pool) (h : ℕ) (n : List ℕ) → descendOf a p m (guest (i ∷ x)) (a .levels - length (i ∷ x)) f i ≡ end q (To h) n
@@ -190,11 +190,11 @@ down-is {a = a} {p = p} {ts = ts} {lv = lv} {guest = guest} {fl = fl} {ps = ps} 
         → Placed a (u .pool) (u .memory) (upd ts (i ∷ x) (some (u .frame))) lv guest (downOf a gs (u .pool) (u .memory) (d + 1) (u .frame) j is e) (j ∷ i ∷ x) is e)
         → Placed a p m ts lv guest (downOf a gs p m d f i (j ∷ is) e) (i ∷ x) (j ∷ is) e
     go (some h) c old new =
-        let z : followOf (a .base) (a .size) (entryIn m f i) ≡ To h = ap (followOf (a .base) (a .size)) (word ∙ ap (λ o. slot o (lv (i ∷ x))) c) ∙ follow-table g (i ∷ x) h c in
+        let z : followOf (a .base) (a .size) (entryAtOf m f i) ≡ To h = ap (followOf (a .base) (a .size)) (word ∙ ap (λ o. slot o (lv (i ∷ x))) c) ∙ follow-table g (i ∷ x) h c in
         placed-old (i ∷ x) j is e h c (step p h m (descend-old a p m _ _ f i h z)) (old h c)
     go none c old new =
         let u = attach-is g f i x tx hi c (r .clear .0) (let s = r .short in omega arith) (r .gives .1) (let k = lacks-none ts (i ∷ x) j is c in omega (arith, room)) in
-        let z : followOf (a .base) (a .size) (entryIn m f i) ≡ Not = ap (followOf (a .base) (a .size)) (word ∙ ap (λ o. slot o (lv (i ∷ x))) c ∙ r .clear .0) ∙ follow-zero (a .base) (a .size) in
+        let z : followOf (a .base) (a .size) (entryAtOf m f i) ≡ Not = ap (followOf (a .base) (a .size)) (word ∙ ap (λ o. slot o (lv (i ∷ x))) c ∙ r .clear .0) ∙ follow-zero (a .base) (a .size) in
         placed-new (i ∷ x) j is e (u .frame) c (u .used) (u .beside) (step (u .pool) (u .frame) (u .memory) (descend-new a p m _ _ f i z ∙ u .done)) (new u c)
 
 module _ {a : Area} {p : Pool} {ts : List ℕ → Option ℕ} {lv guest : List ℕ → ℕ} {fl : List ℕ} {ps : List (List ℕ)} {m : List ℕ}

@@ -16,7 +16,7 @@ use Rattle.words.specs.Words.{at, wordIn}
 use Rattle.pool.specs.declared.Area.{Area}
 use Rattle.pool.specs.declared.Pool.{Pool}
 use Rattle.pool.specs.declared.Way.the-variants.{To, Not}
-use Rattle.pool.specs.Header.{entryIn, guestOf, levelOf, parentOf, slotOf, insideOf}
+use Rattle.pool.specs.Header.{entryAtOf, guestOf, levelOf, parentOf, slotOf, insideOf}
 use Rattle.pool.specs.Pool.{link, followOf}
 use Rattle.spec_laws.proofs.Distinct.{In, Once}
 use Rattle.area_laws.proofs.Change.{not-some, is-some}
@@ -100,7 +100,7 @@ pub record Tables (a : Area) (p : Pool) (ts : List ℕ → Option ℕ) (lv guest
   -- one frame holds one table
   pub inj : (x y : List ℕ) (f : ℕ) → ts x ≡ some f → ts y ≡ some f → x ≡ y
   -- an entry of a table names the table below, or is the leaf
-  pub word : (x : List ℕ) (f i : ℕ) → ts x ≡ some f → i < 512 → entryIn m f i ≡ slot (ts (i ∷ x)) (lv (i ∷ x))
+  pub word : (x : List ℕ) (f i : ℕ) → ts x ≡ some f → i < 512 → entryAtOf m f i ≡ slot (ts (i ∷ x)) (lv (i ∷ x))
   -- the pool names the top table
   pub top : p .top ≡ slot (ts []) 0
   -- a leaf stands in a table, at an index of it, where no table hangs, and its entry is present

@@ -12,9 +12,9 @@ use Rattle.pool.specs.declared.Area.{Area}
 use Rattle.pool.specs.declared.Pool.{Pool}
 use Rattle.pool.specs.declared.Way.{Way}
 use Rattle.pool.specs.declared.Way.the-variants.{To, Not, Damaged}
-use Rattle.pool.specs.Header.{entryIn, putOf}
+use Rattle.pool.specs.Header.{entryAtOf, putEntryOf}
 use Rattle.pool.specs.Pool.{followOf, onWay, end}
-use Rattle.prune.specs.Remove.{releaseOf, lastOf, lastIndex, clearOf, removeOf}
+use Rattle.prune.specs.Remove.{releaseOf, lastTableOf, lastIndex, clearOf, removeOf}
 use Rattle.area_laws.proofs.Change.{upd}
 use Rattle.area_laws.proofs.Stores.{beside-trans}
 use Rattle.area_laws.proofs.Paths.{onto, Small, Clear}
@@ -56,17 +56,17 @@ module _ {a : Area} {p : Pool} {ts : List ℕ → Option ℕ} {lv guest : List �
 
   -- the table that holds the last entry of the path
   last-is : (x : List ℕ) (i : ℕ) (is : List ℕ) (e : ℕ) → e ≡ slot (ts x) (lv x) → Clear lv x (i ∷ is) → Small (i ∷ is)
-      → lastOf (a .base) (a .size) m e i is ≡ way (ts (front x i is))
-  unfolding lastOf front
+      → lastTableOf (a .base) (a .size) m e i is ≡ way (ts (front x i is))
+  unfolding lastTableOf front
   last-is x i [] e q c l = go (ts x) refl
     where
       go : (o : Option ℕ) → ts x ≡ o → followOf (a .base) (a .size) e ≡ way o
       go none h = ap (followOf (a .base) (a .size)) (q ∙ ap (λ o. slot o (lv x)) h ∙ c .0) ∙ follow-zero (a .base) (a .size)
       go (some f) h = ap (followOf (a .base) (a .size)) (q ∙ ap (λ o. slot o (lv x)) h) ∙ follow-table g x f h
-  last-is x i (j ∷ is) e q c l = go (ts x) refl (λ f h. last-is (i ∷ x) j is (entryIn m f i) (g .word x f i h (l .0)) (c .1) (l .1))
+  last-is x i (j ∷ is) e q c l = go (ts x) refl (λ f h. last-is (i ∷ x) j is (entryAtOf m f i) (g .word x f i h (l .0)) (c .1) (l .1))
     where
-      go : (o : Option ℕ) → ts x ≡ o → ((f : ℕ) → ts x ≡ some f → lastOf (a .base) (a .size) m (entryIn m f i) j is ≡ way (ts (front (i ∷ x) j is)))
-          → onWay (followOf (a .base) (a .size) e) Not Damaged (λ f. lastOf (a .base) (a .size) m (entryIn m f i) j is) ≡ way (ts (front (i ∷ x) j is))
+      go : (o : Option ℕ) → ts x ≡ o → ((f : ℕ) → ts x ≡ some f → lastTableOf (a .base) (a .size) m (entryAtOf m f i) j is ≡ way (ts (front (i ∷ x) j is)))
+          → onWay (followOf (a .base) (a .size) e) Not Damaged (λ f. lastTableOf (a .base) (a .size) m (entryAtOf m f i) j is) ≡ way (ts (front (i ∷ x) j is))
       go none h ih =
           let z : followOf (a .base) (a .size) e ≡ Not = ap (followOf (a .base) (a .size)) (q ∙ ap (λ o. slot o (lv x)) h ∙ c .0) ∙ follow-zero (a .base) (a .size) in
           rw z (sym (ap way (front-none (i ∷ x) j is (none-below g i x h))))
@@ -88,7 +88,7 @@ module _ {a : Area} {p : Pool} {ts : List ℕ → Option ℕ} {lv guest : List �
     tail-bare : ts (i ∷ x) ≡ none
     tail-bare = ap ts (sym path) ∙ bare
 
-    last-top : lastOf (a .base) (a .size) m (p .top) j js ≡ way (ts x)
+    last-top : lastTableOf (a .base) (a .size) m (p .top) j js ≡ way (ts x)
     unfolding x
     last-top = last-is [] j js (p .top) (g .top ∙ ap (slot (ts [])) (sym (g .root))) c l
 
@@ -96,7 +96,7 @@ module _ {a : Area} {p : Pool} {ts : List ℕ → Option ℕ} {lv guest : List �
     unfolding i
     index = last-small j js l
 
-    entry : (f : ℕ) → ts x ≡ some f → entryIn m f i ≡ lv (onto [] (j ∷ js))
+    entry : (f : ℕ) → ts x ≡ some f → entryAtOf m f i ≡ lv (onto [] (j ∷ js))
     entry f e = g .word x f i e index ∙ ap (λ o. slot o (lv (i ∷ x))) tail-bare ∙ ap lv (sym path)
 
     pub remove-absent : lv (onto [] (j ∷ js)) ≡ 0 → removeOf a stays p m (j ∷ js) ≡ end p Not m
@@ -109,12 +109,12 @@ module _ {a : Area} {p : Pool} {ts : List ℕ → Option ℕ} {lv guest : List �
 
     -- the leaf is cleared, and then tables are given back
     cleared : Exact stays ts lv → (f : ℕ) → ts x ≡ some f
-        → Released a stays p (putOf m f i 0) ts (upd lv (onto [] (j ∷ js)) 0) guest (releaseOf a stays p (putOf m f i 0) (length js) f)
+        → Released a stays p (putEntryOf m f i 0) ts (upd lv (onto [] (j ∷ js)) 0) guest (releaseOf a stays p (putEntryOf m f i 0) (length js) f)
     unfolding i x
     cleared ex f e =
         let k : length x ≡ length js = front-long [] j js ∙ omega arith in
-        subst (λ y. Released a stays p (putOf m f i 0) ts (upd lv y 0) guest (releaseOf a stays p (putOf m f i 0) (length js) f)) (sym path)
-        (subst (λ n. Released a stays p (putOf m f i 0) ts (upd lv (i ∷ x) 0) guest (releaseOf a stays p (putOf m f i 0) n f)) k
+        subst (λ y. Released a stays p (putEntryOf m f i 0) ts (upd lv y 0) guest (releaseOf a stays p (putEntryOf m f i 0) (length js) f)) (sym path)
+        (subst (λ n. Released a stays p (putEntryOf m f i 0) ts (upd lv (i ∷ x) 0) guest (releaseOf a stays p (putEntryOf m f i 0) n f)) k
         (release-is (clear-leaf g f i x e index tail-bare) stays x f e (but-clear ts lv x i (exact-but stays ts lv x ex))))
 
     pub remove-is : Exact stays ts lv → lv (onto [] (j ∷ js)) ≢ 0 → Released a stays p m ts (upd lv (onto [] (j ∷ js)) 0) guest (removeOf a stays p m (j ∷ js))

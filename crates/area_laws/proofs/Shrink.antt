@@ -17,7 +17,7 @@ use Rattle.words.specs.Words.{at, wordIn}
 use Rattle.pool.specs.declared.Area.{Area}
 use Rattle.pool.specs.declared.Pool.{Pool}
 use Rattle.pool.specs.declared.Way.the-variants.{To, Not}
-use Rattle.pool.specs.Header.{entryIn, putOf, levelOf, parentOf, slotOf, bareOf}
+use Rattle.pool.specs.Header.{entryAtOf, putEntryOf, levelOf, parentOf, slotOf, bareOf}
 use Rattle.pool.specs.Pool.{end, noneOf, withTop, withFreed, freeWords}
 use Rattle.prune.specs.Remove.{detachOf, releaseTop}
 use Rattle.spec_laws.proofs.Lists.{same-is, same-refl}
@@ -27,31 +27,31 @@ use Rattle.area_laws.proofs.Stores.{SameHead, trans-head, frame-head, f
 use Rattle.area_laws.proofs.Invariant.{slot, inside-is, present-link, Mem, Chain, chain-keep, Tables, above, none-past, frame-small, place-fits, place-inj}
 
 -- ---- whether a table is empty
-pub bare-true : (m : List ℕ) (f n : ℕ) → bareOf m f n ≡ true → (j : ℕ) → j < n → present (entryIn m f j) ≡ false
+pub bare-true : (m : List ℕ) (f n : ℕ) → bareOf m f n ≡ true → (j : ℕ) → j < n → present (entryAtOf m f j) ≡ false
 unfolding bareOf
 bare-true m f zero e j l = absurd (omega arith)
-bare-true m f (suc n) e j l = go (present (entryIn m f n)) refl e (bare-true m f n)
+bare-true m f (suc n) e j l = go (present (entryAtOf m f n)) refl e (bare-true m f n)
   where
-    go : (t : Bool) → present (entryIn m f n) ≡ t → cond t false (bareOf m f n) ≡ true → (bareOf m f n ≡ true → (j : ℕ) → j < n → present (entryIn m f j) ≡ false) → present (entryIn m f j) ≡ false
+    go : (t : Bool) → present (entryAtOf m f n) ≡ t → cond t false (bareOf m f n) ≡ true → (bareOf m f n ≡ true → (j : ℕ) → j < n → present (entryAtOf m f j) ≡ false) → present (entryAtOf m f j) ≡ false
     go true q k ih = differ (sym k)
     go false q k ih = last (ℕ-discrete j n)
       where
-        last : Dec (j ≡ n) → present (entryIn m f j) ≡ false
-        last (yes z) = ap (λ u. present (entryIn m f u)) z ∙ q
+        last : Dec (j ≡ n) → present (entryAtOf m f j) ≡ false
+        last (yes z) = ap (λ u. present (entryAtOf m f u)) z ∙ q
         last (no z) = ih k j (omega (arith, z))
 
 -- an entry that is present
 pub record Busy (m : List ℕ) (f n : ℕ) : Type 0 where
   pub index : ℕ
   pub less : index < n
-  pub set : present (entryIn m f index) ≡ true
+  pub set : present (entryAtOf m f index) ≡ true
 
 pub bare-false : (m : List ℕ) (f n : ℕ) → bareOf m f n ≡ false → Busy m f n
 unfolding bareOf
 bare-false m f zero e = differ e
-bare-false m f (suc n) e = go (present (entryIn m f n)) refl e (bare-false m f n)
+bare-false m f (suc n) e = go (present (entryAtOf m f n)) refl e (bare-false m f n)
   where
-    go : (t : Bool) → present (entryIn m f n) ≡ t → cond t false (bareOf m f n) ≡ false → (bareOf m f n ≡ false → Busy m f n) → Busy m f (suc n)
+    go : (t : Bool) → present (entryAtOf m f n) ≡ t → cond t false (bareOf m f n) ≡ false → (bareOf m f n ≡ false → Busy m f n) → Busy m f (suc n)
     go true q k ih = record { index = n; less = omega arith; set = q }
     go false q k ih = let s = ih k in let l = s .less in record { index = s .index; less = omega arith; set = s .set }
 
@@ -109,7 +109,7 @@ module _ {a : Area} {p : Pool} {ts : List ℕ → Option ℕ} {lv guest : List �
   pub record Loose (x : List ℕ) (f t : ℕ) (k : List ℕ) : Type 0 where
     pub long : length k ≡ length m
     pub heads : (d : ℕ) → SameHead m k d
-    pub words : (y : List ℕ) (d j : ℕ) → upd ts x none y ≡ some d → j < 512 → entryIn k d j ≡ slot (upd ts x none (j ∷ y)) (lv (j ∷ y))
+    pub words : (y : List ℕ) (d j : ℕ) → upd ts x none y ≡ some d → j < 512 → entryAtOf k d j ≡ slot (upd ts x none (j ∷ y)) (lv (j ∷ y))
     pub links : (d : ℕ) → Mem d fl → wordIn k d 0 ≡ wordIn m d 0
     pub top : t ≡ slot (upd ts x none []) 0
 
@@ -206,7 +206,7 @@ module _ {a : Area} {p : Pool} {ts : List ℕ → Option ℕ} {lv guest : List �
 
   -- ---- the empty table f of the prefix i ∷ x is taken off the table above
   abbrev pub unhung : ℕ → List ℕ
-  unhung f = freeWords (putOf m (parentOf m f) (slotOf m f) 0) f (p .free)
+  unhung f = freeWords (putEntryOf m (parentOf m f) (slotOf m f) 0) f (p .free)
 
   pub record Unhung (i : ℕ) (x : List ℕ) (f : ℕ) : Type 0 where
     pub done : detachOf a p m f ≡ end (withFreed p f) (To (parentOf m f)) (unhung f)
@@ -244,7 +244,7 @@ module _ {a : Area} {p : Pool} {ts : List ℕ → Option ℕ} {lv guest : List �
       hs = let k = above g i x f tf .index in rw si k
 
       k : List ℕ
-      k = putOf m h s 0
+      k = putEntryOf m h s 0
 
       here : at h s < length m
       here = place-fits g x h s tx hs
@@ -252,11 +252,11 @@ module _ {a : Area} {p : Pool} {ts : List ℕ → Option ℕ} {lv guest : List �
       old : (y : List ℕ) (d : ℕ) → upd ts (i ∷ x) none y ≡ some d → ts y ≡ some d
       old y d ty = sym (upd-other ts (i ∷ x) none y (λ e. not-some (upd-on ts (i ∷ x) none y e) ty)) ∙ ty
 
-      words : (y : List ℕ) (d j : ℕ) → ts y ≡ some d → j < 512 → Dec (i ∷ x ≡ j ∷ y) → entryIn k d j ≡ slot (upd ts (i ∷ x) none (j ∷ y)) (lv (j ∷ y))
+      words : (y : List ℕ) (d j : ℕ) → ts y ≡ some d → j < 512 → Dec (i ∷ x ≡ j ∷ y) → entryAtOf k d j ≡ slot (upd ts (i ∷ x) none (j ∷ y)) (lv (j ∷ y))
       words y d j ty hj (yes e) =
           let u : s ≡ j = si ∙ head-eq-of-cons-eq e in
           let c : h ≡ d = some-inj (sym tx ∙ ap ts (tail-eq-of-cons-eq e) ∙ ty) in
-          ap₂ (entryIn k) (sym c) (sym u) ∙ put-here m h s 0 here (omega arith)
+          ap₂ (entryAtOf k) (sym c) (sym u) ∙ put-here m h s 0 here (omega arith)
           ∙ sym (ap₂ slot (upd-on ts (i ∷ x) none (j ∷ y) e) (ap lv (sym e) ∙ g .plain (i ∷ x) f tf))
       words y d j ty hj (no e) =
           put-other m h s 0 d j (λ c. e (ap (λ z. z ∷ x) (sym si) ∙ place-inj g x y h d s j tx ty hs hj c))

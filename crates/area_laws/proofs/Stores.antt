@@ -15,7 +15,7 @@ use Rattle.spec.specs.Entry.{entryLimit}
 use Rattle.words.specs.Words.{SameFrame, at, wordIn, setIn, zeroed}
 use Rattle.words.proofs.Laws.{zeroed-length, zeroed-below, zeroed-above, zeroed-inside}
 use Rattle.pool.specs.declared.Area.{Area}
-use Rattle.pool.specs.Header.{entryIn, highOf, putOf, guestOf, levelOf, parentOf, slotOf, headOf}
+use Rattle.pool.specs.Header.{entryAtOf, highOf, putEntryOf, guestOf, levelOf, parentOf, slotOf, headerOf}
 use Rattle.pool.specs.Pool.{freeWords}
 use Rattle.spec.specs.Prefix.{All}
 
@@ -47,8 +47,8 @@ pub frame-head : (m n : List ℕ) (g : ℕ) → SameFrame m n g → SameHead m n
 unfolding highOf
 frame-head m n g h = high-head m n g (λ k l. ap (λ x. x / entryLimit) (h k l))
 
-pub frame-entry : (m n : List ℕ) (g j : ℕ) → SameFrame m n g → j < 512 → entryIn n g j ≡ entryIn m g j
-unfolding entryIn
+pub frame-entry : (m n : List ℕ) (g j : ℕ) → SameFrame m n g → j < 512 → entryAtOf n g j ≡ entryAtOf m g j
+unfolding entryAtOf
 frame-entry m n g j h l = ap (λ x. x % entryLimit) (h j l)
 
 -- frames outside the area hold the same words, and the length is the same
@@ -86,38 +86,38 @@ pub set-else : (m : List ℕ) (f i v g : ℕ) → i < 512 → g ≢ f → SameFr
 set-else m f i v g hi ne k l = getD-set-other m (at f i) (at g k) v 0 (λ q. ne (at-inj g k f i l hi q .0))
 
 -- ---- an entry is put
-pub put-length : (m : List ℕ) (f i e : ℕ) → length (putOf m f i e) ≡ length m
-unfolding putOf
+pub put-length : (m : List ℕ) (f i e : ℕ) → length (putEntryOf m f i e) ≡ length m
+unfolding putEntryOf
 put-length m f i e = length-set m (at f i) _
 
-pub put-word : (m : List ℕ) (f i e j : ℕ) → j ≢ at f i → getD (putOf m f i e) j 0 ≡ getD m j 0
-unfolding putOf
+pub put-word : (m : List ℕ) (f i e j : ℕ) → j ≢ at f i → getD (putEntryOf m f i e) j 0 ≡ getD m j 0
+unfolding putEntryOf
 put-word m f i e j h = getD-set-other m (at f i) j _ 0 h
 
 put-same : (m : List ℕ) (f i e : ℕ) → at f i < length m
-    → wordIn (putOf m f i e) f i ≡ wordIn m f i / entryLimit * entryLimit + e % entryLimit
-unfolding putOf
+    → wordIn (putEntryOf m f i e) f i ≡ wordIn m f i / entryLimit * entryLimit + e % entryLimit
+unfolding putEntryOf
 put-same m f i e l = getD-set-same m (at f i) _ 0 l
 
-pub put-here : (m : List ℕ) (f i e : ℕ) → at f i < length m → e < entryLimit → entryIn (putOf m f i e) f i ≡ e
-unfolding entryIn
+pub put-here : (m : List ℕ) (f i e : ℕ) → at f i < length m → e < entryLimit → entryAtOf (putEntryOf m f i e) f i ≡ e
+unfolding entryAtOf
 put-here m f i e l s = ap (λ x. x % entryLimit) (put-same m f i e l) ∙ omega arith
 
 -- another entry
-pub put-other : (m : List ℕ) (f i e g j : ℕ) → at g j ≢ at f i → entryIn (putOf m f i e) g j ≡ entryIn m g j
-unfolding entryIn
+pub put-other : (m : List ℕ) (f i e g j : ℕ) → at g j ≢ at f i → entryAtOf (putEntryOf m f i e) g j ≡ entryAtOf m g j
+unfolding entryAtOf
 put-other m f i e g j h = ap (λ x. x % entryLimit) (put-word m f i e (at g j) h)
 
-pub put-else : (m : List ℕ) (f i e g : ℕ) → i < 512 → g ≢ f → SameFrame m (putOf m f i e) g
+pub put-else : (m : List ℕ) (f i e g : ℕ) → i < 512 → g ≢ f → SameFrame m (putEntryOf m f i e) g
 put-else m f i e g hi ne k l = put-word m f i e (at g k) (λ q. ne (at-inj g k f i l hi q .0))
 
 -- every header stays
-pub put-head : (m : List ℕ) (f i e g : ℕ) → at f i < length m → SameHead m (putOf m f i e) g
+pub put-head : (m : List ℕ) (f i e g : ℕ) → at f i < length m → SameHead m (putEntryOf m f i e) g
 unfolding highOf
-put-head m f i e g l = high-head m (putOf m f i e) g (λ k h. go k (ℕ-discrete (at g k) (at f i)))
+put-head m f i e g l = high-head m (putEntryOf m f i e) g (λ k h. go k (ℕ-discrete (at g k) (at f i)))
   where
-    go : (k : ℕ) → Dec (at g k ≡ at f i) → wordIn (putOf m f i e) g k / entryLimit ≡ wordIn m g k / entryLimit
-    go k (yes q) = subst (λ z. getD (putOf m f i e) z 0 / entryLimit ≡ getD m z 0 / entryLimit) (sym q)
+    go : (k : ℕ) → Dec (at g k ≡ at f i) → wordIn (putEntryOf m f i e) g k / entryLimit ≡ wordIn m g k / entryLimit
+    go k (yes q) = subst (λ z. getD (putEntryOf m f i e) z 0 / entryLimit ≡ getD m z 0 / entryLimit) (sym q)
         (ap (λ x. x / entryLimit) (put-same m f i e l) ∙ omega arith)
     go k (no q) = ap (λ x. x / entryLimit) (put-word m f i e (at g k) q)
 
@@ -183,15 +183,15 @@ written-all P m f k (v ∷ vs) a h w =
 pub record Empty (m n : List ℕ) (f g l h i : ℕ) : Type 0 where
   pub long : length n ≡ length m
   pub else : (d : ℕ) → d ≢ f → SameFrame m n d
-  pub zeros : (j : ℕ) → j < 512 → entryIn n f j ≡ 0
+  pub zeros : (j : ℕ) → j < 512 → entryAtOf n f j ≡ 0
   pub guest : guestOf n f ≡ g
   pub level : levelOf n f ≡ l
   pub parent : parentOf n f ≡ h
   pub slot : slotOf n f ≡ i
 
 pub empty-is : (m : List ℕ) (f guest level parent slot : ℕ) → f * 512 + 512 ≤ length m → guest < 65536 → level < 8 → parent < 65536 → slot < 512
-    → Empty m (headOf (zeroed m (f * 512) 512) f guest level parent slot) f guest level parent slot
-unfolding headOf written entryIn guestOf levelOf parentOf slotOf highOf
+    → Empty m (headerOf (zeroed m (f * 512) 512) f guest level parent slot) f guest level parent slot
+unfolding headerOf written entryAtOf guestOf levelOf parentOf slotOf highOf
 empty-is m f guest level parent slot fits sg sl sp ss = record {
   long = written-length z f 0 vs ∙ zeroed-length m (f * 512) 512;
   else = λ d ne j l. written-else z f 0 vs d ne (omega arith) j l ∙ zero-else m f d ne j l;

@@ -17,7 +17,7 @@ use Rattle.pool.specs.declared.Pool.{Pool}
 use Rattle.pool.specs.declared.Way.the-variants.{To, Not}
 use Rattle.area.specs.declared.Look.the-variants.{Seen}
 use Rattle.pool.specs.Pool.{end, noneOf}
-use Rattle.area.specs.Tree.{lookOf, roomOf, enterOf, placeOf, insertOf}
+use Rattle.area.specs.Tree.{lookupOf, roomOf, enterOf, placeOf, insertOf}
 use Rattle.prune.specs.Remove.{removeOf}
 use Rattle.area_laws.proofs.Change.{eq?, upd, upd-at, upd-other, is-some}
 use Rattle.words.specs.Words.{SameFrame}
@@ -195,7 +195,7 @@ module _ {a : Area} {stays : Bool} {p : Pool} {m : List ℕ} {lv guest : List �
         ])
 
     -- ---- lookup
-    pub holds-look : lookOf (a .base) (a .size) m (p .top) is 0 ≡ Seen (lv (onto [] is)) (steps (h .tabs) [] is)
+    pub holds-look : lookupOf (a .base) (a .size) m (p .top) is 0 ≡ Seen (lv (onto [] is)) (steps (h .tabs) [] is)
     holds-look = lookup-is (h .tables) is on-way (f .small) at-end
 
 -- after a release

@@ -14,7 +14,7 @@ use Rattle.pool.specs.declared.Way.the-variants.{To, Not, Damaged}
 use Rattle.area.specs.declared.Look.{Look}
 use Rattle.area.specs.declared.Look.the-variants.{Seen}
 use Rattle.area.specs.declared.Look.the-variants as look
-use Rattle.area.specs.Tree.{lookOf, insertOf}
+use Rattle.area.specs.Tree.{lookupOf, insertOf}
 use Rattle.prune.specs.Remove.{removeOf}
 use Rattle.words.specs.After.{After}
 use Rattle.pool.specs.declared.Went.{Went}
@@ -52,7 +52,7 @@ unfoldable pub answers : Area → Bool → State → List Op → List Reply
 answers a stays t [] = []
 answers a stays t (put is gs e ∷ os) = let r = insertOf a gs (t .pool) (t .memory) is e in told (r .result .way) ∷ answers a stays (left r) os
 answers a stays t (cut is ∷ os) = let r = removeOf a stays (t .pool) (t .memory) is in told (r .result .way) ∷ answers a stays (left r) os
-answers a stays t (see is ∷ os) = seen (lookOf (a .base) (a .size) (t .memory) (t .pool .top) is 0) ∷ answers a stays t os
+answers a stays t (see is ∷ os) = seen (lookupOf (a .base) (a .size) (t .memory) (t .pool .top) is 0) ∷ answers a stays t os
 
 unfoldable pub after : Area → Bool → State → List Op → State
 after a stays t [] = t

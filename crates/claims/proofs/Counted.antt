@@ -47,7 +47,7 @@ use Rattle.drops_laws.proofs.Valid.{entryOf}
 use Rattle.translate.specs.Translate.{exitBy, servesOf, foundOf}
 use Rattle.translate.specs.declared.Held.{Held as Holding}
 use Rattle.request.specs.Access as put
-use Rattle.request.specs.Access.{loadOf, putOf, storeOf}
+use Rattle.request.specs.Access.{loadOf, putWordOf, storeOf}
 use Rattle.translate.proofs.Fits.{ArrivedIn}
 use Rattle.translate.proofs.Leaves.{translate-leaves}
 use Rattle.request.proofs.Leaves.{put-leaves}
@@ -183,14 +183,14 @@ module _ (s : State) (r : Record) (m : List ℕ) (inv : Inv s r m) (a : ℕ) whe
         subst (λ (x : After Reply). References (length (countedOf r m true a)) (x .result .answer)) (sym (store-fits m refl)) (counts true h (storedBy r a v) said)
       where
         said : (x : Walked) → Reads (length (countedOf r m true a)) x → References (length (countedOf r m true a)) (storedBy r a v (read.left r true a x m) x .result .answer)
-        said (walked.Arrived t w k) q = written-counts r (heldOf r) k 0 (putOf c m (r .pools .shadow) (t .0) (wordOf a) v) (length (countedOf r m true a)) q
+        said (walked.Arrived t w k) q = written-counts r (heldOf r) k 0 (putWordOf c m (r .pools .shadow) (t .0) (wordOf a) v) (length (countedOf r m true a)) q
         said (walked.Faulted y k) q = q
         said walked.Damaged q = tt
 
     -- what a store to word i of the guest frame t leaves on a memory
     module _ (t : ℕ) (there : InGuestArea c t) (k : ℕ) where
       abbrev putOn : List ℕ → After Put
-      putOn n = putOf c n (r .pools .shadow) t (wordOf a) v
+      putOn n = putWordOf c n (r .pools .shadow) t (wordOf a) v
 
       abbrev leftOn : List ℕ → After Reply
       leftOn n = writtenIn r (heldOf r) k 0 (putOn n) (putOn n .result .ok)
@@ -230,7 +230,7 @@ module _ (s : State) (r : Record) (m : List ℕ) (inv : Inv s r m) (a : ℕ) whe
 
       -- no shadow word is altered: the tables hold what they held, and no damage is met
       whole-tables : (n : List ℕ) → length n ≡ length m → SameTables c m n → (putOn n .result .ok ≡ true) × (putOn n .result .exits ≡ one (watched t (longer (s .book .held))))
-      unfolding putOf
+      unfolding putWordOf
       whole-tables n e same = subst (λ b. (putOn n .result .ok ≡ true) × (putOn n .result .exits ≡ one b)) (watched-is tables (found.held-entries s r m inv) t) (go (watchedOf c n (r .pools .shadow .fresh) t))
         where
           tables : Holds (shadowArea c) false (r .pools .shadow) n (leafAt (entryOf c (frames r m)) (longer (s .book .held))) (frames r m)

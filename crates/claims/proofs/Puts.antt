@@ -43,7 +43,7 @@ use Rattle.drops_laws.proofs.Watch.{watched-is}
 use Rattle.drops_laws.proofs.Drops.{drop-word, empty-word, empty-frame}
 use Rattle.drops_laws.proofs.Valid.{framesAt, entryOf, valid-entry, Stays, stays-store}
 use Rattle.request.specs.Access as put
-use Rattle.request.specs.Access.{putOf, putBy}
+use Rattle.request.specs.Access.{putWordOf, putBy}
 use Rattle.record.specs.Record.{headTables}
 use Rattle.record.proofs.Rules.{holds-pool}
 use Rattle.calls.specs.Calls.{hostTop, headHeld, withHeld}
@@ -181,8 +181,8 @@ module _ (s : State) (r : Record) (m : List ℕ) (inv : Inv s r m) (t i v : ℕ)
       top : r .guest .held .0 ≡ topBy (framesAt c ht (setIn n t i v) (mach .root) []) (find [] kept)
       top = inv-top inv ∙ ap₂ topBy (frame-root c mach ht m (found.memory-stands s r m inv) (found.root-small s r m inv) ∙ sym (frame-root c (stored c mach t i v) ht (setIn n t i v) now (found.root-small s r m inv))) (sym same-find)
 
-  pub puts : Puts s r t i v (putOf c m (r .pools .shadow) t i v)
-  unfolding putOf
+  pub puts : Puts s r t i v (putWordOf c m (r .pools .shadow) t i v)
+  unfolding putWordOf
   puts = go (watched t (s .book .held)) refl
     where
       scanned : Dropped c m (leafAt (entryOf c (frames r m)) (dropWord t i (longer (s .book .held)))) (frames r m) (scanOf c (Word (page t) i) (r .pools .shadow) m)

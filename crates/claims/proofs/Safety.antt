@@ -30,10 +30,10 @@ use Rattle.pool.specs.declared.Pool.{Pool}
 use Rattle.pool.specs.declared.Way.{Way}
 use Rattle.pool.specs.declared.Way.the-variants.{To, Not, Damaged}
 use Rattle.words.specs.Words.{at, setIn}
-use Rattle.pool.specs.Header.{entryIn, putOf as entryPut, bareOf}
+use Rattle.pool.specs.Header.{entryAtOf, putEntryOf, bareOf}
 use Rattle.pool.specs.Pool.{onWay, end, withTop, withFreed, freeWords}
 use Rattle.area.specs.Tree.{roomOf, enterOf, descendOf, downOf, placeOf, insertOf}
-use Rattle.prune.specs.Remove.{detachOf, releaseTop, releaseOf, lastOf, lastIndex, clearOf, removeOf}
+use Rattle.prune.specs.Remove.{detachOf, releaseTop, releaseOf, lastTableOf, lastIndex, clearOf, removeOf}
 use Rattle.pool.specs.Outside.{SameOutside}
 use Rattle.pool.proofs.Outside.{out-refl, out-trans}
 use Rattle.prune.proofs.Outside.{remove-out}
@@ -62,7 +62,7 @@ use Rattle.drops.proofs.Outside.{scan-out, prefix-out}
 use Rattle.entry.specs.declared.HostPhysical.{HostPhysical}
 use Rattle.record.specs.declared.Head.{Head}
 use Rattle.translate.specs.declared.Held.{Held as Holding}
-use Rattle.request.specs.Access.{loadOf, putOf, storeOf, deviceBy, deviceOf}
+use Rattle.request.specs.Access.{loadOf, putWordOf, storeOf, deviceBy, deviceOf}
 use Rattle.translate.proofs.Fits.{ArrivedIn}
 use Rattle.translate.proofs.Leaves.{Leaves, translate-leaves}
 use Rattle.request.proofs.Leaves.{put-leaves}
@@ -235,18 +235,18 @@ module _ (a : Area) where
 
   clear-refuses : (stays : Bool) (p : Pool) (m : List ℕ) (k f i : ℕ) → Refuses m (clearOf a stays p m k f i)
   unfolding clearOf
-  clear-refuses stays p m k f i = go (present (entryIn m f i))
+  clear-refuses stays p m k f i = go (present (entryAtOf m f i))
     where
-      go : (b : Bool) → Refuses m (cond b (releaseOf a stays p (entryPut m f i 0) k f) (end p Not m))
+      go : (b : Bool) → Refuses m (cond b (releaseOf a stays p (putEntryOf m f i 0) k f) (end p Not m))
       go true =
-          let t = releaseOf a stays p (entryPut m f i 0) k f in
-          sure-leaves m (t .memory) (t .result .way) (release-sure k stays p (entryPut m f i 0) f)
+          let t = releaseOf a stays p (putEntryOf m f i 0) k f in
+          sure-leaves m (t .memory) (t .result .way) (release-sure k stays p (putEntryOf m f i 0) f)
       go false = refl
 
   remove-refuses : (stays : Bool) (p : Pool) (m is : List ℕ) → Refuses m (removeOf a stays p m is)
   unfolding removeOf
   remove-refuses stays p m [] = refl
-  remove-refuses stays p m (i ∷ is) = go (lastOf (a .base) (a .size) m (p .top) i is)
+  remove-refuses stays p m (i ∷ is) = go (lastTableOf (a .base) (a .size) m (p .top) i is)
     where
       go : (w : Way) → Refuses m (onWay w (end p Not m) (end p Damaged m) (λ f. clearOf a stays p m (length is) f (lastIndex i is)))
       go (To f) = clear-refuses stays p m (length is) f (lastIndex i is)
@@ -349,14 +349,14 @@ module _ (r : Record) (m : List ℕ) where
 
   -- a store that came to word i of host frame t; n is the memory after its translation
   written-kept : Fits r (length m) → (h : Holding) (k x : ℕ) (n : List ℕ) (t i v : ℕ) → Tables r m n → h .pool .fresh ≤ r .layout .shadows → InGuestArea (configOf r) t → i < 512
-      → (let u = putOf (configOf r) n (h .pool) t i v in Kept r m (writtenIn r h k x u (u .result .ok)))
+      → (let u = putWordOf (configOf r) n (h .pool) t i v in Kept r m (writtenIn r h k x u (u .result .ok)))
   written-kept f h k x n t i v y w g l = go (s .result .ok) (put-leaves (configOf r) n (h .pool) t i v w .same)
     where
       c : Config
       c = configOf r
 
       s : After Put
-      s = putOf c n (h .pool) t i v
+      s = putWordOf c n (h .pool) t i v
 
       inside : place c t i < length (guestArea r m)
       inside =

@@ -28,9 +28,9 @@ use Rattle.pool.specs.declared.Way.the-variants.{To, Not, Damaged}
 use Rattle.area.specs.declared.Look.{Look}
 use Rattle.area.specs.declared.Look.the-variants.{Seen}
 use Rattle.area.specs.declared.Look.the-variants as look
-use Rattle.pool.specs.Header.{entryIn}
+use Rattle.pool.specs.Header.{entryAtOf}
 use Rattle.pool.specs.Pool.{followOf, onWay}
-use Rattle.area.specs.Tree.{lookOf}
+use Rattle.area.specs.Tree.{lookupOf}
 use Rattle.area_laws.proofs.Invariant.{present-zero}
 use Rattle.area.specs.Tree.{entriesRead}
 use Rattle.area_laws.proofs.Local.{SameEntry, look-local, Counts, look-count}
@@ -67,7 +67,7 @@ length-both (x ∷ xs) ys = let k = length-both xs ys in let z : suc (length (xs
 
 -- equal words have equal entries
 same-entries : (m n : List ℕ) (xs : List Word) → SameWords m n xs → All (SameEntry m n) xs
-unfolding entryIn
+unfolding entryAtOf
 same-entries m n xs h = all-map _ _ xs (λ x e. ap (λ k. k % entryLimit) e) h
 
 -- ---- walks that end with fault H exactly where a frame is not mapped
@@ -198,18 +198,18 @@ abbrev Full : ℕ → Look → Type 0
 Full n (Seen e k) = present e ≡ true → k ≡ n
 Full n look.Damaged = Unit {0}
 
-look-full : (b s : ℕ) (m : List ℕ) (is : List ℕ) (e k : ℕ) → Full (k + length is) (lookOf b s m e is k)
-unfolding lookOf
+look-full : (b s : ℕ) (m : List ℕ) (is : List ℕ) (e k : ℕ) → Full (k + length is) (lookupOf b s m e is k)
+unfolding lookupOf
 look-full b s m [] e k = λ q. omega arith
-look-full b s m (i ∷ is) e k = go (followOf b s e) (λ f. look-full b s m is (entryIn m f i) (k + 1))
+look-full b s m (i ∷ is) e k = go (followOf b s e) (λ f. look-full b s m is (entryAtOf m f i) (k + 1))
   where
     more : (x y : ℕ) (l : Look) → x ≡ y → Full x l → Full y l
     more x y (Seen e n) q h = λ p. h p ∙ q
     more x y look.Damaged q h = tt
 
-    go : (w : Way) → ((f : ℕ) → Full (k + 1 + length is) (lookOf b s m (entryIn m f i) is (k + 1)))
-        → Full (k + suc (length is)) (onWay w (Seen 0 k) look.Damaged (λ f. lookOf b s m (entryIn m f i) is (k + 1)))
-    go (To f) ih = more (k + 1 + length is) (k + suc (length is)) (lookOf b s m (entryIn m f i) is (k + 1)) (omega arith) (ih f)
+    go : (w : Way) → ((f : ℕ) → Full (k + 1 + length is) (lookupOf b s m (entryAtOf m f i) is (k + 1)))
+        → Full (k + suc (length is)) (onWay w (Seen 0 k) look.Damaged (λ f. lookupOf b s m (entryAtOf m f i) is (k + 1)))
+    go (To f) ih = more (k + 1 + length is) (k + suc (length is)) (lookupOf b s m (entryAtOf m f i) is (k + 1)) (omega arith) (ih f)
     go Not ih = λ q. let t : _≡_ {A = Bool} false true = sym present-zero ∙ q in let z : _≡_ {A = ℕ} 0 1 = cc in absurd (omega arith)
     go Damaged ih = tt
 
@@ -219,9 +219,9 @@ LookReads x k (hosts.Found p w) = x ≡ k
 LookReads x k (hosts.Absent n) = x ≡ n
 LookReads x k hosts.Damaged = Unit {0}
 
-look-reads : (c : Config) (b s : ℕ) (m : List ℕ) (e : ℕ) (is : List ℕ) → LookReads (length (entriesRead b s m e is)) (length is) (namedBy c (lookOf b s m e is 0))
+look-reads : (c : Config) (b s : ℕ) (m : List ℕ) (e : ℕ) (is : List ℕ) → LookReads (length (entriesRead b s m e is)) (length is) (namedBy c (lookupOf b s m e is 0))
 unfolding leafOf
-look-reads c b s m e is = go (lookOf b s m e is 0) (look-count b s m is e 0) (look-full b s m is e 0)
+look-reads c b s m e is = go (lookupOf b s m e is 0) (look-count b s m is e 0) (look-full b s m is e 0)
   where
     go : (l : Look) → Counts (0 + length (entriesRead b s m e is)) l → Full (0 + length is) l → LookReads (length (entriesRead b s m e is)) (length is) (namedBy c l)
     go (Seen x n) q f = by (present x) refl (inGuestArea c (frameOf x))
@@ -303,8 +303,8 @@ module _ (r : Record) (st : Bool) (a : ℕ) where
     where
       go : (b : Bool)
           → SameWords m n (cond b (entriesRead (c .hosts) (c .shadows) m (r .pools .shadow .top) (pathIndexes c d a)) [])
-          → cond b (namedBy c (lookOf (c .hosts) (c .shadows) n (r .pools .shadow .top) (pathIndexes c d a) 0)) (cond (eqb (r .guest .held .0) 0) (hosts.Absent 0) (hosts.Found (r .guest .held) true))
-          ≡ cond b (namedBy c (lookOf (c .hosts) (c .shadows) m (r .pools .shadow .top) (pathIndexes c d a) 0)) (cond (eqb (r .guest .held .0) 0) (hosts.Absent 0) (hosts.Found (r .guest .held) true))
+          → cond b (namedBy c (lookupOf (c .hosts) (c .shadows) n (r .pools .shadow .top) (pathIndexes c d a) 0)) (cond (eqb (r .guest .held .0) 0) (hosts.Absent 0) (hosts.Found (r .guest .held) true))
+          ≡ cond b (namedBy c (lookupOf (c .hosts) (c .shadows) m (r .pools .shadow .top) (pathIndexes c d a) 0)) (cond (eqb (r .guest .held .0) 0) (hosts.Absent 0) (hosts.Found (r .guest .held) true))
       go true q = ap (namedBy c) (look-local (c .hosts) (c .shadows) m n (pathIndexes c d a) (r .pools .shadow .top) 0
           (same-entries m n (entriesRead (c .hosts) (c .shadows) m (r .pools .shadow .top) (pathIndexes c d a)) q))
       go false q = refl
@@ -358,7 +358,7 @@ module _ (r : Record) (st : Bool) (a : ℕ) where
       at = r .pools .shadow .top
 
       go : (b : Bool) → ltb d (c .levels) ≡ b
-          → cond b (namedBy c (lookOf (c .hosts) (c .shadows) m at is 0)) (cond (eqb (r .guest .held .0) 0) (hosts.Absent 0) (hosts.Found (r .guest .held) true)) ≡ hosts.Found t w
+          → cond b (namedBy c (lookupOf (c .hosts) (c .shadows) m at is 0)) (cond (eqb (r .guest .held .0) 0) (hosts.Absent 0) (hosts.Found (r .guest .held) true)) ≡ hosts.Found t w
           → length (cond b (entriesRead (c .hosts) (c .shadows) m at is) []) ≡ c .levels - d
       go true q e = subst (LookReads (length (entriesRead (c .hosts) (c .shadows) m at is)) (length is)) e (look-reads c (c .hosts) (c .shadows) m at is) ∙ indexes-length (c .levels - d) _
       go false q e = let k = ltb-false d (c .levels) q in omega arith

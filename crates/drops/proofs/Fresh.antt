@@ -17,8 +17,8 @@ use Rattle.drops.specs.declared.Cut.the-variants.{Slot}
 use Rattle.drops.specs.declared.Above.{Above}
 use Rattle.drops.specs.declared.Above.the-variants.{Met, To, Damaged}
 use Rattle.shadow.specs.Held.{shadowArea}
-use Rattle.drops.specs.Cut.{lowOf, endOf, touchOf, upFrom}
-use Rattle.drops.specs.Drop.{outcome, clearFrom, settledBy, settleOf, sweepOf, visitBy, visitOf, scanFrom, scanOf, holderFrom, dropPrefixOf}
+use Rattle.drops.specs.Cut.{lowOf, endOf, touchesOf, linksUpOf}
+use Rattle.drops.specs.Drop.{outcome, clearLeavesOf, settledBy, settleOf, sweepOf, visitBy, visitOf, scanFrom, scanOf, holderOf, dropPrefixOf}
 use Rattle.words.specs.After.{After}
 use Rattle.pool.specs.declared.Went.{Went}
 use Rattle.drops.specs.declared.Left.{Left}
@@ -48,7 +48,7 @@ module _ (c : Config) where
     sweep-fits all n f k i p m h = go (t .result)
       where
         t : After Bool
-        t = clearFrom c x all (eqb n 1) f k i m
+        t = clearLeavesOf c x all (eqb n 1) f k i m
 
         go : (b : Bool) → Bounded c (cond b (settleOf c p (t .memory) n f) (outcome p false (t .memory)) .result .pool)
         go true = settle-fits p (t .memory) n f h
@@ -64,12 +64,12 @@ module _ (c : Config) where
 
         by : (w : Above) → Bounded c (visitBy w c x (levelOf m f) f p m .result .pool)
         by Met = sweep-fits true (levelOf m f) f 512 0 p m h
-        by (To t) = touched (touchOf m x f)
+        by (To t) = touched (touchesOf m x f)
         by Damaged = h
 
-        go : (b : Bool) → Bounded c (cond b (outcome p true m) (visitBy (upFrom c x m (c .levels - levelOf m f) f) c x (levelOf m f) f p m) .result .pool)
+        go : (b : Bool) → Bounded c (cond b (outcome p true m) (visitBy (linksUpOf c x m (c .levels - levelOf m f) f) c x (levelOf m f) f p m) .result .pool)
         go true = h
-        go false = by (upFrom c x m (c .levels - levelOf m f) f)
+        go false = by (linksUpOf c x m (c .levels - levelOf m f) f)
 
     from-fits : (k i : ℕ) (p : Pool) (m : List ℕ) → Bounded c p → Bounded c (scanFrom c x k i p m .result .pool)
     unfolding scanFrom
@@ -96,7 +96,7 @@ module _ (c : Config) where
   pub prefix-fits : (p : Pool) (m is : List ℕ) → p .fresh ≤ c .shadows → dropPrefixOf c p m is .result .pool .fresh ≤ c .shadows
   unfolding dropPrefixOf
   prefix-fits p m [] h = none-fits (shadowArea c)
-  prefix-fits p m (i ∷ is) h = go (holderFrom c m (p .top) i is)
+  prefix-fits p m (i ∷ is) h = go (holderOf c m (p .top) i is)
     where
       go : (w : Way) → Bounded c (onWay w (outcome p true m) (outcome p false m) (λ f. scanOf c (Slot (page f) (lastIndex i is)) p m) .result .pool)
       go (way.To f) = scan-fits (Slot (page f) (lastIndex i is)) p m h

@@ -10,7 +10,7 @@ use Rattle.spec.specs.Entry.{present, frameOf, index, indexes}
 use Rattle.spec.specs.Refusal.{inGuestArea}
 use Rattle.pool.specs.declared.Pool.{Pool}
 use Rattle.pool.specs.declared.Way.the-variants as way
-use Rattle.pool.specs.Header.{entryIn, parentOf, slotOf, insideOf}
+use Rattle.pool.specs.Header.{entryAtOf, parentOf, slotOf, insideOf}
 use Rattle.pool.specs.Pool.{onWay, noneOf}
 use Rattle.pool.proofs.Laws.{parent-small, Small}
 use Rattle.prune.proofs.Laws.{indexes-last}
@@ -22,8 +22,8 @@ use Rattle.drops.specs.declared.Cut.the-variants.{Word, Names, Slot}
 use Rattle.drops.specs.declared.Above.{Above}
 use Rattle.drops.specs.declared.Above.the-variants.{Met, To}
 use Rattle.drops.specs.declared.Above.the-variants as above
-use Rattle.drops.specs.Cut.{isLeaf, kindOf, cutOf, lowOf, endOf, aboveOf, upBy, upFrom}
-use Rattle.drops.specs.Drop.{outcome, clearOne, clearFrom, visitOf, scanFrom, scanOf, tableBy, tableNamed, holderFrom, dropPrefixOf}
+use Rattle.drops.specs.Cut.{isLeaf, kindOf, cutOf, lowOf, endOf, linkUpOf, upBy, linksUpOf}
+use Rattle.drops.specs.Drop.{outcome, clearOneOf, clearLeavesOf, visitOf, scanFrom, scanOf, tableBy, tableNamed, holderOf, dropPrefixOf}
 use Rattle.words.specs.After.{yields}
 
 -- ---- links up
@@ -32,8 +32,8 @@ AboveSmall Met = Unit {0}
 AboveSmall (To p) = p < 65536
 AboveSmall above.Damaged = Unit {0}
 
-pub above-small : (c : Config) (x : Cut) (m : List ℕ) (f : ℕ) → AboveSmall (aboveOf c x m f)
-unfolding aboveOf
+pub above-small : (c : Config) (x : Cut) (m : List ℕ) (f : ℕ) → AboveSmall (linkUpOf c x m f)
+unfolding linkUpOf
 above-small c x m f = go (insideOf (c .hosts) (c .shadows) (parentOf m f)) (cutOf m x (parentOf m f) (slotOf m f))
   where
     go : (b d : Bool) → AboveSmall (cond b (cond d Met (To (parentOf m f))) above.Damaged)
@@ -41,15 +41,15 @@ above-small c x m f = go (insideOf (c .hosts) (c .shadows) (parentOf m f)) (cutO
     go true false = parent-small m f
     go false d = tt
 
-pub up-step : (c : Config) (x : Cut) (m : List ℕ) (k f : ℕ) → 0 < k → upFrom c x m k f ≡ upBy (aboveOf c x m f) (upFrom c x m (k - 1))
-unfolding upFrom
+pub up-step : (c : Config) (x : Cut) (m : List ℕ) (k f : ℕ) → 0 < k → linksUpOf c x m k f ≡ upBy (linkUpOf c x m f) (linksUpOf c x m (k - 1))
+unfolding linksUpOf
 up-step c x m zero f l = absurd (omega arith)
 up-step c x m (suc k) f l =
     let d : suc k - 1 ≡ k = omega arith in
     rw d
 
-pub up-none : (c : Config) (x : Cut) (m : List ℕ) (f : ℕ) → upFrom c x m 0 f ≡ To f
-unfolding upFrom
+pub up-none : (c : Config) (x : Cut) (m : List ℕ) (f : ℕ) → linksUpOf c x m 0 f ≡ To f
+unfolding linksUpOf
 up-none c x m f = refl
 
 -- ---- one table
@@ -59,16 +59,16 @@ range-fits (Names g) = (omega arith, omega arith)
 range-fits (Slot t j) = (omega arith, omega arith)
 
 pub clear-step : (c : Config) (x : Cut) (all lowest : Bool) (f hi i : ℕ) (m : List ℕ) → i < hi
-    → clearFrom c x all lowest f (hi - i) i m
-    ≡ (let t = clearOne c x all lowest f m i in cond (t .result) (clearFrom c x all lowest f (hi - (i + 1)) (i + 1) (t .memory)) t)
-unfolding clearFrom
+    → clearLeavesOf c x all lowest f (hi - i) i m
+    ≡ (let t = clearOneOf c x all lowest f m i in cond (t .result) (clearLeavesOf c x all lowest f (hi - (i + 1)) (i + 1) (t .memory)) t)
+unfolding clearLeavesOf
 clear-step c x all lowest f hi i m l =
     let e : hi - i ≡ suc (hi - (i + 1)) = omega arith in
     let s : i + 1 ≡ suc i = omega arith in
     rw (e, s)
 
-pub clear-none : (c : Config) (x : Cut) (all lowest : Bool) (f hi i : ℕ) (m : List ℕ) → hi ≤ i → clearFrom c x all lowest f (hi - i) i m ≡ yields true m
-unfolding clearFrom
+pub clear-none : (c : Config) (x : Cut) (all lowest : Bool) (f hi i : ℕ) (m : List ℕ) → hi ≤ i → clearLeavesOf c x all lowest f (hi - i) i m ≡ yields true m
+unfolding clearLeavesOf
 clear-none c x all lowest f hi i m l =
     let e : hi - i ≡ 0 = omega arith in
     rw e
@@ -102,22 +102,22 @@ named-small c e = go (present e) (isLeaf false e) (inGuestArea c (frameOf e)) (i
     go false l g s = tt
 
 pub holder-step : (c : Config) (m : List ℕ) (e g left : ℕ) → 0 < left
-    → holderFrom c m e (index left g) (indexes left g)
-    ≡ onWay (tableNamed c e) way.Not way.Damaged (λ f. holderFrom c m (entryIn m f (index left g)) (index (left - 1) g) (indexes (left - 1) g))
-unfolding holderFrom
-holder-step c m e g left l = ap (holderFrom c m e (index left g)) (indexes-step left g l)
+    → holderOf c m e (index left g) (indexes left g)
+    ≡ onWay (tableNamed c e) way.Not way.Damaged (λ f. holderOf c m (entryAtOf m f (index left g)) (index (left - 1) g) (indexes (left - 1) g))
+unfolding holderOf
+holder-step c m e g left l = ap (holderOf c m e (index left g)) (indexes-step left g l)
 
-pub holder-none : (c : Config) (m : List ℕ) (e g : ℕ) → holderFrom c m e (index 0 g) (indexes 0 g) ≡ tableNamed c e
-unfolding holderFrom indexes
+pub holder-none : (c : Config) (m : List ℕ) (e g : ℕ) → holderOf c m e (index 0 g) (indexes 0 g) ≡ tableNamed c e
+unfolding holderOf indexes
 holder-none c m e g = refl
 
 pub prefix-step : (c : Config) (p : Pool) (m : List ℕ) (g k : ℕ) → 0 < k
     → dropPrefixOf c p m (indexes k g)
-    ≡ onWay (holderFrom c m (p .top) (index (k - 1) g) (indexes (k - 1) g)) (outcome p true m) (outcome p false m) (λ f. scanOf c (Slot (page f) (index 0 g)) p m)
+    ≡ onWay (holderOf c m (p .top) (index (k - 1) g) (indexes (k - 1) g)) (outcome p true m) (outcome p false m) (λ f. scanOf c (Slot (page f) (index 0 g)) p m)
 unfolding dropPrefixOf
 prefix-step c p m g k l =
     ap (dropPrefixOf c p m) (indexes-step k g l)
-    ∙ ap (λ i. onWay (holderFrom c m (p .top) (index (k - 1) g) (indexes (k - 1) g)) (outcome p true m) (outcome p false m) (λ f. scanOf c (Slot (page f) i) p m)) (indexes-last (k - 1) g)
+    ∙ ap (λ i. onWay (holderOf c m (p .top) (index (k - 1) g) (indexes (k - 1) g)) (outcome p true m) (outcome p false m) (λ f. scanOf c (Slot (page f) i) p m)) (indexes-last (k - 1) g)
 
 pub prefix-none : (c : Config) (p : Pool) (m : List ℕ) (g : ℕ) → dropPrefixOf c p m (indexes 0 g) ≡ outcome noneOf true m
 unfolding dropPrefixOf indexes

@@ -9,7 +9,7 @@ use Rattle.spec.specs.Config.{Config}
 use Rattle.pool.specs.declared.Pool.{Pool}
 use Rattle.pool.specs.declared.Way.{Way}
 use Rattle.pool.specs.declared.Way.the-variants as way
-use Rattle.pool.specs.Header.{entryIn, levelOf}
+use Rattle.pool.specs.Header.{entryAtOf, levelOf}
 use Rattle.pool.specs.Pool.{onWay}
 use Rattle.prune.specs.Remove.{releaseOf, lastIndex}
 use Rattle.pool.proofs.Outside.{out-refl, out-trans, put-out}
@@ -23,8 +23,8 @@ use Rattle.drops.specs.declared.Above.{Above}
 use Rattle.drops.specs.declared.Above.the-variants.{Met, To}
 use Rattle.drops.specs.declared.Above.the-variants as above
 use Rattle.shadow.specs.Held.{shadowArea}
-use Rattle.drops.specs.Cut.{kindOf, lowOf, endOf, touchOf, upFrom}
-use Rattle.drops.specs.Drop.{outcome, clearBy, goesOf, clearOne, clearFrom, settledBy, settleOf, sweepOf, visitBy, visitOf, scanFrom, scanOf, holderFrom, dropPrefixOf}
+use Rattle.drops.specs.Cut.{kindOf, lowOf, endOf, touchesOf, linksUpOf}
+use Rattle.drops.specs.Drop.{outcome, clearBy, goesOf, clearOneOf, clearLeavesOf, settledBy, settleOf, sweepOf, visitBy, visitOf, scanFrom, scanOf, holderOf, dropPrefixOf}
 use Rattle.drops.proofs.Laws.{range-fits}
 use Rattle.words.specs.After.{After}
 use Rattle.pool.specs.declared.Went.{Went}
@@ -42,9 +42,9 @@ module _ (c : Config) where
   after m n o y x = out-trans (c .hosts) (c .shadows) m n o y x
 
   module _ (x : Cut) where
-    one-out : (all lowest : Bool) (f i : ℕ) (m : List ℕ) → In f → i < 512 → Same c m (clearOne c x all lowest f m i .memory)
-    unfolding clearOne
-    one-out all lowest f i m h l = go (kindOf c lowest (entryIn m f i)) (goesOf m x all f i)
+    one-out : (all lowest : Bool) (f i : ℕ) (m : List ℕ) → In f → i < 512 → Same c m (clearOneOf c x all lowest f m i .memory)
+    unfolding clearOneOf
+    one-out all lowest f i m h l = go (kindOf c lowest (entryAtOf m f i)) (goesOf m x all f i)
       where
         go : (k : Kind) (b : Bool) → Same c m (clearBy k m b f i .memory)
         go Gone b = same m
@@ -53,16 +53,16 @@ module _ (c : Config) where
         go (Table t) b = same m
         go Damaged b = same m
 
-    clear-out : (k : ℕ) (all lowest : Bool) (f i : ℕ) (m : List ℕ) → In f → i + k ≤ 512 → Same c m (clearFrom c x all lowest f k i m .memory)
-    unfolding clearFrom
+    clear-out : (k : ℕ) (all lowest : Bool) (f i : ℕ) (m : List ℕ) → In f → i + k ≤ 512 → Same c m (clearLeavesOf c x all lowest f k i m .memory)
+    unfolding clearLeavesOf
     clear-out zero all lowest f i m h l = same m
     clear-out (suc k) all lowest f i m h l = go (one .result) (clear-out k all lowest f (suc i) (one .memory) h (omega arith))
       where
         one : After Bool
-        one = clearOne c x all lowest f m i
+        one = clearOneOf c x all lowest f m i
 
         rest : After Bool
-        rest = clearFrom c x all lowest f k (suc i) (one .memory)
+        rest = clearLeavesOf c x all lowest f k (suc i) (one .memory)
 
         go : (b : Bool) → Same c (one .memory) (rest .memory) → Same c m (cond b rest one .memory)
         go true r = after m (one .memory) (rest .memory) r (one-out all lowest f i m h (omega arith))
@@ -88,7 +88,7 @@ module _ (c : Config) where
     sweep-out all n f k i p m h l = go (t .result)
       where
         t : After Bool
-        t = clearFrom c x all (eqb n 1) f k i m
+        t = clearLeavesOf c x all (eqb n 1) f k i m
 
         gone : Same c m (t .memory)
         gone = clear-out k all (eqb n 1) f i m h l
@@ -109,12 +109,12 @@ module _ (c : Config) where
 
         by : (w : Above) → Same c m (visitBy w c x (levelOf m f) f p m .memory)
         by Met = sweep-out true (levelOf m f) f 512 0 p m h (omega arith)
-        by (To t) = touched (touchOf m x f)
+        by (To t) = touched (touchesOf m x f)
         by above.Damaged = same m
 
-        go : (b : Bool) → Same c m (cond b (outcome p true m) (visitBy (upFrom c x m (c .levels - levelOf m f) f) c x (levelOf m f) f p m) .memory)
+        go : (b : Bool) → Same c m (cond b (outcome p true m) (visitBy (linksUpOf c x m (c .levels - levelOf m f) f) c x (levelOf m f) f p m) .memory)
         go true = same m
-        go false = by (upFrom c x m (c .levels - levelOf m f) f)
+        go false = by (linksUpOf c x m (c .levels - levelOf m f) f)
 
     from-out : (k i : ℕ) (p : Pool) (m : List ℕ) → i + k ≤ c .shadows → Same c m (scanFrom c x k i p m .memory)
     unfolding scanFrom
@@ -141,7 +141,7 @@ module _ (c : Config) where
   pub prefix-out : (p : Pool) (m is : List ℕ) → p .fresh ≤ c .shadows → Same c m (dropPrefixOf c p m is .memory)
   unfolding dropPrefixOf
   prefix-out p m [] l = same m
-  prefix-out p m (i ∷ is) l = go (holderFrom c m (p .top) i is)
+  prefix-out p m (i ∷ is) l = go (holderOf c m (p .top) i is)
     where
       go : (w : Way) → Same c m (onWay w (outcome p true m) (outcome p false m) (λ f. scanOf c (Slot (page f) (lastIndex i is)) p m) .memory)
       go (way.To f) = scan-out (Slot (page f) (lastIndex i is)) p m l

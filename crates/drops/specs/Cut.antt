@@ -53,14 +53,14 @@ endOf (Names g) = 512
 endOf (Slot t j) = j % 512 + 1
 
 -- may the table in frame f have an entry that is cut?
-abbrev pub touchOf : List ℕ → Cut → ℕ → Bool
-touchOf m (Word t j) f = eqb (guestOf m f) (t .0)
-touchOf m (Names g) f = true
-touchOf m (Slot t j) f = eqb f (t .0)
+abbrev pub touchesOf : List ℕ → Cut → ℕ → Bool
+touchesOf m (Word t j) f = eqb (guestOf m f) (t .0)
+touchesOf m (Names g) f = true
+touchesOf m (Slot t j) f = eqb f (t .0)
 
 -- one link up: Met if the entry that names the table in frame f is cut, above.Damaged if the link leads out of the area
-unfoldable pub aboveOf : Config → Cut → List ℕ → ℕ → Above
-aboveOf c x m f =
+unfoldable pub linkUpOf : Config → Cut → List ℕ → ℕ → Above
+linkUpOf c x m f =
     cond (insideOf (c .hosts) (c .shadows) (parentOf m f))
     (cond (cutOf m x (parentOf m f) (slotOf m f)) Met (To (parentOf m f)))
     above.Damaged
@@ -71,6 +71,6 @@ upBy (To p) next = next p
 upBy above.Damaged next = above.Damaged
 
 -- k links up: Met if one of the entries above is cut
-unfoldable pub upFrom : Config → Cut → List ℕ → ℕ → ℕ → Above
-upFrom c x m zero f = To f
-upFrom c x m (suc k) f = upBy (aboveOf c x m f) (upFrom c x m k)
+unfoldable pub linksUpOf : Config → Cut → List ℕ → ℕ → ℕ → Above
+linksUpOf c x m zero f = To f
+linksUpOf c x m (suc k) f = upBy (linkUpOf c x m f) (linksUpOf c x m k)

@@ -9,7 +9,7 @@ use Rattle.spec.specs.Config.{Config}
 use Rattle.pool.specs.declared.Pool.{Pool}
 use Rattle.pool.specs.declared.Way.{Way}
 use Rattle.pool.specs.declared.Way.the-variants as way
-use Rattle.pool.specs.Header.{entryIn, putOf, levelOf}
+use Rattle.pool.specs.Header.{entryAtOf, putEntryOf, levelOf}
 use Rattle.pool.specs.Pool.{onWay, noneOf}
 use Rattle.prune.specs.Remove.{releaseOf, lastIndex}
 use Rattle.layout.specs.Layout.{page}
@@ -22,7 +22,7 @@ use Rattle.drops.specs.declared.Above.{Above}
 use Rattle.drops.specs.declared.Above.the-variants.{Met, To}
 use Rattle.drops.specs.declared.Above.the-variants as above
 use Rattle.shadow.specs.Held.{shadowArea}
-use Rattle.drops.specs.Cut.{kindOf, cutOf, lowOf, endOf, touchOf, upFrom}
+use Rattle.drops.specs.Cut.{kindOf, cutOf, lowOf, endOf, touchesOf, linksUpOf}
 use Rattle.words.specs.After.{After, yields}
 
 -- what a drop leaves
@@ -33,7 +33,7 @@ outcome p b m = yields (record { pool = p; ok = b }) m
 
 abbrev pub clearBy : Kind → List ℕ → Bool → ℕ → ℕ → After Bool
 clearBy Gone m goes f i = yields true m
-clearBy Leaf m goes f i = yields true (cond goes (putOf m f i 0) m)
+clearBy Leaf m goes f i = yields true (cond goes (putEntryOf m f i 0) m)
 clearBy (Table t) m goes f i = yields true m
 clearBy Damaged m goes f i = yields false m
 
@@ -41,15 +41,15 @@ unfoldable pub goesOf : List ℕ → Cut → Bool → ℕ → ℕ → Bool
 goesOf m x all f i = cond all true (cutOf m x f i)
 
 -- entry i of the table in frame f: a leaf that is cut, or any leaf where all go
-unfoldable pub clearOne : Config → Cut → Bool → Bool → ℕ → List ℕ → ℕ → After Bool
-clearOne c x all lowest f m i = clearBy (kindOf c lowest (entryIn m f i)) m (goesOf m x all f i) f i
+unfoldable pub clearOneOf : Config → Cut → Bool → Bool → ℕ → List ℕ → ℕ → After Bool
+clearOneOf c x all lowest f m i = clearBy (kindOf c lowest (entryAtOf m f i)) m (goesOf m x all f i) f i
 
 -- the k entries from i on
-unfoldable pub clearFrom : Config → Cut → Bool → Bool → ℕ → ℕ → ℕ → List ℕ → After Bool
-clearFrom c x all lowest f zero i m = yields true m
-clearFrom c x all lowest f (suc k) i m =
-    let t = clearOne c x all lowest f m i in
-    cond (t .result) (clearFrom c x all lowest f k (suc i) (t .memory)) t
+unfoldable pub clearLeavesOf : Config → Cut → Bool → Bool → ℕ → ℕ → ℕ → List ℕ → After Bool
+clearLeavesOf c x all lowest f zero i m = yields true m
+clearLeavesOf c x all lowest f (suc k) i m =
+    let t = clearOneOf c x all lowest f m i in
+    cond (t .result) (clearLeavesOf c x all lowest f k (suc i) (t .memory)) t
 
 abbrev pub settledBy : Way → Pool → List ℕ → After Left
 settledBy (way.To f) p m = outcome p true m
@@ -65,14 +65,14 @@ settleOf c p m n f =
 -- the k entries from i on are cleared as far as they go, and emptied tables given back
 unfoldable pub sweepOf : Config → Cut → Bool → ℕ → ℕ → ℕ → ℕ → Pool → List ℕ → After Left
 sweepOf c x all n f k i p m =
-    let t = clearFrom c x all (eqb n 1) f k i m in
+    let t = clearLeavesOf c x all (eqb n 1) f k i m in
     cond (t .result) (settleOf c p (t .memory) n f) (outcome p false (t .memory))
 
 -- ---- the scan
 
 abbrev pub visitBy : Above → Config → Cut → ℕ → ℕ → Pool → List ℕ → After Left
 visitBy Met c x n f p m = sweepOf c x true n f 512 0 p m
-visitBy (To t) c x n f p m = cond (touchOf m x f) (sweepOf c x false n f (endOf x - lowOf x) (lowOf x) p m) (outcome p true m)
+visitBy (To t) c x n f p m = cond (touchesOf m x f) (sweepOf c x false n f (endOf x - lowOf x) (lowOf x) p m) (outcome p true m)
 visitBy above.Damaged c x n f p m = outcome p false m
 
 -- the frame f, of level n: all its leaves go if an entry above it is cut, else those that are cut
@@ -80,7 +80,7 @@ unfoldable pub visitOf : Config → Cut → Pool → List ℕ → ℕ → After 
 visitOf c x p m f =
     cond (eqb (levelOf m f) 0)
     (outcome p true m)
-    (visitBy (upFrom c x m (c .levels - levelOf m f) f) c x (levelOf m f) f p m)
+    (visitBy (linksUpOf c x m (c .levels - levelOf m f) f) c x (levelOf m f) f p m)
 
 -- the k frames of the area from the i-th on
 unfoldable pub scanFrom : Config → Cut → ℕ → ℕ → Pool → List ℕ → After Left
@@ -106,15 +106,15 @@ unfoldable pub tableNamed : Config → ℕ → Way
 tableNamed c e = tableBy (kindOf c false e)
 
 -- the table that holds the last entry of the prefix i ∷ is, on from the entry e
-unfoldable pub holderFrom : Config → List ℕ → ℕ → ℕ → List ℕ → Way
-holderFrom c m e i [] = tableNamed c e
-holderFrom c m e i (j ∷ is) = onWay (tableNamed c e) way.Not way.Damaged (λ f. holderFrom c m (entryIn m f i) j is)
+unfoldable pub holderOf : Config → List ℕ → ℕ → ℕ → List ℕ → Way
+holderOf c m e i [] = tableNamed c e
+holderOf c m e i (j ∷ is) = onWay (tableNamed c e) way.Not way.Damaged (λ f. holderOf c m (entryAtOf m f i) j is)
 
 -- a mark set or cleared: the paths that begin with its indexes are dropped, all of them if it keeps none
 unfoldable pub dropPrefixOf : Config → Pool → List ℕ → List ℕ → After Left
 dropPrefixOf c p m [] = outcome noneOf true m
 dropPrefixOf c p m (i ∷ is) =
-    onWay (holderFrom c m (p .top) i is)
+    onWay (holderOf c m (p .top) i is)
     (outcome p true m)
     (outcome p false m)
     (λ f. scanOf c (Slot (page f) (lastIndex i is)) p m)

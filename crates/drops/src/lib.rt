@@ -3,8 +3,8 @@ ghost use mathlib.Core.Path.{_≡_};
 ghost use Prim.Native.Nat.{_+_, _-_, _<_, _≤_};
 ghost use Rattle.spec.specs.Entry.{index, indexes, frameLimit};
 ghost use Rattle.layout.specs.Layout.{LayoutFits, config};
-ghost use Rattle.drops.specs.Cut.{isLeaf, kindOf, cutOf, lowOf, endOf, touchOf, aboveOf, upFrom};
-ghost use Rattle.drops.specs.Drop.{goesOf, clearOne, clearFrom, settleOf, sweepOf, visitOf, scanOf, tableNamed, holderFrom, dropPrefixOf};
+ghost use Rattle.drops.specs.Cut.{isLeaf, kindOf, cutOf, lowOf, endOf, touchesOf, linkUpOf, linksUpOf};
+ghost use Rattle.drops.specs.Drop.{goesOf, clearOneOf, clearLeavesOf, settleOf, sweepOf, visitOf, scanOf, tableNamed, holderOf, dropPrefixOf};
 use entry::GuestPhysical;
 use entry::HostPhysical;
 use layout::Layout;
@@ -129,7 +129,7 @@ fn end(cut: Cut) -> u64
 // Whether a table may have an entry that is cut.
 fn touches(mem: &[u64], cut: Cut, table: u64) -> bool
     requires { ⌜ table < frameLimit ⌝ }
-    ensures { λ r. ⌜ r ≡ touchOf (now (mem .entry)) cut table ⌝ }
+    ensures { λ r. ⌜ r ≡ touchesOf (now (mem .entry)) cut table ⌝ }
 {
     match cut {
         Cut::Word(frame, index) => pool::guest(mem, table) == frame.0,
@@ -141,7 +141,7 @@ fn touches(mem: &[u64], cut: Cut, table: u64) -> bool
 // One link up from the table in that frame.
 fn link_up(mem: &[u64], layout: Layout, cut: Cut, frame: u64) -> Above
     requires { ⌜ frame < frameLimit ⌝ }
-    ensures { λ r. ⌜ r ≡ aboveOf (config layout) cut (now (mem .entry)) frame ⌝ }
+    ensures { λ r. ⌜ r ≡ linkUpOf (config layout) cut (now (mem .entry)) frame ⌝ }
 {
     let p = pool::parent(mem, frame);
     if pool::inside(layout.hosts, layout.shadows, p) {
@@ -158,7 +158,7 @@ fn link_up(mem: &[u64], layout: Layout, cut: Cut, frame: u64) -> Above
 // Whether an entry above the table in that frame is cut; `above` tables stand above it.
 fn links_up(mem: &[u64], layout: Layout, cut: Cut, above: u64, frame: u64) -> Above
     requires { ⌜ frame < frameLimit ⌝ }
-    ensures { λ r. ⌜ r ≡ upFrom (config layout) cut (now (mem .entry)) above frame ⌝ }
+    ensures { λ r. ⌜ r ≡ linksUpOf (config layout) cut (now (mem .entry)) above frame ⌝ }
 {
     let mut t = frame;
     let mut links = above;
@@ -211,7 +211,7 @@ fn clear_one(
     index: u64,
 ) -> bool
     requires { ⌜ (LayoutFits layout) × (frame < frameLimit) × (index < 512) ⌝ }
-    ensures { λ r. ⌜ yields r (now (mem .exit)) ≡ clearOne (config layout) cut all lowest frame (now (mem .entry)) index ⌝ }
+    ensures { λ r. ⌜ yields r (now (mem .exit)) ≡ clearOneOf (config layout) cut all lowest frame (now (mem .entry)) index ⌝ }
 {
     match kind_of(layout, lowest, pool::entry_at(mem, frame, index)) {
         Kind::Gone => true,
@@ -240,7 +240,7 @@ fn clear_leaves(
     hi: u64,
 ) -> bool
     requires { ⌜ (LayoutFits layout) × (frame < frameLimit) × (hi ≤ 512) × (lo ≤ hi) ⌝ }
-    ensures { λ r. ⌜ yields r (now (mem .exit)) ≡ clearFrom (config layout) cut all lowest frame (hi - lo) lo (now (mem .entry)) ⌝ }
+    ensures { λ r. ⌜ yields r (now (mem .exit)) ≡ clearLeavesOf (config layout) cut all lowest frame (hi - lo) lo (now (mem .entry)) ⌝ }
 {
     let mut i = lo;
     while i < hi {
@@ -405,7 +405,7 @@ fn table_named(layout: Layout, entry: u64) -> Way
 // The table that holds the last entry of the prefix of the last `steps` indexes of `path`, on from the entry given.
 fn holder(mem: &[u64], layout: Layout, entry: u64, path: u64, steps: u64) -> Way
     requires { ⌜ (LayoutFits layout) × (1 ≤ steps) × (steps ≤ layout .levels) ⌝ }
-    ensures { λ r. ⌜ r ≡ holderFrom (config layout) (now (mem .entry)) entry (index (steps - 1) path) (indexes (steps - 1) path) ⌝ }
+    ensures { λ r. ⌜ r ≡ holderOf (config layout) (now (mem .entry)) entry (index (steps - 1) path) (indexes (steps - 1) path) ⌝ }
 {
     let mut at = entry;
     let mut left = steps - 1;

@@ -23,7 +23,7 @@ use Rattle.entry.specs.declared.GuestPhysical.{GuestPhysical}
 use Rattle.words.specs.Words.{wordIn}
 use Rattle.pool.specs.declared.Pool.{Pool}
 use Rattle.pool.specs.declared.Way.the-variants as way
-use Rattle.pool.specs.Header.{entryIn}
+use Rattle.pool.specs.Header.{entryAtOf}
 use Rattle.pool.specs.Pool.{onWay, noneOf}
 use Rattle.prune.specs.Remove.{lastIndex}
 use Rattle.layout.specs.Layout.{page}
@@ -39,7 +39,7 @@ use Rattle.drops.specs.declared.Cut.{Cut}
 use Rattle.drops.specs.declared.Cut.the-variants.{Word, Names, Slot}
 use Rattle.shadow.specs.Held.{shadowArea}
 use Rattle.drops.specs.Cut.{cutOf, kindOf}
-use Rattle.drops.specs.Drop.{outcome, scanOf, tableBy, tableNamed, holderFrom, dropPrefixOf}
+use Rattle.drops.specs.Drop.{outcome, scanOf, tableBy, tableNamed, holderOf, dropPrefixOf}
 use Rattle.drops_laws.proofs.Scan.{under, kindAt, slot-kind, Cuts, Dropped, scan-drops}
 use Rattle.drops_laws.proofs.Held.{leafAt, leaf-none, HeldEntries, leaves-are, cutWord, cutNames, cutPrefix, under-prefix, word-drop, names-drop, prefix-drop}
 use Rattle.drops_laws.proofs.Watch.{guest-inside}
@@ -108,14 +108,14 @@ module _ {c : Config} {p : Pool} {m : List ℕ} {guest G : List ℕ → ℕ} {ro
       go (some f) v = refl
 
   holder-is : (x : List ℕ) (i : ℕ) (is : List ℕ) (e : ℕ) → e ≡ slot (h .tabs x) (leafAt w hs x) → length x + length (i ∷ is) ≤ c .levels → Small (i ∷ is)
-      → holderFrom c m e i is ≡ remove.way (h .tabs (front x i is))
-  unfolding holderFrom front
+      → holderOf c m e i is ≡ remove.way (h .tabs (front x i is))
+  unfolding holderOf front
   holder-is x i [] e q l s = named-is x e q (omega arith)
   holder-is x i (j ∷ is) e q l s =
-      rw (named-is x e q (omega arith)) (go (h .tabs x) refl (λ f t. holder-is (i ∷ x) j is (entryIn m f i) (h .tables .word x f i t (s .0)) (omega arith) (s .1)))
+      rw (named-is x e q (omega arith)) (go (h .tabs x) refl (λ f t. holder-is (i ∷ x) j is (entryAtOf m f i) (h .tables .word x f i t (s .0)) (omega arith) (s .1)))
     where
-      go : (o : Option ℕ) → h .tabs x ≡ o → ((f : ℕ) → h .tabs x ≡ some f → holderFrom c m (entryIn m f i) j is ≡ remove.way (h .tabs (front (i ∷ x) j is)))
-          → onWay (remove.way o) way.Not way.Damaged (λ f. holderFrom c m (entryIn m f i) j is) ≡ remove.way (h .tabs (front (i ∷ x) j is))
+      go : (o : Option ℕ) → h .tabs x ≡ o → ((f : ℕ) → h .tabs x ≡ some f → holderOf c m (entryAtOf m f i) j is ≡ remove.way (h .tabs (front (i ∷ x) j is)))
+          → onWay (remove.way o) way.Not way.Damaged (λ f. holderOf c m (entryAtOf m f i) j is) ≡ remove.way (h .tabs (front (i ∷ x) j is))
       go none t ih = sym (ap remove.way (front-none (h .tables) (i ∷ x) j is (none-below (h .tables) i x t)))
       go (some f) t ih = ih f t
 

@@ -16,7 +16,7 @@ use Rattle.spec.specs.Config.{Config}
 use Rattle.spec.specs.Entry.{present, switch, frameOf}
 use Rattle.spec.specs.Refusal.{inGuestArea}
 use Rattle.pool.specs.declared.Pool.{Pool}
-use Rattle.pool.specs.Header.{entryIn, putOf, guestOf, levelOf, parentOf, slotOf}
+use Rattle.pool.specs.Header.{entryAtOf, putEntryOf, guestOf, levelOf, parentOf, slotOf}
 use Rattle.prune.specs.Remove.{releaseOf}
 use Rattle.area_laws.proofs.Change.{differ, eq?, upd, upd-on, upd-other, not-some}
 use Rattle.area_laws.proofs.Stores.{Beside, beside-refl, beside-trans, put-head}
@@ -30,8 +30,8 @@ use Rattle.drops.specs.declared.Cut.{Cut}
 use Rattle.drops.specs.declared.Cut.the-variants.{Word, Names, Slot}
 use Rattle.drops.specs.declared.Above.the-variants.{Met, To}
 use Rattle.shadow.specs.Held.{shadowArea}
-use Rattle.drops.specs.Cut.{isLeaf, kindOf, cutOf, lowOf, endOf, touchOf, aboveOf, upBy, upFrom}
-use Rattle.drops.specs.Drop.{outcome, clearBy, goesOf, clearOne, clearFrom, settledBy, settleOf, sweepOf, visitBy, visitOf, scanFrom, scanOf}
+use Rattle.drops.specs.Cut.{isLeaf, kindOf, cutOf, lowOf, endOf, touchesOf, linkUpOf, upBy, linksUpOf}
+use Rattle.drops.specs.Drop.{outcome, clearBy, goesOf, clearOneOf, clearLeavesOf, settledBy, settleOf, sweepOf, visitBy, visitOf, scanFrom, scanOf}
 use Rattle.drops.proofs.Laws.{range-fits}
 use Rattle.words.specs.After.{After, yields}
 use Rattle.drops.specs.declared.Left.{Left}
@@ -102,7 +102,7 @@ module _ {c : Config} {p : Pool} {ts : List ℕ → Option ℕ} {lv guest : List
 
   -- an entry of a table of level n
   pub kind-is : (y : List ℕ) (f i n : ℕ) → ts y ≡ some f → n + length y ≡ c .levels → i < 512
-      → kindOf c (eqb n 1) (entryIn m f i) ≡ kindAt (ts (i ∷ y)) (lv (i ∷ y))
+      → kindOf c (eqb n 1) (entryAtOf m f i) ≡ kindAt (ts (i ∷ y)) (lv (i ∷ y))
   kind-is y f i n t e b =
       ap (kindOf c (eqb n 1)) (g .word y f i t b)
       ∙ slot-kind (i ∷ y) (eqb n 1) (λ q. let k = g .level y f t in let u = eqb-true n 1 q in none-last g i y f t (omega arith))
@@ -110,7 +110,7 @@ module _ {c : Config} {p : Pool} {ts : List ℕ → Option ℕ} {lv guest : List
 
 -- ---- where a cut can be
 record Range (m : List ℕ) (x : Cut) (f j : ℕ) : Type 0 where
-  pub touched : touchOf m x f ≡ true
+  pub touched : touchesOf m x f ≡ true
   pub from : lowOf x ≤ j
   pub to : j < endOf x
 
@@ -160,8 +160,8 @@ module _ (c : Config) (x : Cut) (C : List ℕ → Bool) (guest : List ℕ → �
         kept y n = elim (s .less y) [ inl e ↦ e | inr e ↦ absurd (n (e .0)) ]
 
     -- ---- the links up
-    up-is : (y : List ℕ) (f : ℕ) → ts y ≡ some f → upFrom c x m (length y) f ≡ cond (under C y) Met (To (frameOr (ts [])))
-    unfolding upFrom aboveOf
+    up-is : (y : List ℕ) (f : ℕ) → ts y ≡ some f → linksUpOf c x m (length y) f ≡ cond (under C y) Met (To (frameOr (ts [])))
+    unfolding linksUpOf linkUpOf
     up-is [] f t = ap (λ o. To (frameOr o)) (sym t)
     up-is (i ∷ y) f t =
         let k = s .tables .link i y f t in
@@ -169,8 +169,8 @@ module _ (c : Config) (x : Cut) (C : List ℕ → Bool) (guest : List ℕ → �
         rw (inside-is (c .hosts) (c .shadows) (parentOf m f) (s .tables .inside y (parentOf m f) (k .0) .0) (frame-small (s .tables) y (parentOf m f) (k .0) .0), e)
         (go (C (i ∷ y)) (up-is y (parentOf m f) (k .0)))
       where
-        go : (b : Bool) → upFrom c x m (length y) (parentOf m f) ≡ cond (under C y) Met (To (frameOr (ts [])))
-            → upBy (cond b Met (To (parentOf m f))) (upFrom c x m (length y)) ≡ cond (cond b true (under C y)) Met (To (frameOr (ts [])))
+        go : (b : Bool) → linksUpOf c x m (length y) (parentOf m f) ≡ cond (under C y) Met (To (frameOr (ts [])))
+            → upBy (cond b Met (To (parentOf m f))) (linksUpOf c x m (length y)) ≡ cond (cond b true (under C y)) Met (To (frameOr (ts [])))
         go true h = refl
         go false h = h
 
@@ -187,8 +187,8 @@ module _ (c : Config) (x : Cut) (C : List ℕ → Bool) (guest : List ℕ → �
   module _ {p : Pool} {ts : List ℕ → Option ℕ} {fl : List ℕ} {ps : List (List ℕ)} (y : List ℕ) (f n : ℕ) (all : Bool) (t : ts y ≡ some f) (e : n + length y ≡ c .levels)
       (a : all ≡ true → under C y ≡ true) where
     one-is : {lv : List ℕ → ℕ} {m : List ℕ} → Now p ts lv fl ps m → ButAbove ts lv y → (i : ℕ) → i < 512
-        → Swept p ts lv fl ps y all i (i + 1) (clearOne c x all (eqb n 1) f m i)
-    unfolding clearOne goesOf
+        → Swept p ts lv fl ps y all i (i + 1) (clearOneOf c x all (eqb n 1) f m i)
+    unfolding clearOneOf goesOf
     one-is {lv = lv} {m = m} s but i l =
         rw (kind-is (s .tables) (leaves-now s) y f i n t e l) (go (ts (i ∷ y)) refl (lv (i ∷ y)) refl)
       where
@@ -209,10 +209,10 @@ module _ (c : Config) (x : Cut) (C : List ℕ → Bool) (guest : List ℕ → �
               | inr z ↦ elim q [ inl w ↦ differ (sym w ∙ z .0) | inr w ↦ differ (sym w ∙ z .1) ]
             ]
 
-        clear : ts (i ∷ y) ≡ none → under C (i ∷ y) ≡ true → Swept p ts lv fl ps y all i (i + 1) (yields true (putOf m f i 0))
+        clear : ts (i ∷ y) ≡ none → under C (i ∷ y) ≡ true → Swept p ts lv fl ps y all i (i + 1) (yields true (putEntryOf m f i 0))
         clear bare u = record {
           left = upd lv (i ∷ y) 0;
-          memory = putOf m f i 0;
+          memory = putEntryOf m f i 0;
           done = refl;
           now = record {
             tables = clear-leaf (s .tables) f i y t l bare;
@@ -235,7 +235,7 @@ module _ (c : Config) (x : Cut) (C : List ℕ → Bool) (guest : List ℕ → �
             zero-still z q (yes k) = upd-on lv (i ∷ y) 0 z k
             zero-still z q (no k) = upd-other lv (i ∷ y) 0 z k ∙ q
 
-        leaf : ts (i ∷ y) ≡ none → (b d : Bool) → all ≡ b → C (i ∷ y) ≡ d → Swept p ts lv fl ps y all i (i + 1) (yields true (cond (cond b true d) (putOf m f i 0) m))
+        leaf : ts (i ∷ y) ≡ none → (b d : Bool) → all ≡ b → C (i ∷ y) ≡ d → Swept p ts lv fl ps y all i (i + 1) (yields true (cond (cond b true d) (putEntryOf m f i 0) m))
         leaf bare true d q k = clear bare (under-above C i y (a q))
         leaf bare false true q k = clear bare (under-here C i y k)
         leaf bare false false q k = stay (inr (q, k))
@@ -246,8 +246,8 @@ module _ (c : Config) (x : Cut) (C : List ℕ → Bool) (guest : List ℕ → �
         go (some d) q v k = stay (inl (s .tables .plain (i ∷ y) d q))
 
     clear-is : {lv : List ℕ → ℕ} {m : List ℕ} → Now p ts lv fl ps m → ButAbove ts lv y → (k i : ℕ) → i + k ≤ 512
-        → Swept p ts lv fl ps y all i (i + k) (clearFrom c x all (eqb n 1) f k i m)
-    unfolding clearFrom
+        → Swept p ts lv fl ps y all i (i + k) (clearLeavesOf c x all (eqb n 1) f k i m)
+    unfolding clearLeavesOf
     clear-is {lv = lv} {m = m} s but zero i l = record {
       left = lv;
       memory = m;
@@ -323,7 +323,7 @@ module _ (c : Config) (x : Cut) (C : List ℕ → Bool) (guest : List ℕ → �
     unfolding sweepOf settleOf
     sweep-is y f n i k all t e l a cover = go (clear-is y f n all t e a s (exact-but false ts lv y ex) k i l)
       where
-        go : Swept p ts lv fl ps y all i (i + k) (clearFrom c x all (eqb n 1) f k i m) → Visited p ts lv f (sweepOf c x all n f k i p m)
+        go : Swept p ts lv fl ps y all i (i + k) (clearLeavesOf c x all (eqb n 1) f k i m) → Visited p ts lv f (sweepOf c x all n f k i p m)
         go w = let u : c .levels - n ≡ length y = omega arith in rw (w .done, u) (next (release-is (w .now .tables) false y f t (w .but)))
           where
             next : (r : Released (shadowArea c) false p (w .memory) ts (w .left) guest (releaseOf (shadowArea c) false p (w .memory) (length y) f))
@@ -375,7 +375,7 @@ module _ (c : Config) (x : Cut) (C : List ℕ → Bool) (guest : List ℕ → �
           where
             by : (b : Bool) → under C y ≡ b → Visited p ts lv f (visitBy (cond b Met (To (frameOr (ts [])))) c x (levelOf m f) f p m)
             by true e = sweep-is y f (levelOf m f) 0 512 true t (s .tables .level y f t .0) (omega arith) (λ z. e) (λ j l z. (omega arith, l, inl refl))
-            by false e = touch (touchOf m x f) refl
+            by false e = touch (touchesOf m x f) refl
               where
                 here : (j : ℕ) → under C (j ∷ y) ≡ true → C (j ∷ y) ≡ true
                 here j z = go (C (j ∷ y)) z
@@ -387,7 +387,7 @@ module _ (c : Config) (x : Cut) (C : List ℕ → Bool) (guest : List ℕ → �
                 range : (j : ℕ) → j < 512 → under C (j ∷ y) ≡ true → Range m x f j
                 range j l z = cut-range m x f j l (cut-now s y f j t l ∙ here j z)
 
-                touch : (b : Bool) → touchOf m x f ≡ b → Visited p ts lv f (cond b (sweepOf c x false (levelOf m f) f (endOf x - lowOf x) (lowOf x) p m) (outcome p true m))
+                touch : (b : Bool) → touchesOf m x f ≡ b → Visited p ts lv f (cond b (sweepOf c x false (levelOf m f) f (endOf x - lowOf x) (lowOf x) p m) (outcome p true m))
                 touch true q =
                     let r = range-fits x in
                     sweep-is y f (levelOf m f) (lowOf x) (endOf x - lowOf x) false t (s .tables .level y f t .0) (omega arith) (λ z. differ (sym z))

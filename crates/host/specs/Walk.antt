@@ -4,10 +4,10 @@ use Prim.Native.Nat.{ℕ}
 use mathlib.Core.List.{List}
 use Rattle.spec.specs.Config.{Config}
 use Rattle.spec.specs.Entry.{indexes}
-use Rattle.area.specs.Tree.{lookOf}
+use Rattle.area.specs.Tree.{lookupOf}
 use Rattle.layout.specs.Layout.{namedBy}
 use Rattle.layout.specs.declared.HostWalk.{HostWalk}
 
 -- the host entries of guest frame g from level N to level 1, from the entry of the top table on
 unfoldable pub hostWalkOf : Config → ℕ → List ℕ → ℕ → HostWalk
-hostWalkOf c top m g = namedBy c (lookOf 0 (c .hosts) m top (indexes (c .levels) g) 0)
+hostWalkOf c top m g = namedBy c (lookupOf 0 (c .hosts) m top (indexes (c .levels) g) 0)

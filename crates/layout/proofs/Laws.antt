@@ -14,7 +14,7 @@ use Rattle.spec_laws.proofs.Lists.{and-left, and-right}
 use Rattle.area.specs.declared.Look.{Look}
 use Rattle.area.specs.declared.Look.the-variants.{Seen}
 use Rattle.area.specs.declared.Look.the-variants as look
-use Rattle.area.specs.Tree.{lookOf}
+use Rattle.area.specs.Tree.{lookupOf}
 use Rattle.area.proofs.Laws.{LookGood, look-good}
 use Rattle.layout.specs.declared.HostWalk.{HostWalk}
 use Rattle.layout.specs.declared.HostWalk.the-variants.{Found, Absent, Damaged}
@@ -43,8 +43,8 @@ leaf-fits c e n h = go (present e) (inGuestArea c (frameOf e)) refl
     go false a q = h
 
 -- after a lookup of at most a word a level
-pub named-fits : (c : Config) (b s : ℕ) (m : List ℕ) (e : ℕ) (is : List ℕ) → length is ≤ c .levels → HostFits c (namedBy c (lookOf b s m e is 0))
-named-fits c b s m e is l = go (lookOf b s m e is 0) (look-good b s m e is 0 (c .levels) (omega arith))
+pub named-fits : (c : Config) (b s : ℕ) (m : List ℕ) (e : ℕ) (is : List ℕ) → length is ≤ c .levels → HostFits c (namedBy c (lookupOf b s m e is 0))
+named-fits c b s m e is l = go (lookupOf b s m e is 0) (look-good b s m e is 0 (c .levels) (omega arith))
   where
     go : (r : Look) → LookGood (c .levels) r → HostFits c (namedBy c r)
     go (Seen x n) h = leaf-fits c x n h

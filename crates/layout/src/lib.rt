@@ -4,7 +4,7 @@ ghost use mathlib.Core.Path.{_≡_};
 ghost use Prim.Native.Nat.{_≤_};
 ghost use Rattle.spec.specs.Entry.{indexes};
 ghost use Rattle.spec.specs.Refusal.{inGuestArea, frameFits};
-ghost use Rattle.area.specs.Tree.{lookOf};
+ghost use Rattle.area.specs.Tree.{lookupOf};
 ghost use Rattle.layout.specs.Layout.{LayoutFits, config, leafOf, namedBy};
 use area::Look;
 use entry::GuestPhysical;
@@ -76,7 +76,7 @@ pub fn leaf_at(
     steps: u64,
 ) -> HostWalk
     requires { ⌜ (LayoutFits layout) × (steps ≤ layout .levels) ⌝ }
-    ensures { λ r. ⌜ r ≡ namedBy (config layout) (lookOf base size (now (mem .entry)) top (indexes steps path) 0) ⌝ }
+    ensures { λ r. ⌜ r ≡ namedBy (config layout) (lookupOf base size (now (mem .entry)) top (indexes steps path) 0) ⌝ }
 {
     match area::lookup(base, size, top, mem, path, steps) {
         Look::Seen { entry, reads } => leaf(layout, entry, reads),

@@ -13,7 +13,7 @@ use Rattle.pool.specs.declared.Area.{Area}
 use Rattle.pool.specs.declared.Pool.{Pool}
 use Rattle.pool.specs.declared.Way.{Way}
 use Rattle.pool.specs.declared.Way.the-variants.{To, Not, Damaged}
-use Rattle.pool.specs.Header.{entryIn, guestOf, parentOf, slotOf, insideOf, bareOf}
+use Rattle.pool.specs.Header.{entryAtOf, guestOf, parentOf, slotOf, insideOf, bareOf}
 use Rattle.pool.specs.Pool.{followOf, onWay, end, poolOf, freshOf, freedOf, takeOf}
 
 -- ---- headers
@@ -29,7 +29,7 @@ pub slot-small : (m : List ℕ) (f : ℕ) → slotOf m f < 512
 unfolding slotOf
 slot-small m f = omega arith
 
-pub bare-more : (m : List ℕ) (f k : ℕ) → 0 < k → bareOf m f k ≡ cond (present (entryIn m f (k - 1))) false (bareOf m f (k - 1))
+pub bare-more : (m : List ℕ) (f k : ℕ) → 0 < k → bareOf m f k ≡ cond (present (entryAtOf m f (k - 1))) false (bareOf m f (k - 1))
 unfolding bareOf
 bare-more m f zero l = absurd (omega arith)
 bare-more m f (suc k) l =

@@ -9,7 +9,7 @@ use lib.ListN.{getD, length-set}
 use lib.Seq.{getD-set-other}
 use Rattle.words.specs.Words.{at, setIn, zeroed}
 use Rattle.words.proofs.Laws.{zeroed-length, zeroed-below, zeroed-above}
-use Rattle.pool.specs.Header.{putOf, headOf}
+use Rattle.pool.specs.Header.{putEntryOf, headerOf}
 use Rattle.pool.specs.Pool.{freeWords}
 use Rattle.pool.specs.Outside.{SameOutside}
 
@@ -35,12 +35,12 @@ zero-out b s m f l h = record { long = zeroed-length m (f * 512) 512; same = at-
       | inr x ↦ zeroed-above m (f * 512) 512 j (omega arith)
     ]
 
-pub put-out : (b s : ℕ) (m : List ℕ) (f i e : ℕ) → b ≤ f → f < b + s → i < 512 → SameOutside b s m (putOf m f i e)
-unfolding putOf
+pub put-out : (b s : ℕ) (m : List ℕ) (f i e : ℕ) → b ≤ f → f < b + s → i < 512 → SameOutside b s m (putEntryOf m f i e)
+unfolding putEntryOf
 put-out b s m f i e l h k = set-out b s m f i _ l h k
 
-pub head-out : (b s : ℕ) (m : List ℕ) (f guest level parent slot : ℕ) → b ≤ f → f < b + s → SameOutside b s m (headOf m f guest level parent slot)
-unfolding headOf
+pub head-out : (b s : ℕ) (m : List ℕ) (f guest level parent slot : ℕ) → b ≤ f → f < b + s → SameOutside b s m (headerOf m f guest level parent slot)
+unfolding headerOf
 head-out b s m f guest level parent slot l h =
     out-trans b s _ _ _ (set-out b s _ f 4 _ l h (omega arith))
     (out-trans b s _ _ _ (set-out b s _ f 3 _ l h (omega arith))

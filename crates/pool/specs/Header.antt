@@ -10,16 +10,16 @@ use Rattle.spec.specs.Entry.{present, entryLimit}
 use Rattle.words.specs.Words.{wordIn, setIn}
 
 -- the entry at index i of the table in frame f
-unfoldable pub entryIn : List ℕ → ℕ → ℕ → ℕ
-entryIn m f i = wordIn m f i % entryLimit
+unfoldable pub entryAtOf : List ℕ → ℕ → ℕ → ℕ
+entryAtOf m f i = wordIn m f i % entryLimit
 
 -- the header bits of word k
 unfoldable pub highOf : List ℕ → ℕ → ℕ → ℕ
 highOf m f k = wordIn m f k / entryLimit
 
 -- the memory with entry i of the table in frame f set to e; the header bits stay
-unfoldable pub putOf : List ℕ → ℕ → ℕ → ℕ → List ℕ
-putOf m f i e = setIn m f i (wordIn m f i / entryLimit * entryLimit + e % entryLimit)
+unfoldable pub putEntryOf : List ℕ → ℕ → ℕ → ℕ → List ℕ
+putEntryOf m f i e = setIn m f i (wordIn m f i / entryLimit * entryLimit + e % entryLimit)
 
 -- a frame number in the bits of words i and i + 1
 abbrev pub frameAt : List ℕ → ℕ → ℕ → ℕ
@@ -42,8 +42,8 @@ unfoldable pub slotOf : List ℕ → ℕ → ℕ
 slotOf m f = highOf m f 4 % 512
 
 -- a header is written into a frame of zeros
-unfoldable pub headOf : List ℕ → ℕ → ℕ → ℕ → ℕ → ℕ → List ℕ
-headOf m f guest level parent slot =
+unfoldable pub headerOf : List ℕ → ℕ → ℕ → ℕ → ℕ → ℕ → List ℕ
+headerOf m f guest level parent slot =
     setIn (setIn (setIn (setIn (setIn m
     f 0 (guest % 4096 * entryLimit))
     f 1 ((guest / 4096 % 16 + level % 8 * 16) * entryLimit))
@@ -58,4 +58,4 @@ insideOf b s f = cond (ltb f b) false (ltb (f - b) s)
 -- none of the first k entries is present
 unfoldable pub bareOf : List ℕ → ℕ → ℕ → Bool
 bareOf m f zero = true
-bareOf m f (suc k) = cond (present (entryIn m f k)) false (bareOf m f k)
+bareOf m f (suc k) = cond (present (entryAtOf m f k)) false (bareOf m f k)

@@ -2,7 +2,7 @@
 ghost use mathlib.Core.Path.{_≡_};
 ghost use Prim.Native.Nat.{_+_, _<_};
 ghost use Rattle.spec.specs.Entry.{frameLimit};
-ghost use Rattle.pool.specs.Header.{frameAt, entryIn, highOf, putOf, guestOf, levelOf, parentOf, slotOf, headOf, insideOf, bareOf};
+ghost use Rattle.pool.specs.Header.{frameAt, entryAtOf, highOf, putEntryOf, guestOf, levelOf, parentOf, slotOf, headerOf, insideOf, bareOf};
 ghost use Rattle.pool.specs.Pool.{followOf, noneOf, withTop, freshOf, freedOf, takeOf, withFreed, freeWords};
 ghost use Rattle.words.specs.After.{yields};
 
@@ -40,7 +40,7 @@ pub struct Went {
 // An entry of a table.
 pub fn entry_at(mem: &[u64], frame: u64, index: u64) -> u64
     requires { ⌜ (frame < frameLimit) × (index < 512) ⌝ }
-    ensures { λ r. ⌜ r ≡ entryIn (now (mem .entry)) frame index ⌝ }
+    ensures { λ r. ⌜ r ≡ entryAtOf (now (mem .entry)) frame index ⌝ }
 {
     words::word_in(mem, frame, index) % entry::ENTRY_LIMIT
 }
@@ -56,7 +56,7 @@ fn high(mem: &[u64], frame: u64, word: u64) -> u64
 // An entry is set; the header bits stay.
 pub fn put_entry(mem: &mut [u64], frame: u64, index: u64, entry: u64)
     requires { ⌜ (frame < frameLimit) × (index < 512) ⌝ }
-    ensures { λ r. ⌜ now (mem .exit) ≡ putOf (now (mem .entry)) frame index entry ⌝ }
+    ensures { λ r. ⌜ now (mem .exit) ≡ putEntryOf (now (mem .entry)) frame index entry ⌝ }
 {
     let w = words::word_in(mem, frame, index);
     words::set_in(
@@ -112,7 +112,7 @@ pub fn slot(mem: &[u64], frame: u64) -> u64
 // A header is written into a frame of zeros.
 pub fn write_header(mem: &mut [u64], frame: u64, guest: u64, level: u64, parent: u64, slot: u64)
     requires { ⌜ frame < frameLimit ⌝ }
-    ensures { λ r. ⌜ now (mem .exit) ≡ headOf (now (mem .entry)) frame guest level parent slot ⌝ }
+    ensures { λ r. ⌜ now (mem .exit) ≡ headerOf (now (mem .entry)) frame guest level parent slot ⌝ }
 {
     words::set_in(mem, frame, 0, guest % 4096 * entry::ENTRY_LIMIT);
     words::set_in(

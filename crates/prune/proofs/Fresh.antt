@@ -7,7 +7,7 @@ use Rattle.pool.specs.declared.Area.{Area}
 use Rattle.pool.specs.declared.Pool.{Pool}
 use Rattle.pool.specs.declared.Way.{Way}
 use Rattle.pool.specs.declared.Way.the-variants as way
-use Rattle.pool.specs.Header.{putOf, parentOf, slotOf, insideOf, bareOf}
+use Rattle.pool.specs.Header.{putEntryOf, parentOf, slotOf, insideOf, bareOf}
 use Rattle.pool.specs.Pool.{onWay, end, withTop, withFreed, freeWords}
 use Rattle.prune.specs.Remove.{detachOf, releaseTop, releaseOf}
 use Rattle.words.specs.After.{After}
@@ -20,7 +20,7 @@ module _ (a : Area) where
   detach-fits p m f h = go (bareOf m f 512) (insideOf (a .base) (a .size) (parentOf m f))
     where
       go : (b d : Bool)
-          → Fits a (cond b (cond d (end (withFreed p f) (way.To (parentOf m f)) (freeWords (putOf m (parentOf m f) (slotOf m f) 0) f (p .free))) (end p way.Damaged m)) (end p way.Not m))
+          → Fits a (cond b (cond d (end (withFreed p f) (way.To (parentOf m f)) (freeWords (putEntryOf m (parentOf m f) (slotOf m f) 0) f (p .free))) (end p way.Damaged m)) (end p way.Not m))
       go true true = h
       go true false = h
       go false d = h

@@ -10,10 +10,10 @@ use Rattle.pool.specs.declared.Area.{Area}
 use Rattle.pool.specs.declared.Pool.{Pool}
 use Rattle.pool.specs.declared.Way.{Way}
 use Rattle.pool.specs.declared.Way.the-variants.{To, Not, Damaged}
-use Rattle.pool.specs.Header.{entryIn, parentOf, insideOf, bareOf}
+use Rattle.pool.specs.Header.{entryAtOf, parentOf, insideOf, bareOf}
 use Rattle.spec_laws.proofs.Indexes.{indexes-step}
 use Rattle.pool.specs.Pool.{followOf, onWay, end}
-use Rattle.prune.specs.Remove.{detachOf, releaseTop, releaseOf, lastOf, lastIndex}
+use Rattle.prune.specs.Remove.{detachOf, releaseTop, releaseOf, lastTableOf, lastIndex}
 use Rattle.pool.proofs.Laws.{inside-true, Small, follow-small, AreaGood}
 
 pub indexes-last : (k g : ℕ) → lastIndex (index k g) (indexes k g) ≡ index 0 g
@@ -45,21 +45,21 @@ unfolding releaseOf
 release-none a stays p m f = refl
 
 pub last-step : (b s : ℕ) (m : List ℕ) (e g left : ℕ) → 0 < left
-    → lastOf b s m e (index left g) (indexes left g)
-    ≡ onWay (followOf b s e) Not Damaged (λ f. lastOf b s m (entryIn m f (index left g)) (index (left - 1) g) (indexes (left - 1) g))
-unfolding lastOf
-last-step b s m e g left l = ap (λ is. lastOf b s m e (index left g) is) (indexes-step left g l)
+    → lastTableOf b s m e (index left g) (indexes left g)
+    ≡ onWay (followOf b s e) Not Damaged (λ f. lastTableOf b s m (entryAtOf m f (index left g)) (index (left - 1) g) (indexes (left - 1) g))
+unfolding lastTableOf
+last-step b s m e g left l = ap (λ is. lastTableOf b s m e (index left g) is) (indexes-step left g l)
 
-pub last-none : (b s : ℕ) (m : List ℕ) (e g : ℕ) → lastOf b s m e (index 0 g) (indexes 0 g) ≡ followOf b s e
-unfolding lastOf indexes
+pub last-none : (b s : ℕ) (m : List ℕ) (e g : ℕ) → lastTableOf b s m e (index 0 g) (indexes 0 g) ≡ followOf b s e
+unfolding lastTableOf indexes
 last-none b s m e g = refl
 
-pub last-small : (b s : ℕ) (m : List ℕ) (e i : ℕ) (is : List ℕ) → Small (lastOf b s m e i is)
-unfolding lastOf
+pub last-small : (b s : ℕ) (m : List ℕ) (e i : ℕ) (is : List ℕ) → Small (lastTableOf b s m e i is)
+unfolding lastTableOf
 last-small b s m e i [] = follow-small b s e
-last-small b s m e i (j ∷ is) = go (followOf b s e) (λ f. last-small b s m (entryIn m f i) j is)
+last-small b s m e i (j ∷ is) = go (followOf b s e) (λ f. last-small b s m (entryAtOf m f i) j is)
   where
-    go : (w : Way) → ((f : ℕ) → Small (lastOf b s m (entryIn m f i) j is)) → Small (onWay w Not Damaged (λ f. lastOf b s m (entryIn m f i) j is))
+    go : (w : Way) → ((f : ℕ) → Small (lastTableOf b s m (entryAtOf m f i) j is)) → Small (onWay w Not Damaged (λ f. lastTableOf b s m (entryAtOf m f i) j is))
     go (To f) h = h f
     go Not h = tt
     go Damaged h = tt

@@ -10,9 +10,9 @@ use Rattle.pool.specs.declared.Area.{Area}
 use Rattle.pool.specs.declared.Pool.{Pool}
 use Rattle.pool.specs.declared.Way.{Way}
 use Rattle.pool.specs.declared.Way.the-variants.{To, Not, Damaged}
-use Rattle.pool.specs.Header.{entryIn, putOf, parentOf, slotOf, insideOf, bareOf}
+use Rattle.pool.specs.Header.{entryAtOf, putEntryOf, parentOf, slotOf, insideOf, bareOf}
 use Rattle.pool.specs.Pool.{followOf, onWay, end, withTop, withFreed, freeWords}
-use Rattle.prune.specs.Remove.{detachOf, releaseTop, releaseOf, lastOf, lastIndex, clearOf, removeOf}
+use Rattle.prune.specs.Remove.{detachOf, releaseTop, releaseOf, lastTableOf, lastIndex, clearOf, removeOf}
 use Rattle.area.specs.Outside.{Narrow}
 use Rattle.pool.proofs.Laws.{slot-small, inside-true, AreaGood, follow-good}
 use Rattle.prune.proofs.Laws.{detach-good}
@@ -32,10 +32,10 @@ module _ (a : Area) where
   detach-out p m f h = go (bareOf m f 512) (insideOf (a .base) (a .size) (parentOf m f)) refl
     where
       go : (t u : Bool) → insideOf (a .base) (a .size) (parentOf m f) ≡ u
-          → Kept a m (cond t (cond u (end (withFreed p f) (To (parentOf m f)) (freeWords (putOf m (parentOf m f) (slotOf m f) 0) f (p .free))) (end p Damaged m)) (end p Not m))
+          → Kept a m (cond t (cond u (end (withFreed p f) (To (parentOf m f)) (freeWords (putEntryOf m (parentOf m f) (slotOf m f) 0) f (p .free))) (end p Damaged m)) (end p Not m))
       go true true q =
           let l = inside-true (a .base) (a .size) (parentOf m f) q in
-          after a m (putOf m (parentOf m f) (slotOf m f) 0) _ (free-words-out (a .base) (a .size) (putOf m (parentOf m f) (slotOf m f) 0) f (p .free) (h .0) (h .1))
+          after a m (putEntryOf m (parentOf m f) (slotOf m f) 0) _ (free-words-out (a .base) (a .size) (putEntryOf m (parentOf m f) (slotOf m f) 0) f (p .free) (h .0) (h .1))
           (put-out (a .base) (a .size) m (parentOf m f) (slotOf m f) 0 (l .0) (l .1) (slot-small m f))
       go true false q = same a m
       go false u q = same a m
@@ -69,20 +69,20 @@ module _ (a : Area) where
 
   pub clear-out : (stays : Bool) (p : Pool) (m : List ℕ) (k f i : ℕ) → In a f → i < 512 → Kept a m (clearOf a stays p m k f i)
   unfolding clearOf
-  clear-out stays p m k f i h l = go (present (entryIn m f i))
+  clear-out stays p m k f i h l = go (present (entryAtOf m f i))
     where
-      go : (t : Bool) → Kept a m (cond t (releaseOf a stays p (putOf m f i 0) k f) (end p Not m))
+      go : (t : Bool) → Kept a m (cond t (releaseOf a stays p (putEntryOf m f i 0) k f) (end p Not m))
       go true =
-          after a m (putOf m f i 0) _ (release-out k stays p (putOf m f i 0) f h) (put-out (a .base) (a .size) m f i 0 (h .0) (h .1) l)
+          after a m (putEntryOf m f i 0) _ (release-out k stays p (putEntryOf m f i 0) f h) (put-out (a .base) (a .size) m f i 0 (h .0) (h .1) l)
       go false = same a m
 
-  last-good : (m : List ℕ) (e i : ℕ) (is : List ℕ) → AreaGood a (lastOf (a .base) (a .size) m e i is)
-  unfolding lastOf
+  last-good : (m : List ℕ) (e i : ℕ) (is : List ℕ) → AreaGood a (lastTableOf (a .base) (a .size) m e i is)
+  unfolding lastTableOf
   last-good m e i [] = follow-good (a .base) (a .size) e
-  last-good m e i (j ∷ is) = go (followOf (a .base) (a .size) e) (λ f. last-good m (entryIn m f i) j is)
+  last-good m e i (j ∷ is) = go (followOf (a .base) (a .size) e) (λ f. last-good m (entryAtOf m f i) j is)
     where
-      go : (w : Way) → ((f : ℕ) → AreaGood a (lastOf (a .base) (a .size) m (entryIn m f i) j is))
-          → AreaGood a (onWay w Not Damaged (λ f. lastOf (a .base) (a .size) m (entryIn m f i) j is))
+      go : (w : Way) → ((f : ℕ) → AreaGood a (lastTableOf (a .base) (a .size) m (entryAtOf m f i) j is))
+          → AreaGood a (onWay w Not Damaged (λ f. lastTableOf (a .base) (a .size) m (entryAtOf m f i) j is))
       go (To f) h = h f
       go Not h = tt
       go Damaged h = tt
@@ -92,7 +92,7 @@ module _ (a : Area) where
   unfolding removeOf
   remove-out stays p m [] n = same a m
   remove-out stays p m (i ∷ is) n =
-      go (lastOf (a .base) (a .size) m (p .top) i is) (last-good m (p .top) i is)
+      go (lastTableOf (a .base) (a .size) m (p .top) i is) (last-good m (p .top) i is)
     where
       go : (w : Way) → AreaGood a w → Kept a m (onWay w (end p Not m) (end p Damaged m) (λ f. clearOf a stays p m (length is) f (lastIndex i is)))
       go (To f) g = clear-out stays p m (length is) f (lastIndex i is) g (narrow-last i is (n .0) (n .1))

@@ -9,7 +9,7 @@ use Rattle.pool.specs.declared.Area.{Area}
 use Rattle.pool.specs.declared.Pool.{Pool}
 use Rattle.pool.specs.declared.Way.{Way}
 use Rattle.pool.specs.declared.Way.the-variants.{To, Not, Damaged}
-use Rattle.pool.specs.Header.{entryIn, putOf, parentOf, slotOf, insideOf, bareOf}
+use Rattle.pool.specs.Header.{entryAtOf, putEntryOf, parentOf, slotOf, insideOf, bareOf}
 use Rattle.pool.specs.Pool.{followOf, onWay, end, withTop, withFreed, freeWords}
 use Rattle.words.specs.After.{After}
 use Rattle.pool.specs.declared.Went.{Went}
@@ -19,7 +19,7 @@ unfoldable pub detachOf : Area → Pool → List ℕ → ℕ → After Went
 detachOf a p m f =
     cond (bareOf m f 512)
     (cond (insideOf (a .base) (a .size) (parentOf m f))
-    (end (withFreed p f) (To (parentOf m f)) (freeWords (putOf m (parentOf m f) (slotOf m f) 0) f (p .free)))
+    (end (withFreed p f) (To (parentOf m f)) (freeWords (putEntryOf m (parentOf m f) (slotOf m f) 0) f (p .free)))
     (end p Damaged m))
     (end p Not m)
 
@@ -38,9 +38,9 @@ releaseOf a stays p m (suc k) f =
     (λ h. releaseOf a stays (t .result .pool) (t .memory) k h)
 
 -- the table that holds the last entry of the path i ∷ is, on from the entry e
-unfoldable pub lastOf : ℕ → ℕ → List ℕ → ℕ → ℕ → List ℕ → Way
-lastOf b s m e i [] = followOf b s e
-lastOf b s m e i (j ∷ is) = onWay (followOf b s e) Not Damaged (λ f. lastOf b s m (entryIn m f i) j is)
+unfoldable pub lastTableOf : ℕ → ℕ → List ℕ → ℕ → ℕ → List ℕ → Way
+lastTableOf b s m e i [] = followOf b s e
+lastTableOf b s m e i (j ∷ is) = onWay (followOf b s e) Not Damaged (λ f. lastTableOf b s m (entryAtOf m f i) j is)
 
 -- the last index of the path i ∷ is
 unfoldable pub lastIndex : ℕ → List ℕ → ℕ
@@ -49,11 +49,11 @@ lastIndex i (j ∷ is) = lastIndex j is
 
 -- the entry at index i of table f, which has k tables above it, is cleared
 unfoldable pub clearOf : Area → Bool → Pool → List ℕ → ℕ → ℕ → ℕ → After Went
-clearOf a stays p m k f i = cond (present (entryIn m f i)) (releaseOf a stays p (putOf m f i 0) k f) (end p Not m)
+clearOf a stays p m k f i = cond (present (entryAtOf m f i)) (releaseOf a stays p (putEntryOf m f i 0) k f) (end p Not m)
 
 -- a path is removed; Not, and nothing changed, if there is none
 unfoldable pub removeOf : Area → Bool → Pool → List ℕ → List ℕ → After Went
 removeOf a stays p m [] = end p Not m
 removeOf a stays p m (i ∷ is) =
-    onWay (lastOf (a .base) (a .size) m (p .top) i is) (end p Not m) (end p Damaged m)
+    onWay (lastTableOf (a .base) (a .size) m (p .top) i is) (end p Not m) (end p Damaged m)
     (λ f. clearOf a stays p m (length is) f (lastIndex i is))

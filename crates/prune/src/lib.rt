@@ -2,7 +2,7 @@
 ghost use mathlib.Core.Path.{_≡_};
 ghost use Prim.Native.Nat.{_+_, _-_, _<_, _≤_};
 ghost use Rattle.spec.specs.Entry.{index, indexes, frameLimit};
-ghost use Rattle.prune.specs.Remove.{detachOf, releaseTop, releaseOf, lastOf, clearOf, removeOf};
+ghost use Rattle.prune.specs.Remove.{detachOf, releaseTop, releaseOf, lastTableOf, clearOf, removeOf};
 ghost use Rattle.words.specs.After.{yields};
 use pool::Area;
 use pool::Pool;
@@ -100,7 +100,7 @@ pub fn release(area: Area, stays: bool, pool: Pool, mem: &mut [u64], above: u64,
 // The table that holds the last entry of the path of the last `steps` indexes of `path`, on from the entry given.
 fn last_table(base: u64, size: u64, entry: u64, mem: &[u64], path: u64, steps: u64) -> Way
     requires { ⌜ (1 ≤ steps) × (steps ≤ 7) ⌝ }
-    ensures { λ r. ⌜ r ≡ lastOf base size (now (mem .entry)) entry (index (steps - 1) path) (indexes (steps - 1) path) ⌝ }
+    ensures { λ r. ⌜ r ≡ lastTableOf base size (now (mem .entry)) entry (index (steps - 1) path) (indexes (steps - 1) path) ⌝ }
 {
     let mut at = entry;
     let mut left = steps - 1;

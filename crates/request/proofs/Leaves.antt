@@ -21,7 +21,7 @@ use Rattle.shadow.specs.Watch.{watchedOf}
 use Rattle.drops.specs.Drop.{scanOf}
 use Rattle.drops.proofs.Outside.{scan-out}
 use Rattle.drops.proofs.Fresh.{scan-fits}
-use Rattle.request.specs.Access.{stored, putBy, putOf}
+use Rattle.request.specs.Access.{stored, putBy, putWordOf}
 use Rattle.words.specs.After.{After}
 use Rattle.request.specs.declared.Put.{Put}
 use Rattle.drops.specs.declared.Left.{Left}
@@ -50,8 +50,8 @@ pub record Stores (c : Config) (m : List ℕ) (t i v : ℕ) (o : After Put) : Ty
   pub fresh : o .result .pool .fresh ≤ c .shadows
   pub exits : o .result .exits ≤ 1
 
-pub put-leaves : (c : Config) (m : List ℕ) (p : Pool) (t i v : ℕ) → p .fresh ≤ c .shadows → Stores c m t i v (putOf c m p t i v)
-unfolding putOf
+pub put-leaves : (c : Config) (m : List ℕ) (p : Pool) (t i v : ℕ) → p .fresh ≤ c .shadows → Stores c m t i v (putWordOf c m p t i v)
+unfolding putWordOf
 put-leaves c m p t i v h = go (watchedOf c m (p .fresh) t)
   where
     o : After Left

@@ -44,8 +44,8 @@ putBy p t i v o = cond (o .result .ok) (stored (o .result .pool) 1 true (setIn (
 
 -- word i of host frame t gets v: if the frame is watched that is an exit, and the paths that read the word are dropped; a frame
 -- that is not watched has no word that a held path read
-unfoldable pub putOf : Config → List ℕ → Pool → ℕ → ℕ → ℕ → After Put
-putOf c m p t i v =
+unfoldable pub putWordOf : Config → List ℕ → Pool → ℕ → ℕ → ℕ → After Put
+putWordOf c m p t i v =
     cond (watchedOf c m (p .fresh) t) (putBy p t i v (scanOf c (Word (page t) i) p m)) (stored p 0 true (setIn m t i v))
 
 -- ---- load
@@ -70,7 +70,7 @@ writtenBy h held n e s =
 
 abbrev pub storeBy : Config → Held → ℕ → ℕ → After Translated → Walked → After Served
 storeBy c h a v o (walked.Arrived t w n) =
-    writtenBy h (o .result .held) n (o .result .exits) (putOf c (o .memory) (o .result .held .pool) (t .0) (wordOf a) v)
+    writtenBy h (o .result .held) n (o .result .exits) (putWordOf c (o .memory) (o .result .held .pool) (t .0) (wordOf a) v)
 storeBy c h a v o (walked.Faulted x n) = serving (o .result .held) (answer.Faulted x n (o .result .exits)) (o .memory)
 storeBy c h a v o walked.Damaged = refused h 11 (o .memory)
 
@@ -79,7 +79,7 @@ storeOf c ht m h root a d v = let o = translateOf c ht m h root true a d in stor
 
 -- a device store counts the words of its host walk; H or W is an exit, and so is a granted store into a watched frame
 abbrev pub deviceBy : Config → List ℕ → Held → ℕ → ℕ → Walked → After Served
-deviceBy c m h a v (walked.Arrived t w n) = writtenBy h h n 0 (putOf c m (h .pool) (t .0) (wordOf a) v)
+deviceBy c m h a v (walked.Arrived t w n) = writtenBy h h n 0 (putWordOf c m (h .pool) (t .0) (wordOf a) v)
 deviceBy c m h a v (walked.Faulted x n) = serving h (answer.Faulted x n (exitBy (walked.Faulted x n))) m
 deviceBy c m h a v walked.Damaged = refused h 11 m
 

@@ -6,7 +6,7 @@ ghost use Rattle.words.specs.After.{yields};
 ghost use Rattle.words.specs.Words.{wordIn};
 ghost use Rattle.layout.specs.Layout.{LayoutFits, config};
 ghost use Rattle.translate.specs.Translate.{HeldFits};
-ghost use Rattle.request.specs.Access.{putOf, loadOf, writtenBy, storeOf, deviceOf};
+ghost use Rattle.request.specs.Access.{putWordOf, loadOf, writtenBy, storeOf, deviceOf};
 use entry::GuestPhysical;
 use entry::GuestVirtual;
 use entry::HostPhysical;
@@ -59,7 +59,7 @@ fn put_word(
     value: u64,
 ) -> Put
     requires { ⌜ (LayoutFits layout) × (pool .fresh ≤ layout .shadows) × (page .0 < frameLimit) ⌝ }
-    ensures { λ r. ⌜ yields r (now (mem .exit)) ≡ putOf (config layout) (now (mem .entry)) pool (page .0) (wordOf address) value ⌝ }
+    ensures { λ r. ⌜ yields r (now (mem .exit)) ≡ putWordOf (config layout) (now (mem .entry)) pool (page .0) (wordOf address) value ⌝ }
 {
     let i = word_of(address);
     if !shadow::watched(mem, layout, pool.fresh, page) {
@@ -162,7 +162,7 @@ fn written(
     exits: u64,
 ) -> Served
     requires { ⌜ (LayoutFits layout) × (held .pool .fresh ≤ layout .shadows) × (page .0 < frameLimit) × (exits ≤ 65536) ⌝ }
-    ensures { λ r. ⌜ yields r (now (mem .exit)) ≡ writtenBy before held references exits (putOf (config layout) (now (mem .entry)) (held .pool) (page .0) (wordOf address) value) ⌝ }
+    ensures { λ r. ⌜ yields r (now (mem .exit)) ≡ writtenBy before held references exits (putWordOf (config layout) (now (mem .entry)) (held .pool) (page .0) (wordOf address) value) ⌝ }
 {
     let put = put_word(mem, layout, held.pool, page, address, value);
     let pool = put.pool;

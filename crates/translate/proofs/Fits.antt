@@ -14,7 +14,7 @@ use Rattle.spec.specs.Refusal.{inGuestArea}
 use Rattle.spec.specs.Plain.{next, levels, walk}
 use Rattle.area.specs.declared.Look.{Look}
 use Rattle.area.specs.declared.Look.the-variants.{Seen, Damaged}
-use Rattle.area.specs.Tree.{lookOf}
+use Rattle.area.specs.Tree.{lookupOf}
 use Rattle.layout.specs.declared.HostWalk.{HostWalk}
 use Rattle.layout.specs.declared.HostWalk.the-variants as host
 use Rattle.layout.specs.Layout.{page, leafOf, namedBy}
@@ -88,7 +88,7 @@ module _ (c : Config) (P : ℕ → Type 0) (all : (f : ℕ) → InGuestArea c f 
 
   held-is : (m : List ℕ) (top : ℕ) (is : List ℕ) → FoundIs (heldOf c m top is)
   unfolding heldOf
-  held-is m top is = go (lookOf (c .hosts) (c .shadows) m top is 0)
+  held-is m top is = go (lookupOf (c .hosts) (c .shadows) m top is 0)
     where
       go : (r : Look) → FoundIs (namedBy c r)
       go (Seen e n) = leaf-is e n

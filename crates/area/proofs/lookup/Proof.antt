@@ -3,7 +3,7 @@ use Prim.Native.Nat.{_+_, _-_, _≤_}
 use native.Mathlib.Omega.{arith}
 use mathlib.Core.Path.{_≡_, sym, _∙_}
 use Rattle.spec.specs.Entry.{indexes}
-use Rattle.area.specs.Tree.{lookOf}
+use Rattle.area.specs.Tree.{lookupOf}
 use Rattle.pool.proofs.Laws.{follow-small}
 use Rattle.area.proofs.Laws.{look-step, look-last}
 use Rattle.entry.proofs.Entries.{index-fits}
@@ -12,7 +12,7 @@ use Rattle.area.proofs.lookup.Statement.{statement}
 use Rattle.area.proofs.lookup.Tie as tie
 
 abbrev Inv-loop : tie.InvT-loop
-Inv-loop base size e mem g k at₀ left₀ n₀ at left n = (n + left ≡ left₀) × (left ≤ k) × (lookOf base size mem at (indexes left g) n ≡ lookOf base size mem at₀ (indexes left₀ g) n₀)
+Inv-loop base size e mem g k at₀ left₀ n₀ at left n = (n + left ≡ left₀) × (left ≤ k) × (lookupOf base size mem at (indexes left g) n ≡ lookupOf base size mem at₀ (indexes left₀ g) n₀)
 
 abbrev μ-loop : tie.MeasureT-loop
 μ-loop base size e mem g k at₀ left₀ n₀ at left n = left

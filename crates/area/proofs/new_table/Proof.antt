@@ -1,6 +1,6 @@
 -- The frame taken lies in the area, so its header can be written; where none is taken that is the answer.
 use native.Mathlib.Omega.{arith}
-use Rattle.area.specs.Tree.{tableOf}
+use Rattle.area.specs.Tree.{newTableOf}
 use Rattle.pool.proofs.Laws.{take-good}
 use borrow.Author.Needs.{needs}
 use Rattle.area.proofs.new_table.Statement.{statement}
@@ -18,7 +18,7 @@ enum-told : tie.Need-enum-told
 enum-told c = search needs
 
 returns : tie.Need-returns
-unfolding tableOf
+unfolding newTableOf
 returns c =
     let take-frame = c .before .before .before .before .before .before .before .before .before .take-frame in
     let way = c .before .before .before .before .before .way in
@@ -26,11 +26,11 @@ returns c =
     rw (← take-frame .ensures, way .given .1, write-header .ensures)
 
 returns-2 : tie.Need-returns-2
-unfolding tableOf
+unfolding newTableOf
 returns-2 c = rw (← c .before .before .before .before .take-frame .ensures, c .enum-told .given .1)
 
 returns-3 : tie.Need-returns-3
-unfolding tableOf
+unfolding newTableOf
 returns-3 c = rw (← c .before .before .before .before .take-frame .ensures, c .enum-told2 .given .1)
 
 pub new-table-spec : {M : Type 1} → statement M

@@ -1,7 +1,7 @@
 -- The frame handed out lies in the area, so the top entry made of it fits a word; without one nothing is added.
 use native.Mathlib.Omega.{arith}
 use Rattle.pool.specs.Pool.{link}
-use Rattle.area.specs.Tree.{topOf}
+use Rattle.area.specs.Tree.{newTopOf}
 use Rattle.area.proofs.Laws.{table-good}
 use borrow.Author.Needs.{needs}
 use Rattle.area.proofs.new_top.Statement.{statement}
@@ -25,7 +25,7 @@ enum-told : tie.Need-enum-told
 enum-told c = search needs
 
 returns : tie.Need-returns
-unfolding topOf link
+unfolding newTopOf link
 returns c =
     let new-table = c .before .before .before .before .before .before .before .new-table in
     let way = c .before .before .way in
@@ -33,14 +33,14 @@ returns c =
     rw (← new-table .ensures, way .given .1, with-top .ensures)
 
 returns-2 : tie.Need-returns-2
-unfolding topOf
+unfolding newTopOf
 returns-2 c =
     let new-table = c .before .before .before .before .before .new-table in
     let enum-told = c .enum-told in
     rw (← new-table .ensures, enum-told .given .1)
 
 returns-3 : tie.Need-returns-3
-unfolding topOf
+unfolding newTopOf
 returns-3 c =
     let new-table = c .before .before .before .before .before .new-table in
     let enum-told2 = c .enum-told2 in

@@ -4,14 +4,14 @@ use Prim.Native.Nat.{_-_, _≤_}
 use native.Mathlib.Omega.{arith}
 use Rattle.layout.specs.Layout.{config}
 use lib.ListN.{length}
-use Rattle.drops.specs.Drop.{clearFrom}
+use Rattle.drops.specs.Drop.{clearLeavesOf}
 use Rattle.drops.proofs.Laws.{clear-step, clear-none}
 use borrow.Author.Needs.{needs}
 use Rattle.drops.proofs.clear_leaves.Statement.{statement}
 use Rattle.drops.proofs.clear_leaves.Tie as tie
 
 abbrev Inv-loop : tie.InvT-loop
-Inv-loop mem₀ l cut all lowest f lo hi i₀ mem i = (lo ≤ i) × (i ≤ hi) × (length mem ≡ length mem₀) × (clearFrom (config l) cut all lowest f (hi - i) i mem ≡ clearFrom (config l) cut all lowest f (hi - lo) lo mem₀)
+Inv-loop mem₀ l cut all lowest f lo hi i₀ mem i = (lo ≤ i) × (i ≤ hi) × (length mem ≡ length mem₀) × (clearLeavesOf (config l) cut all lowest f (hi - i) i mem ≡ clearLeavesOf (config l) cut all lowest f (hi - lo) lo mem₀)
 
 abbrev μ-loop : tie.MeasureT-loop
 μ-loop mem₀ l cut all lowest f lo hi i₀ mem i = hi - i

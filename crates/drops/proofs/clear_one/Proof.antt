@@ -1,5 +1,5 @@
 -- By the entry's kind: a leaf is cleared if it goes, damage says no, all others stay as they are.
-use Rattle.drops.specs.Drop.{clearOne}
+use Rattle.drops.specs.Drop.{clearOneOf}
 use borrow.Author.Needs.{needs}
 use Rattle.drops.proofs.clear_one.Statement.{statement}
 use Rattle.drops.proofs.clear_one.Tie as tie
@@ -8,11 +8,11 @@ enum-told : tie.Need-enum-told
 enum-told c = search needs
 
 returns : tie.Need-returns
-unfolding clearOne
+unfolding clearOneOf
 returns c = rw (← c .before .before .before .entry-at .ensures, ← c .before .before .kind-of .ensures, c .enum-told .given .1)
 
 returns-2 : tie.Need-returns-2
-unfolding clearOne
+unfolding clearOneOf
 returns-2 c =
     let entry-at = c .before .before .before .before .before .before .before .before .before .before .entry-at in
     let kind-of = c .before .before .before .before .before .before .before .before .before .kind-of in
@@ -23,7 +23,7 @@ returns-2 c =
     rw (← entry-at .ensures, ← kind-of .ensures, enum-told2 .given .1, ← goes .ensures, if1 .taken, put-entry .ensures)
 
 returns-3 : tie.Need-returns-3
-unfolding clearOne
+unfolding clearOneOf
 returns-3 c =
     let entry-at = c .before .before .before .before .before .before .entry-at in
     let kind-of = c .before .before .before .before .before .kind-of in
@@ -33,11 +33,11 @@ returns-3 c =
     rw (← entry-at .ensures, ← kind-of .ensures, enum-told2 .given .1, ← goes .ensures, if1 .left)
 
 returns-4 : tie.Need-returns-4
-unfolding clearOne
+unfolding clearOneOf
 returns-4 c = rw (← c .before .before .before .before .entry-at .ensures, ← c .before .before .before .kind-of .ensures, c .before .t .given .1)
 
 returns-5 : tie.Need-returns-5
-unfolding clearOne
+unfolding clearOneOf
 returns-5 c = rw (← c .before .before .before .entry-at .ensures, ← c .before .before .kind-of .ensures, c .enum-told3 .given .1)
 
 pub clear-one-spec : {M : Type 1} → statement M

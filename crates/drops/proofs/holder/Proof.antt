@@ -4,7 +4,7 @@ use Prim.Native.Nat.{_-_, _≤_}
 use native.Mathlib.Omega.{arith}
 use Rattle.layout.specs.Layout.{config}
 use Rattle.spec.specs.Entry.{index, indexes}
-use Rattle.drops.specs.Drop.{holderFrom}
+use Rattle.drops.specs.Drop.{holderOf}
 use Rattle.entry.proofs.Entries.{index-fits}
 use Rattle.drops.proofs.Laws.{named-small, holder-step, holder-none}
 use borrow.Author.Needs.{needs}
@@ -12,7 +12,7 @@ use Rattle.drops.proofs.holder.Statement.{statement}
 use Rattle.drops.proofs.holder.Tie as tie
 
 abbrev Inv-loop : tie.InvT-loop
-Inv-loop mem l e path k at₀ left₀ at left = (left ≤ k - 1) × (holderFrom (config l) mem at (index left path) (indexes left path) ≡ holderFrom (config l) mem at₀ (index left₀ path) (indexes left₀ path))
+Inv-loop mem l e path k at₀ left₀ at left = (left ≤ k - 1) × (holderOf (config l) mem at (index left path) (indexes left path) ≡ holderOf (config l) mem at₀ (index left₀ path) (indexes left₀ path))
 
 abbrev μ-loop : tie.MeasureT-loop
 μ-loop mem l e path k at₀ left₀ at left = left

@@ -1,6 +1,6 @@
 -- Parent and slot are small by the header's bits, so the cut can be asked there; a parent outside the area is damage.
 use native.Mathlib.Omega.{arith}
-use Rattle.drops.specs.Cut.{aboveOf}
+use Rattle.drops.specs.Cut.{linkUpOf}
 use Rattle.pool.proofs.Laws.{parent-small, slot-small}
 use borrow.Author.Needs.{needs}
 use Rattle.drops.proofs.link_up.Statement.{statement}
@@ -10,15 +10,15 @@ cut-at-requires : tie.Need-cut-at-requires
 cut-at-requires c κs = let p = parent-small (c .before .before .before .before .before .args .mem .now) (c .before .before .before .before .before .args .frame) in let s = slot-small (c .before .before .before .before .before .args .mem .now) (c .before .before .before .before .before .args .frame) in (omega (arith, c .before .before .before .parent .ensures), omega (arith, c .slot .ensures))
 
 returns : tie.Need-returns
-unfolding aboveOf
+unfolding linkUpOf
 returns c = rw (← c .before .before .before .before .before .parent .ensures, ← c .before .before .before .before .inside .ensures, c .before .before .before .if1 .taken, ← c .before .before .slot .ensures, ← c .before .cut-at .ensures, c .if2 .taken)
 
 returns-2 : tie.Need-returns-2
-unfolding aboveOf
+unfolding linkUpOf
 returns-2 c = rw (← c .before .before .before .before .before .parent .ensures, ← c .before .before .before .before .inside .ensures, c .before .before .before .if1 .taken, ← c .before .before .slot .ensures, ← c .before .cut-at .ensures, c .if2 .left)
 
 returns-3 : tie.Need-returns-3
-unfolding aboveOf
+unfolding linkUpOf
 returns-3 c = rw (← c .before .before .parent .ensures, ← c .before .inside .ensures, c .if1 .left)
 
 pub link-up-spec : {M : Type 1} → statement M

@@ -4,14 +4,14 @@ use Prim.Native.Nat.{_-_, _<_}
 use native.Mathlib.Omega.{arith}
 use Rattle.spec.specs.Entry.{frameLimit}
 use Rattle.layout.specs.Layout.{config}
-use Rattle.drops.specs.Cut.{upFrom}
+use Rattle.drops.specs.Cut.{linksUpOf}
 use Rattle.drops.proofs.Laws.{above-small, up-step, up-none}
 use borrow.Author.Needs.{needs}
 use Rattle.drops.proofs.links_up.Statement.{statement}
 use Rattle.drops.proofs.links_up.Tie as tie
 
 abbrev Inv-loop : tie.InvT-loop
-Inv-loop mem l cut k f t₀ links₀ t links = (t < frameLimit) × (upFrom (config l) cut mem links t ≡ upFrom (config l) cut mem links₀ t₀)
+Inv-loop mem l cut k f t₀ links₀ t links = (t < frameLimit) × (linksUpOf (config l) cut mem links t ≡ linksUpOf (config l) cut mem links₀ t₀)
 
 abbrev μ-loop : tie.MeasureT-loop
 μ-loop mem l cut k f t₀ links₀ t links = links

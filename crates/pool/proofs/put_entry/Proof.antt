@@ -1,11 +1,11 @@
 -- The word stored has the header bits of the word read and the low 52 bits of e; the two share no bit, so their sum fits.
-use Rattle.pool.specs.Header.{putOf}
+use Rattle.pool.specs.Header.{putEntryOf}
 use borrow.Author.Needs.{needs}
 use Rattle.pool.proofs.put_entry.Statement.{statement}
 use Rattle.pool.proofs.put_entry.Tie as tie
 
 returns : tie.Need-returns
-unfolding putOf
+unfolding putEntryOf
 returns c = rw (c .before .before .set-in .ensures, c .before .before .before .before .word-in .ensures)
 
 pub put-entry-spec : {M : Type 1} → statement M

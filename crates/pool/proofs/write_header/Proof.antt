@@ -1,11 +1,11 @@
 -- Five stores, one for each header word: each promise names the memory before it, as the definition nests them.
-use Rattle.pool.specs.Header.{headOf}
+use Rattle.pool.specs.Header.{headerOf}
 use borrow.Author.Needs.{needs}
 use Rattle.pool.proofs.write_header.Statement.{statement}
 use Rattle.pool.proofs.write_header.Tie as tie
 
 returns : tie.Need-returns
-unfolding headOf
+unfolding headerOf
 returns c =
     let set-in = c .before .before .before .before .before .before .before .before .before .before .before .before .before .before .before .before .before .before .set-in in
     let set-in2 = c .before .before .before .before .before .before .before .before .before .before .before .before .before .before .set-in2 in

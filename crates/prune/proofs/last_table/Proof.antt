@@ -3,7 +3,7 @@ use Prim.Native.Nat.{_≤_}
 use native.Mathlib.Omega.{arith}
 use mathlib.Core.Path.{_≡_, sym, _∙_}
 use Rattle.spec.specs.Entry.{index, indexes}
-use Rattle.prune.specs.Remove.{lastOf}
+use Rattle.prune.specs.Remove.{lastTableOf}
 use Rattle.pool.proofs.Laws.{follow-small}
 use Rattle.prune.proofs.Laws.{last-step, last-none}
 use Rattle.entry.proofs.Entries.{index-fits}
@@ -12,7 +12,7 @@ use Rattle.prune.proofs.last_table.Statement.{statement}
 use Rattle.prune.proofs.last_table.Tie as tie
 
 abbrev Inv-loop : tie.InvT-loop
-Inv-loop base size e mem g k at₀ left₀ at left = (left ≤ 6) × (lastOf base size mem at (index left g) (indexes left g) ≡ lastOf base size mem at₀ (index left₀ g) (indexes left₀ g))
+Inv-loop base size e mem g k at₀ left₀ at left = (left ≤ 6) × (lastTableOf base size mem at (index left g) (indexes left g) ≡ lastTableOf base size mem at₀ (index left₀ g) (indexes left₀ g))
 
 abbrev μ-loop : tie.MeasureT-loop
 μ-loop base size e mem g k at₀ left₀ at left = left

@@ -1,12 +1,12 @@
 -- Not watched, watched and the paths dropped, or damage met: in the last the word is not written.
 use borrow.Author.Tests.{not-true, not-false}
-use Rattle.request.specs.Access.{putOf}
+use Rattle.request.specs.Access.{putWordOf}
 use borrow.Author.Needs.{needs}
 use Rattle.request.proofs.put_word.Statement.{statement}
 use Rattle.request.proofs.put_word.Tie as tie
 
 returns : tie.Need-returns
-unfolding putOf
+unfolding putWordOf
 returns c =
     let word-of = c .before .before .before .before .before .before .before .word-of in
     let watched = c .before .before .before .before .before .watched in
@@ -15,7 +15,7 @@ returns c =
     rw (← watched .ensures, not-true (watched .result) (if1 .taken), set-in .ensures, word-of .ensures .0)
 
 returns-2 : tie.Need-returns-2
-unfolding putOf
+unfolding putWordOf
 returns-2 c =
     let word-of = c .before .before .before .before .before .before .before .before .before .before .before .before .before .word-of in
     let watched = c .before .before .before .before .before .before .before .before .before .before .before .watched in
@@ -26,7 +26,7 @@ returns-2 c =
     rw (← watched .ensures, not-false (watched .result) (if1 .left), ← word-of .ensures .0, ← drop-word .ensures, if2 .taken, set-in2 .ensures)
 
 returns-3 : tie.Need-returns-3
-unfolding putOf
+unfolding putWordOf
 returns-3 c =
     let word-of = c .before .before .before .before .before .before .before .before .before .word-of in
     let watched = c .before .before .before .before .before .before .before .watched in
