@@ -28,15 +28,18 @@ extern "C" {
 
 /* What the unit keeps of an area of tables. */
 struct cangrieb_pool {
-    uint64_t fresh, free, used;
-    uint64_t top; /* the entry of the area's top table, or 0 */
+    uint64_t fresh; /* frames handed out so far */
+    uint64_t free;  /* the first frame given back, as an entry, or 0 */
+    uint64_t used;  /* tables in use */
+    uint64_t top;   /* the entry of the area's top table, or 0 */
 };
 
+/* The record without the places of its marks. */
 struct cangrieb_head {
     uint64_t levels;         /* levels of tables, 4 as opened */
     uint64_t hosts, shadows; /* frames of host tables and of shadow tables, as opened */
     uint64_t frames;         /* frames of the memory */
-    struct cangrieb_pool host, shadow;
+    struct cangrieb_pool host, shadow; /* their areas */
     uint64_t root;           /* the guest frame of the guest's top table */
     uint64_t held;           /* the host frame of the path held at the depth of all levels, or 0 */
     uint64_t set;            /* the places of marks that are set, one bit each */
@@ -49,15 +52,16 @@ struct cangrieb_record {
     uint64_t place[64];
 };
 
+/* What a call answers, and which numbers of the answer it has. */
 enum cangrieb_kind {
-    CANGRIEB_OK = 0,
+    CANGRIEB_OK = 0,      /* none */
     CANGRIEB_VALUE = 1,   /* number, references, exits */
     CANGRIEB_DONE = 2,    /* references, exits */
     CANGRIEB_FAULT = 3,   /* letter, level or frame, references, exits */
     CANGRIEB_REFUSED = 4, /* number */
 };
 
-/* What a kind does not have is 0. */
+/* The answer of a call. What its kind does not have is 0. */
 struct cangrieb_answer {
     uint64_t kind;
     uint64_t number;     /* the word loaded, or the number of the refusal */
@@ -82,37 +86,40 @@ _Static_assert(sizeof(struct cangrieb_answer) == 7 * sizeof(uint64_t), "an answe
    host or shadow table.
    A refusal leaves the head and the places as given; that of an opening sets them to 0. */
 
-/* (1, 2) Clears the host and shadow frames, keeps the guest words. Head and places may hold anything before. */
+/* Opens a memory (1, 2): clears its host and shadow frames, keeps its guest words; nothing is mapped, the root is 0, no mark is
+   set. Head and places may hold anything before. */
 struct cangrieb_answer cangrieb_open(struct cangrieb_head *head, uint64_t place[64], uint64_t *memory, size_t words,
                                      uint64_t hosts, uint64_t shadows);
 
-/* (3, 4, 11) Guest-virtual addresses. */
+/* Loads the word at a guest-virtual address (3, 4, 11). */
 struct cangrieb_answer cangrieb_load(struct cangrieb_head *head, const uint64_t place[64], uint64_t *memory,
                                      size_t words, uint64_t address);
+
+/* Stores a word at a guest-virtual address (3, 4, 11). */
 struct cangrieb_answer cangrieb_store(struct cangrieb_head *head, const uint64_t place[64], uint64_t *memory,
                                       size_t words, uint64_t address, uint64_t value);
 
-/* (3, 4, 11) A guest-physical address. */
+/* A device stores a word at a guest-physical address (3, 4, 11). */
 struct cangrieb_answer cangrieb_device_store(struct cangrieb_head *head, const uint64_t place[64], uint64_t *memory,
                                              size_t words, uint64_t address, uint64_t value);
 
-/* (3, 8) */
+/* Loads a root (3, 8): the guest frame of the guest's top table. All held paths are dropped. */
 struct cangrieb_answer cangrieb_root(struct cangrieb_head *head, const uint64_t place[64], const uint64_t *memory,
                                      size_t words, uint64_t guest);
 
-/* (3, 8, 9, 10, 11) */
+/* Maps a guest frame to a host frame of the guest area, or maps it anew (3, 8, 9, 10, 11). */
 struct cangrieb_answer cangrieb_map(struct cangrieb_head *head, const uint64_t place[64], uint64_t *memory,
                                     size_t words, uint64_t guest, uint64_t frame, bool writable);
 
-/* (3, 8, 12, 11) */
+/* Takes the mapping of a guest frame away (3, 8, 12, 11). */
 struct cangrieb_answer cangrieb_unmap(struct cangrieb_head *head, const uint64_t place[64], uint64_t *memory,
                                       size_t words, uint64_t guest);
 
-/* (3, 4, 5, 6, 7, 11) Levels 1 to 5. */
+/* Sets a mark of a level from 1 to 5 for the addresses that begin like this one (3, 4, 5, 6, 7, 11). */
 struct cangrieb_answer cangrieb_set_mark(struct cangrieb_head *head, uint64_t place[64], uint64_t *memory,
                                          size_t words, uint64_t address, uint64_t level);
 
-/* (3, 4, 5, 6, 11) */
+/* Clears that mark (3, 4, 5, 6, 11). */
 struct cangrieb_answer cangrieb_clear_mark(struct cangrieb_head *head, uint64_t place[64], uint64_t *memory,
                                            size_t words, uint64_t address, uint64_t level);
 
