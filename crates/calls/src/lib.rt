@@ -149,7 +149,7 @@ pub fn load_at(head: Head, place: &[u64; 64], mem: &mut [u64], address: u64) -> 
     if !address_ok(head.layout.levels, at) {
         return request::refused(held, 4);
     }
-    let d = marks::depth(place, head.set, at);
+    let d = depth::depth(place, head.set, at);
     request::load(mem, space_in(head), head.root, held, at, d)
 }
 
@@ -165,7 +165,7 @@ pub fn store_at(head: Head, place: &[u64; 64], mem: &mut [u64], address: u64, va
     if !address_ok(head.layout.levels, at) {
         return request::refused(held, 4);
     }
-    let d = marks::depth(place, head.set, at);
+    let d = depth::depth(place, head.set, at);
     request::store(mem, space_in(head), head.root, held, at, d, value)
 }
 

@@ -7,13 +7,13 @@ ghost use mathlib.Core.Bool.{not, _&&_};
 ghost use mathlib.Core.List.{[]};
 ghost use lib.Count.{ones};
 ghost use lib.Dec.{eqb, ltb};
-ghost use Prim.Native.Nat.{_-_, _<_, _≤_, min, max};
+ghost use Prim.Native.Nat.{_-_, _<_, min, max};
 ghost use Rattle.spec.specs.Entry.{pageOf};
 ghost use Rattle.spec.specs.Prefix.{any};
 ghost use Rattle.spec.specs.Refusal.{levelFits};
 ghost use Rattle.entry.specs.Levels.{ofLevels};
-ghost use Rattle.marks.specs.Key.{keyOf, depthOf, keysFit, ascending};
-ghost use Rattle.marks.specs.ByLevel.{endOf, endsOf, wantsOf, fitsBy, wantedFrom};
+ghost use Rattle.marks.specs.Key.{keyOf, keysFit, ascending};
+ghost use Rattle.marks.specs.ByLevel.{endOf, endsOf, fitsBy};
 ghost use Rattle.marks.specs.Table.{keys, placeOf, inserted, tableOf, withKey, withoutKey, setRefusal, clearRefusal, number};
 
 // The places that are set, and the key at each place.
@@ -22,12 +22,14 @@ pub struct Marks {
     pub place: [u64; 64],
 }
 
-fn greater(a: u64, b: u64) -> u64
+// The greater of two numbers.
+pub fn greater(a: u64, b: u64) -> u64
     ensures { λ r. ⌜ r ≡ max a b ⌝ }
 {
     if a < b { b } else { a }
 }
 
+// The smaller of two numbers.
 fn smaller(a: u64, b: u64) -> u64
     ensures { λ r. ⌜ r ≡ min a b ⌝ }
 {
@@ -40,60 +42,6 @@ pub fn key_of(level: u64, address: GuestVirtual) -> u64
     ensures { λ r. ⌜ r ≡ keyOf level (pageOf (address .0)) ⌝ }
 {
     (address.page() >> (9 * level)) * 8 + level
-}
-
-// The key of the mark of each level at an address, made once for a search.
-fn wants_of(address: GuestVirtual) -> [u64; 8]
-    ensures { λ r. ⌜ r ≡ wantsOf (pageOf (address .0)) ⌝ }
-{
-    [
-        key_of(0, address),
-        key_of(1, address),
-        key_of(2, address),
-        key_of(3, address),
-        key_of(4, address),
-        key_of(5, address),
-        key_of(6, address),
-        key_of(7, address),
-    ]
-}
-
-// The set from the first place on whose key is wanted. A loop of its own, so that passing a key takes few instructions.
-fn wanted_from(place: &[u64; 64], set: u64, wants: &[u64; 8]) -> u64
-    ensures { λ r. ⌜ (keys (now (place .entry)) r ≡ wantedFrom (now (wants .entry)) (keys (now (place .entry)) set)) × (r ≤ set) ⌝ }
-{
-    let mut rest = set;
-    while rest != 0 {
-        let i = bits::lowest(rest);
-        let key = place[i];
-        let level = (key % 8) as usize;
-        if wants[level] == key {
-            return rest;
-        }
-        rest = bits::after_lowest(rest);
-    }
-    0
-}
-
-// The depth of an address: the set places are visited in their order.
-pub fn depth(place: &[u64; 64], set: u64, address: GuestVirtual) -> u64
-    ensures { λ r. ⌜ r ≡ depthOf (pageOf (address .0)) (keys (now (place .entry)) set) ⌝ }
-{
-    if set == 0 {
-        return 0;
-    }
-    let wants = wants_of(address);
-    let mut found = 0;
-    let mut rest = set;
-    loop {
-        rest = wanted_from(place, rest, &wants);
-        if rest == 0 {
-            return found;
-        }
-        let i = bits::lowest(rest);
-        found = greater(found, place[i] % 8);
-        rest = bits::after_lowest(rest);
-    }
 }
 
 // The first set place that holds the key; 64 where none does.

@@ -6,15 +6,12 @@ use layout::Layout;
 use marks::Marks;
 use pool::Pool;
 ghost use mathlib.Core.Path.{_≡_};
-ghost use Prim.Native.Nat.{_+_, _≤_};
 ghost use Rattle.spec.specs.Entry.{pageOf};
 ghost use Rattle.spec.specs.Refusal.{wordsFit, areasFit, topFits};
-ghost use Rattle.words.specs.After.{yields};
 ghost use Rattle.layout.specs.Layout.{LayoutFits, config};
 ghost use Rattle.marks.specs.Key.{depthOf};
 ghost use Rattle.marks.specs.Table.{keys};
 ghost use Rattle.record.specs.Record.{layoutOf, heldTop, isTable, poolFits, sizesFit, tablesFit, recordBy, headOf, fitsOf, zeros, headRoot, headTables, withHead, withMarks};
-ghost use Rattle.record.specs.Open.{refusalOf, clearedOf, firstOf, grantedOf, openOf};
 
 // Levels of the guest's tables and of the host's that an opening chooses.
 pub const LEVELS: u64 = 4;
@@ -56,7 +53,7 @@ pub struct Head {
 }
 
 // How an opening lays out a memory of that many words.
-fn layout(words: u64, hosts: u64, shadows: u64) -> Layout
+pub fn layout(words: u64, hosts: u64, shadows: u64) -> Layout
     ensures { λ r. ⌜ r ≡ layoutOf words hosts shadows ⌝ }
 {
     Layout {
@@ -70,7 +67,7 @@ fn layout(words: u64, hosts: u64, shadows: u64) -> Layout
 // ---- the rules of a record
 
 // Have the host tables and the shadow tables room, and is a guest frame left?
-fn areas_fit(l: Layout) -> bool
+pub fn areas_fit(l: Layout) -> bool
     ensures { λ r. ⌜ r ≡ areasFit (config l) ⌝ }
 {
     if l.hosts < l.levels {
@@ -249,7 +246,7 @@ impl Record {
     pub fn depth(self, address: GuestVirtual) -> Deep
         ensures { λ r. ⌜ r ≡ record { unit = self; depth = depthOf (pageOf (address .0)) (keys (self .guest .marks .place) (self .guest .marks .set)) } ⌝ }
     {
-        let depth = marks::depth(&self.guest.marks.place, self.guest.marks.set, address);
+        let depth = depth::depth(&self.guest.marks.place, self.guest.marks.set, address);
         Deep {
             unit: self,
             depth: depth,
@@ -299,7 +296,7 @@ pub struct Opened {
 }
 
 // Is it a number of words that can be opened?
-fn words_fit(words: u64) -> bool
+pub fn words_fit(words: u64) -> bool
     ensures { λ r. ⌜ r ≡ wordsFit words ⌝ }
 {
     if words % 512 != 0 {
@@ -309,78 +306,4 @@ fn words_fit(words: u64) -> bool
         return false;
     }
     words / 512 <= 65536
-}
-
-// The number with which an opening on that many words is refused, or 0.
-fn open_refusal(words: u64, hosts: u64, shadows: u64) -> u64
-    ensures { λ r. ⌜ r ≡ refusalOf words hosts shadows ⌝ }
-{
-    if !words_fit(words) {
-        return 1;
-    }
-    if !areas_fit(layout(words, hosts, shadows)) {
-        return 2;
-    }
-    0
-}
-
-// The first frames are set to 0.
-fn clear_frames(mem: &mut [u64], frames: u64)
-    requires { ⌜ frames ≤ 65536 ⌝ }
-    ensures { λ r. ⌜ now (mem .exit) ≡ clearedOf (now (mem .entry)) frames ⌝ }
-{
-    let end = frames as usize * 512;
-    let mut i: usize = 0;
-    while i < end {
-        words::set_word(mem, i, 0);
-        i += 1;
-    }
-}
-
-// The record of a memory that was just opened.
-fn first(l: Layout, host: Pool) -> Record
-    ensures { λ r. ⌜ r ≡ firstOf l host ⌝ }
-{
-    Record {
-        layout: l,
-        pools: Pools {
-            host: host,
-            shadow: pool::no_tables(),
-        },
-        guest: Guest {
-            root: GuestPhysical(0),
-            held: HostPhysical(0),
-            marks: Marks::empty(),
-        },
-    }
-}
-
-// Host and shadow frames are cleared, and the top host table handed out.
-fn open_granted(mem: &mut [u64], hosts: u64, shadows: u64) -> Record
-    requires { ⌜ hosts + shadows ≤ 65536 ⌝ }
-    ensures { λ r. ⌜ yields r (now (mem .exit)) ≡ grantedOf (now (mem .entry)) hosts shadows ⌝ }
-{
-    let l = layout(mem.len() as u64, hosts, shadows);
-    clear_frames(mem, hosts + shadows);
-    let went = area::enter(host::tables(l), pool::no_tables(), mem, 0);
-    let pool = went.pool;
-    first(l, pool)
-}
-
-// The opening: 1, 2.
-pub fn open(mem: &mut [u64], hosts: u64, shadows: u64) -> Opened
-    ensures { λ r. ⌜ yields r (now (mem .exit)) ≡ openOf (now (mem .entry)) hosts shadows ⌝ }
-{
-    let refusal = open_refusal(mem.len() as u64, hosts, shadows);
-    if refusal != 0 {
-        return Opened {
-            unit: Record::zeros(),
-            refusal: refusal,
-        };
-    }
-    let unit = open_granted(mem, hosts, shadows);
-    Opened {
-        unit: unit,
-        refusal: 0,
-    }
 }

@@ -70,7 +70,7 @@ fn answer_of(refusal: u64) -> Answer
 pub fn open(mem: &mut [u64], hosts: u64, shadows: u64) -> Reply
     ensures { λ r. ⌜ Promises r (now (mem .exit)) (openCall (now (mem .entry)) hosts shadows) ⌝ }
 {
-    let opened = record::open(mem, hosts, shadows);
+    let opened = opening::open(mem, hosts, shadows);
     let unit = opened.unit;
     Reply {
         unit: unit,

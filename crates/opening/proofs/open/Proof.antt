@@ -3,11 +3,11 @@ use mathlib.Core.Path.{sym, _∙_}
 use native.Mathlib.Omega.{arith}
 use lib.ListN.{length}
 use borrow.Author.Tests.{eq-eqb, ne-eqb}
 use Rattle.record.specs.Open.{openOf}
 use Rattle.record.proofs.Rules.{granted-sized}
 use borrow.Author.Needs.{needs}
-use Rattle.record.proofs.open.Statement.{statement}
-use Rattle.record.proofs.open.Tie as tie
+use Rattle.opening.proofs.open.Statement.{statement}
+use Rattle.opening.proofs.open.Tie as tie
 
 returns : tie.Need-returns
 unfolding openOf

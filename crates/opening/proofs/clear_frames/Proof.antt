@@ -6,10 +6,10 @@ use lib.ListN.{length}
 use native.Mathlib.Omega.{arith}
 use Rattle.words.specs.Words.{zeroed}
 use Rattle.words.proofs.Laws.{zeroed-none, zeroed-more}
 use Rattle.record.specs.Open.{clearedOf}
 use borrow.Author.Needs.{needs}
-use Rattle.record.proofs.clear_frames.Statement.{statement}
-use Rattle.record.proofs.clear_frames.Tie as tie
+use Rattle.opening.proofs.clear_frames.Statement.{statement}
+use Rattle.opening.proofs.clear_frames.Tie as tie
 
 abbrev Inv-loop : tie.InvT-loop
 Inv-loop mem₀ frames end i₀ mem i = (i ≤ end) × (end ≡ frames * 512) × (length mem ≡ length mem₀) × (mem ≡ zeroed mem₀ 0 i)

@@ -1,10 +1,10 @@
 -- The words are tested before the areas, in the order of the rule's list; 0 says that no test failed.
 use borrow.Author.Tests.{not-true, not-false}
 use Rattle.spec.specs.Refusal.{openRefusal}
 use Rattle.record.specs.Open.{refusalOf}
 use borrow.Author.Needs.{needs}
-use Rattle.record.proofs.open_refusal.Statement.{statement}
-use Rattle.record.proofs.open_refusal.Tie as tie
+use Rattle.opening.proofs.open_refusal.Statement.{statement}
+use Rattle.opening.proofs.open_refusal.Tie as tie
 
 returns : tie.Need-returns
 unfolding refusalOf openRefusal

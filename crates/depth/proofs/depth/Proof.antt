@@ -3,14 +3,14 @@ use mathlib.Core.Path.{_≡_, sym, ap, _∙_}
 use Prim.Native.Nat.{ℕ, _<_, _^_, max}
 use native.Mathlib.Omega.{arith}
 use Rattle.spec.specs.Entry.{pageOf}
 use Rattle.marks.specs.Key.{depthOf}
 use Rattle.marks.specs.Table.{keys}
 use Rattle.marks.specs.ByLevel.{wantsOf}
 use Rattle.marks.proofs.Turn.{keys-turn, keys-end}
 use Rattle.marks.proofs.ByLevel.{wanted-turn, wanted-end}
 use borrow.Author.Needs.{needs}
-use Rattle.marks.proofs.depth.Statement.{statement}
-use Rattle.marks.proofs.depth.Tie as tie
+use Rattle.depth.proofs.depth.Statement.{statement}
+use Rattle.depth.proofs.depth.Tie as tie
 
 abbrev Inv-loop : tie.InvT-loop
 Inv-loop place set wants found₀ rest₀ found rest = (rest < 2 ^ 64) × ((p : ℕ) → wants ≡ wantsOf p → max found (depthOf p (keys place rest)) ≡ depthOf p (keys place set))

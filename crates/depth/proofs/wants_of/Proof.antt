@@ -1,8 +1,8 @@
 -- Level by level. Assumes nothing.
 use Rattle.marks.specs.ByLevel.{wantsOf}
 use borrow.Author.Needs.{needs}
-use Rattle.marks.proofs.wants_of.Statement.{statement}
-use Rattle.marks.proofs.wants_of.Tie as tie
+use Rattle.depth.proofs.wants_of.Statement.{statement}
+use Rattle.depth.proofs.wants_of.Tie as tie
 
 returns : tie.Need-returns
 unfolding wantsOf

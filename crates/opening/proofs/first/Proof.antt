@@ -1,8 +1,8 @@
 -- The shadow pool and the marks are the empty ones, by the promises of the calls that make them.
 use Rattle.record.specs.Open.{firstOf}
 use borrow.Author.Needs.{needs}
-use Rattle.record.proofs.first.Statement.{statement}
-use Rattle.record.proofs.first.Tie as tie
+use Rattle.opening.proofs.first.Statement.{statement}
+use Rattle.opening.proofs.first.Tie as tie
 
 returns : tie.Need-returns
 unfolding firstOf

@@ -1,9 +1,9 @@
 -- The pool and the memory are those of the top table handed out.
 use native.Mathlib.Omega.{arith}
 use Rattle.record.specs.Open.{grantedOf, enteredOf}
 use borrow.Author.Needs.{needs}
-use Rattle.record.proofs.open_granted.Statement.{statement}
-use Rattle.record.proofs.open_granted.Tie as tie
+use Rattle.opening.proofs.open_granted.Statement.{statement}
+use Rattle.opening.proofs.open_granted.Tie as tie
 
 enter-requires : tie.Need-enter-requires
 enter-requires c κs =

@@ -4,12 +4,12 @@ use Prim.Native.Nat.{_<_, _≤_, _^_, _-_}
 use native.Mathlib.Omega.{arith}
 use borrow.Author.Tests.{eq-eqb, ne-eqb}
 use lib.Bits.{bitAnd}
 use Rattle.marks.specs.Table.{keys}
 use Rattle.marks.specs.ByLevel.{wantedFrom}
 use Rattle.marks.proofs.Turn.{keys-turn, keys-end}
 use borrow.Author.Needs.{needs}
-use Rattle.marks.proofs.wanted_from.Statement.{statement}
-use Rattle.marks.proofs.wanted_from.Tie as tie
+use Rattle.depth.proofs.wanted_from.Statement.{statement}
+use Rattle.depth.proofs.wanted_from.Tie as tie
 
 abbrev Inv-loop : tie.InvT-loop
 Inv-loop place set wants rest₀ rest = ((rest < 2 ^ 64) × (rest ≤ set)) × (wantedFrom wants (keys place rest) ≡ wantedFrom wants (keys place set))
