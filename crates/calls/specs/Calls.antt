@@ -113,6 +113,10 @@ Sound r = LayoutFits (r .layout) × (r .pools .shadow .fresh ≤ r .layout .shad
 abbrev pub judged : Record → List ℕ → After Reply → After Reply
 judged r m next = cond (fitsOf r (length m)) next (refused r 3 m)
 
+-- why a request is refused before it is served, by the tests of the record and of its address: its number, or 0
+abbrev pub refusalBy : Bool → Bool → ℕ
+refusalBy fits ok = cond fits (cond ok 0 4) 3
+
 -- ---- open
 
 -- ok, or the refusal with that number

@@ -7,8 +7,8 @@ ghost use Rattle.spec.specs.Refusal.{addressFits, deviceFits, wordAligned};
 ghost use Rattle.words.specs.After.{yields};
 ghost use Rattle.entry.specs.Levels.{ofLevels};
 ghost use Rattle.marks.specs.Table.{number};
-ghost use Rattle.record.specs.Record.{recordBy};
-ghost use Rattle.calls.specs.Calls.{Sound, nothing, headHeld, headHost, heldIn, spaceIn, servedReply, turnReply, loadCall, storeCall, deviceCall, rootCall, unmappedOf, changedBy, mapCall, unmapCall};
+ghost use Rattle.record.specs.Record.{recordBy, fitsOf};
+ghost use Rattle.calls.specs.Calls.{refusalBy, addressOk, Sound, nothing, headHeld, headHost, heldIn, spaceIn, servedReply, turnReply, loadCall, storeCall, deviceCall, rootCall, unmappedOf, changedBy, mapCall, unmapCall};
 use entry::GuestPhysical;
 use entry::GuestVirtual;
 use entry::HostPhysical;
@@ -137,17 +137,28 @@ fn device_ok(levels: u64, address: u64) -> bool
     }
 }
 
+// Why a load or a store is refused before it is served: 3, 4, or 0.
+fn request_refusal(head: Head, place: &[u64; 64], len: usize, address: GuestVirtual) -> u64
+    ensures { λ r. ⌜ r ≡ refusalBy (fitsOf (recordBy head (now (place .entry))) len) (addressOk (recordBy head (now (place .entry))) (address .0)) ⌝ }
+{
+    if !head.fits(place, len) {
+        return 3;
+    }
+    if !address_ok(head.layout.levels, address) {
+        return 4;
+    }
+    0
+}
+
 // Loads a word: 3, 4, 11.
 pub fn load_at(head: Head, place: &[u64; 64], mem: &mut [u64], address: u64) -> Served
     ensures { λ r. ⌜ yields (servedReply (recordBy head (now (place .entry))) r) (now (mem .exit)) ≡ loadCall (recordBy head (now (place .entry))) (now (mem .entry)) address ⌝ }
 {
     let held = held_in(head);
     let at = GuestVirtual(address);
-    if !head.fits(place, mem.len()) {
-        return request::refused(held, 3);
-    }
-    if !address_ok(head.layout.levels, at) {
-        return request::refused(held, 4);
+    let refusal = request_refusal(head, place, mem.len(), at);
+    if refusal != 0 {
+        return request::refused(held, refusal);
     }
     let d = depth::depth(place, head.set, at);
     request::load(mem, space_in(head), head.root, held, at, d)
@@ -159,11 +170,9 @@ pub fn store_at(head: Head, place: &[u64; 64], mem: &mut [u64], address: u64, va
 {
     let held = held_in(head);
     let at = GuestVirtual(address);
-    if !head.fits(place, mem.len()) {
-        return request::refused(held, 3);
-    }
-    if !address_ok(head.layout.levels, at) {
-        return request::refused(held, 4);
+    let refusal = request_refusal(head, place, mem.len(), at);
+    if refusal != 0 {
+        return request::refused(held, refusal);
     }
     let d = depth::depth(place, head.set, at);
     request::store(mem, space_in(head), head.root, held, at, d, value)
