@@ -1,6 +1,6 @@
 -- A record in a part of the input: where it starts does not matter, nor what follows it.
 -- Assumes nothing.
-use mathlib.Core.Path.{_≡_, refl, sym, ap, ap₂, _∙_}
+use mathlib.Core.Path.{_≡_, refl, sym, ap, ap₂, _∙_, subst}
 use mathlib.Core.Bool.{Bool, true, false, cond}
 use mathlib.Core.List.{List, [], _∷_, _++_}
 use Prim.Native.Nat.{ℕ, zero, suc, _+_, _-_, _*_, _≤_, _<_}
@@ -77,6 +77,24 @@ job-later s at Wrong = refl
 pub job-shift : (s : List ℕ) (at : ℕ) → jobAt s at ≡ jobAt (drop at s) 0
 unfolding jobAt
 job-shift s at = ap (jobBy s) (cut-shift s at) ∙ job-later s at (cutAt (drop at s) 0)
+
+-- a body starts behind length and kind
+abbrev Starts : ℕ → Cut → Type 0
+Starts at (Body k b n) = b ≡ at + 4
+Starts at Short = Unit {0}
+Starts at Wrong = Unit {0}
+
+starts-tree : (at : ℕ) (a b c d : Bool) (x : Cut) → Starts at x → Starts at (tree a b c d x)
+starts-tree at false b c d x h = tt
+starts-tree at true true c d x h = tt
+starts-tree at true false true d x h = tt
+starts-tree at true false false true x h = tt
+starts-tree at true false false false x h = h
+
+pub body-starts : (s : List ℕ) (at k b n : ℕ) → cutAt s at ≡ Body k b n → b ≡ at + 4
+body-starts s at k b n e =
+    let l = number 2 s at in
+    subst (Starts at) e (starts-tree at (leb (at + 2) (length s)) (ltb l 2) (ltb 19 l) (ltb (length s - (at + 2)) l) (Body (number 2 s (at + 2)) (at + 4) (l - 2)) refl)
 
 -- ---- what follows it
 

@@ -100,8 +100,8 @@ readBy f b l c Short = drop (length (unread f b)) (take l c)
 -- a run of so many turns: i are the bytes that it has read, o those that it has handed over to be written
 pub data Runs (f : Flow) (m b : List ℕ) : ℕ → List ℕ → List ℕ → Flow → List ℕ → List ℕ → Type 0 where
   start : Runs f m b 0 [] [] f m b
-  then : {k : ℕ} {i o : List ℕ} {g : Flow} {n c : List ℕ} (h : Flow) (p d : List ℕ) → Runs f m b k i o g n c → g .more ≡ true → Turn g n c h p d
-      → Runs f m b (k + 1) (i ++ readBy g c (h .len) d (cutOf g c)) (o ++ turnOf g n c (h .len) (h .taken) .said) h p d
+  then : {k : ℕ} {i o : List ℕ} {x : Flow} {y z : List ℕ} (g : Flow) (n c : List ℕ) → Runs f m b k i o x y z → x .more ≡ true → Turn x y z g n c
+      → Runs f m b (k + 1) (i ++ readBy x z (g .len) c (cutOf x z)) (o ++ turnOf x y z (g .len) (g .taken) .said) g n c
 
 -- how many turns the loop has
 abbrev pub most : ℕ
