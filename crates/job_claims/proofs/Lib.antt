@@ -1,3 +1,4 @@
 pub mod Lines
 pub mod Decodes
 pub mod Bytes
+pub mod Example
