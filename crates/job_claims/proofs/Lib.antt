@@ -1,1 +1,4 @@
 pub mod Lines
+pub mod Decodes
+pub mod Bytes
+pub mod Example

@@ -1,1 +1,1 @@
-// The claim about a whole job: its lines are the specification's; no code.
+// The claim about a whole job: the bytes that it writes are the specification's; no code.

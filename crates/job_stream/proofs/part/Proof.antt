@@ -1,5 +1,7 @@
+-- A part of as many bytes as there are is the whole. Assumes nothing.
 use native.Mathlib.Omega.{arith}
-use mathlib.Core.Path.{_≡_}
+use mathlib.Core.Path.{_≡_, sym}
+use lib.Seq.{take-all}
 use lib.ListN.{length, take, length-take}
 use borrow.Author.Needs.{needs}
 use Rattle.job_stream.proofs.part.Statement.{statement}
@@ -11,5 +13,8 @@ slice-aggregate-result c =
     let e : a .len ≡ length (take (a .len) (a .buf .now)) = omega (arith, length-take (a .len) (a .buf .now)) in
     e
 
+returns-2 : tie.Need-returns-2
+returns-2 c = let a = c .before .args in sym (take-all (a .len) (a .buf .now) (omega arith))
+
 pub part-spec : {M : Type 1} → statement M
-part-spec = tie.close (tie.spec slice-aggregate-result (λ c. search needs) (λ c. search needs))
+part-spec = tie.close (tie.spec slice-aggregate-result (λ c. search needs) returns-2)
