@@ -1,0 +1,2 @@
+pub mod Ours
+pub mod Story
