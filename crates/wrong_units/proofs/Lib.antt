@@ -1,2 +1,4 @@
 pub mod Ours
-pub mod Story
+pub mod Mapped
+pub mod Filled
+pub mod Refute

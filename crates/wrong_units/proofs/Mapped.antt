@@ -1,0 +1,142 @@
+-- A small guest on which the wrong units are run, and the states that our unit comes to on it, computed once.
+-- Assumes nothing.
+use mathlib.Core.Path.{_≡_, refl, sym, ap, _∙_}
+use Prim.Native.Nat.{ℕ, zero, suc, _+_, _*_, _^_, _<_, _≤_}
+use native.Mathlib.Omega.{arith}
+use native.Mathlib.Nat.{not-suc-le-zero, le-of-suc-le-suc}
+use mathlib.Core.Bool.{true}
+use mathlib.Core.List.{List, [], _∷_, _++_}
+use lib.Count.{ones}
+use lib.ListN.{length, set, replicate}
+use Rattle.spec.specs.declared.Call.{Call}
+use Rattle.spec.specs.declared.Call.the-variants.{Map as map}
+use Rattle.spec.specs.declared.Answer.the-variants as answer
+use Rattle.spec.specs.Entry.{bitSet, present, writable, frameOf, malformed, index, indexes, pageOf, wordOf, entryLimit}
+use Rattle.spec.specs.Refusal.{openRefusal, recordFits}
+use Rattle.words.specs.After.{After, yields}
+use Rattle.words.specs.Words.{zeroed}
+use Rattle.pool.specs.declared.Pool.{Pool}
+use Rattle.pool.specs.declared.Went.{Went}
+use Rattle.pool.specs.Header.{entryIn, highOf, putOf, guestOf, levelOf, parentOf, slotOf, headOf, insideOf, bareOf}
+use Rattle.pool.specs.Pool.{link, followOf, noneOf, withTop, freshOf, freedOf, takeOf}
+use Rattle.area.specs.Tree.{lookOf, roomOf, tableOf, topOf, enterOf, attachOf, descendOf, downOf, placeOf, insertOf}
+use Rattle.area_laws.specs.Host.{hostEntry}
+use Rattle.layout.specs.Layout.{page, leafOf}
+use Rattle.host.specs.Walk.{hostWalkOf}
+use Rattle.host.specs.Map.{hostArea, mapOf}
+use Rattle.marks.specs.Table as marks
+use Rattle.record.specs.declared.Record.{Record}
+use Rattle.record.specs.Record.{configBy, layoutOf, guestFrame, isTable, poolFits, poolsFit, fitsOf, headRoot, headTables, withMarks}
+use Rattle.record.specs.Open.{refusalOf, clearedOf, enteredOf, firstOf, grantedOf}
+use Rattle.calls.specs.declared.Reply.{Reply}
+use Rattle.spec.specs.Walk.{trace}
+use Rattle.spec.specs.Plain.{hosted, entry, next, levels, walk}
+use Rattle.bits.specs.Bit.{places}
+use Rattle.marks.specs.Key.{keyOf, levelAt, depthOf}
+use Rattle.marks.specs.Reading.{marksOf, markOf}
+use Rattle.walk.specs.Memory.{memoryWorld, walkedOf, noted, framesOf, trailFrom}
+use Rattle.prune.specs.Remove.{detachOf, releaseTop, releaseOf, lastIndex}
+use Rattle.shadow.specs.Held.{heldOf, entryFor}
+use Rattle.shadow.specs.Fill.{fillOf}
+use Rattle.shadow.specs.Watch.{watchesOf, watchedFrom, watchedOf}
+use Rattle.drops.specs.Cut.{isLeaf, kindOf, aboveOf, upFrom}
+use Rattle.drops.specs.Drop.{goesOf, clearOne, clearFrom, settleOf, sweepOf, visitOf, scanFrom, scanOf, tableNamed, holderFrom, dropPrefixOf}
+use Rattle.translate.specs.Translate.{directOf, servedOf, servesOf, foundOf, filledOf, missedOf, plainOf, translateOf}
+use Rattle.request.specs.Access as access
+use Rattle.calls.specs.Calls.{ended, openCall, headHeld, headHost, translatedOf, loadCall, storeCall, deviceCall, rootCall, unmappedOf, mapCall, markedOf, setMarkCall, clearMarkCall, callOf}
+use Rattle.claims.proofs.Opens.{granted-call}
+
+-- ---- the guest
+
+-- words written into a memory, each with its place
+abbrev pub placed : List (ℕ × ℕ) → List ℕ → List ℕ
+placed [] m = m
+placed (x ∷ xs) m = set (placed xs m) (x .0) (x .1)
+
+-- its words, in host frames 8 to 11: the top table, two tables of level 3, and a frame that is table and page at once
+abbrev pub guest : List ℕ
+guest = placed ((0, 0x1003) ∷ (1, 0x3003) ∷ (512, 0x3003) ∷ (1024, 0x2003) ∷ (1536, 0x3003) ∷ (1537, 0x3) ∷ []) (replicate 2048 0)
+
+abbrev pub memory : List ℕ
+memory = replicate 4096 0 ++ guest
+
+-- ---- the opening: to clear what is clear changes nothing
+
+set-zero : (k i : ℕ) (g : List ℕ) → i < k → set (replicate k 0 ++ g) i 0 ≡ replicate k 0 ++ g
+set-zero zero i g l = absurd (not-suc-le-zero l)
+set-zero (suc k) zero g l = refl
+set-zero (suc k) (suc i) g l = ap (λ xs. 0 ∷ xs) (set-zero k i g (le-of-suc-le-suc l))
+
+zeroed-zeros : (k p n : ℕ) (g : List ℕ) → p + n ≤ k → zeroed (replicate k 0 ++ g) p n ≡ replicate k 0 ++ g
+unfolding zeroed
+zeroed-zeros k p zero g l = refl
+zeroed-zeros k p (suc n) g l = ap (λ xs. set xs (p + n) 0) (zeroed-zeros k p n g (omega arith)) ∙ set-zero k (p + n) g (omega arith)
+
+-- a record by its host tables, its shadow tables and its marks
+abbrev pub recordAt : Pool → Pool → List ℕ → Record
+recordAt host shadow keys = record {
+  layout = layoutOf 6144 4 4;
+  pools = record { host = host; shadow = shadow };
+  guest = record { root = guestFrame 0; held = page 0; marks = marks.tableOf keys };
+}
+
+abbrev pub none : Pool
+none = record { fresh = 0; free = 0; used = 0; top = 0 }
+
+-- the header's word of a table's level
+abbrev pub levelWord : ℕ → ℕ
+levelWord n = n * 16 * entryLimit
+
+abbrev pub openedWords : List ℕ
+openedWords = placed ((1, levelWord 4) ∷ []) memory
+
+abbrev pub openedRecord : Record
+openedRecord = recordAt (record { fresh = 1; free = 0; used = 1; top = 1 }) none []
+
+abbrev enteredOn : List ℕ → After Went
+enteredOn m = enterOf (hostArea (configBy 6144 4 4)) noneOf m 0
+
+abbrev grantedBy : After Went → After Reply
+grantedBy t = ended (firstOf (layoutOf 6144 4 4) (t .result .pool)) answer.Ok (t .memory)
+
+pub grants : refusalOf (length memory) 4 4 ≡ 0
+unfolding refusalOf openRefusal
+grants = refl
+
+clears : clearedOf memory 8 ≡ memory
+unfolding clearedOf
+clears = zeroed-zeros 4096 0 4096 guest (omega arith)
+
+first-is : ended (grantedOf memory 4 4 .result) answer.Ok (grantedOf memory 4 4 .memory) ≡ grantedBy (enteredOn (clearedOf memory 8))
+unfolding grantedOf enteredOf
+first-is = refl
+
+enters : grantedBy (enteredOn memory) ≡ ended openedRecord answer.Ok openedWords
+unfolding present bitSet zeroed headOf insideOf link followOf noneOf withTop freshOf takeOf tableOf topOf enterOf firstOf
+enters = refl
+
+pub opens : openCall memory 4 4 ≡ ended openedRecord answer.Ok openedWords
+opens = granted-call memory 4 4 grants ∙ first-is ∙ ap (λ m. grantedBy (enteredOn m)) clears ∙ enters
+
+-- ---- what computes a call of the unit: naming this on an `unfolding` line opens all the definitions that a call rests on
+unfoldable pub calling : ℕ
+unfolding ones levelAt bitSet present writable frameOf malformed index indexes pageOf wordOf trace hosted entry next levels walk openRefusal recordFits zeroed entryIn highOf putOf guestOf levelOf parentOf slotOf headOf insideOf bareOf link followOf noneOf withTop freshOf freedOf takeOf lookOf roomOf tableOf topOf enterOf attachOf descendOf downOf placeOf insertOf hostEntry leafOf hostWalkOf mapOf memoryWorld walkedOf framesOf trailFrom noted keyOf depthOf marks.keys marks.inserted marks.tableOf marks.withKey marks.withoutKey marks.setRefusal marks.clearRefusal marks.placeIn marks.placeOf places marksOf markOf isTable poolFits poolsFit fitsOf headRoot headTables withMarks heldOf entryFor fillOf watchesOf watchedFrom watchedOf kindOf isLeaf aboveOf upFrom goesOf clearOne clearFrom settleOf sweepOf visitOf scanFrom scanOf tableNamed holderFrom dropPrefixOf detachOf releaseTop releaseOf lastIndex directOf servedOf servesOf foundOf filledOf missedOf plainOf translateOf access.putOf access.loadOf access.storeOf access.deviceOf headHeld headHost translatedOf loadCall storeCall deviceCall rootCall unmappedOf mapCall markedOf setMarkCall clearMarkCall callOf
+calling = 0
+
+-- ---- the frames are mapped: host tables of all four levels, the lowest with an entry for each frame
+
+abbrev pub tables : List (ℕ × ℕ) → List ℕ
+tables xs =
+    placed xs
+    (placed ((0, 0x1001) ∷ (1, levelWord 4) ∷ (512, 0x2001) ∷ (513, levelWord 3) ∷ (1024, 0x3001) ∷ (1025, levelWord 2) ∷ (1026, entryLimit) ∷ (1536, 0x8003) ∷ (1537, levelWord 1) ∷ (1538, 2 * entryLimit) ∷ [])
+    memory)
+
+abbrev pub fourTables : Pool
+fourTables = record { fresh = 4; free = 0; used = 4; top = 1 }
+
+abbrev pub firstRecord : Record
+firstRecord = recordAt fourTables none []
+
+pub first-map : callOf (map 0 8 true) openedRecord openedWords ≡ ended firstRecord answer.Ok (tables [])
+unfolding calling
+first-map = refl
