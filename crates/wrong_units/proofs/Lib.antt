@@ -2,3 +2,4 @@ pub mod Ours
 pub mod Mapped
 pub mod Filled
 pub mod Refute
+pub mod Stale

@@ -31,6 +31,12 @@ use Rattle.record.specs.Open.{refusalOf, clearedOf, enteredOf, firstOf, granted
 use Rattle.calls.specs.declared.Reply.{Reply}
 use Rattle.spec.specs.Walk.{trace}
 use Rattle.spec.specs.Plain.{hosted, entry, next, levels, walk}
+use Rattle.spec.specs.Machine.{hostCost, world}
+use Rattle.spec.specs.Call as spec
+use Rattle.spec.specs.Call.{plain, deviceWalk, machineStep}
+use Rattle.spec.specs.Count.{request, storing, bookStep}
+use Rattle.spec.specs.Refusal.{tests, refusal}
+use Rattle.spec.specs.Run.{step, run, after}
 use Rattle.bits.specs.Bit.{places}
 use Rattle.marks.specs.Key.{keyOf, levelAt, depthOf}
 use Rattle.marks.specs.Reading.{marksOf, markOf}
@@ -122,6 +128,11 @@ opens = granted-call memory 4 4 grants ∙ first-is ∙ ap (λ m. grantedBy (ent
 unfoldable pub calling : ℕ
 unfolding ones levelAt bitSet present writable frameOf malformed index indexes pageOf wordOf trace hosted entry next levels walk openRefusal recordFits zeroed entryIn highOf putOf guestOf levelOf parentOf slotOf headOf insideOf bareOf link followOf noneOf withTop freshOf freedOf takeOf lookOf roomOf tableOf topOf enterOf attachOf descendOf downOf placeOf insertOf hostEntry leafOf hostWalkOf mapOf memoryWorld walkedOf framesOf trailFrom noted keyOf depthOf marks.keys marks.inserted marks.tableOf marks.withKey marks.withoutKey marks.setRefusal marks.clearRefusal marks.placeIn marks.placeOf places marksOf markOf isTable poolFits poolsFit fitsOf headRoot headTables withMarks heldOf entryFor fillOf watchesOf watchedFrom watchedOf kindOf isLeaf aboveOf upFrom goesOf clearOne clearFrom settleOf sweepOf visitOf scanFrom scanOf tableNamed holderFrom dropPrefixOf detachOf releaseTop releaseOf lastIndex directOf servedOf servesOf foundOf filledOf missedOf plainOf translateOf access.putOf access.loadOf access.storeOf access.deviceOf headHeld headHost translatedOf loadCall storeCall deviceCall rootCall unmappedOf mapCall markedOf setMarkCall clearMarkCall callOf
 calling = 0
+
+-- the same for a step of the specification
+unfoldable pub specifying : ℕ
+unfolding bitSet present writable frameOf malformed index indexes pageOf wordOf trace hosted entry next levels walk hostCost world plain deviceWalk spec.access machineStep request storing bookStep tests refusal step run after
+specifying = 0
 
 -- ---- the frames are mapped: host tables of all four levels, the lowest with an entry for each frame
 

@@ -6,7 +6,7 @@ use mathlib.Core.Bool.{Bool, true, not, _&&_}
 use mathlib.Core.List.{List, [], _∷_, _++_}
 use lib.Dec.{T, eqb, eqb-refl}
 use lib.ListN.{length}
-use Rattle.spec.specs.Answer.{Line, ok, line}
+use Rattle.spec.specs.Answer.{Line, ok}
 use Rattle.spec.specs.declared.Call.{Call}
 use Rattle.spec.specs.declared.Call.the-variants.{Map as map, SetMark as setMark, Load as load}
 use Rattle.spec.specs.Guest.{code, equal}
@@ -59,13 +59,6 @@ differ k l t p = not-both (equal (code k) (code k)) (equal-refl (code k)) (subst
 abbrev pub Comes : Calls → List Call → Record × List ℕ → Type 0
 Comes f xs s = afterBy (unitBy f) xs ((unitBy f) .opens memory 4 4) ≡ s
 
--- there it says one line and the specification another
-pub refuted : (f : Calls) (xs : List Call) (x : Call) (s : Record × List ℕ) (wrong right : Line) → Comes f xs s → line (f x (s .0) (s .1) .result .answer) ≡ wrong
-    → (step x (specified memory 4 4 xs)) .0 ≡ right → T (not (equal (code wrong) (code right))) → Demand-3 (unitBy f) → ⊥
-refuted f xs x s wrong right c w r t d =
-    differ wrong right t
-    (sym (ap (λ (e : Record × List ℕ). line (f x (e .0) (e .1) .result .answer)) c ∙ w) ∙ demand-last (unitBy f) d memory 4 4 xs x grants ∙ r)
-
 after-append : (u : MemoryUnit) (xs ys : List Call) (s : u .Inner) → afterBy u (xs ++ ys) s ≡ afterBy u ys (afterBy u xs s)
 unfolding afterBy
 after-append u [] ys s = refl
@@ -74,6 +67,15 @@ after-append u (x ∷ xs) ys s = after-append u xs ys ((u .call x s) .1)
 -- on from where it came
 pub goes-on : (f : Calls) (xs ys : List Call) (s t : Record × List ℕ) → Comes f xs s → afterBy (unitBy f) ys s ≡ t → Comes f (xs ++ ys) t
 goes-on f xs ys s t c e = after-append (unitBy f) xs ys ((unitBy f) .opens memory 4 4) ∙ ap (afterBy (unitBy f) ys) c ∙ e
+
+-- a unit that after the calls xs and then ys says one line to the call x, and the specification another; s is where it is after xs
+pub refuted : (f : Calls) (xs ys : List Call) (x : Call) (s : Record × List ℕ) (wrong right : Line) → Comes f xs s
+    → ((unitBy f) .call x (afterBy (unitBy f) ys s)) .0 ≡ wrong → (step x (specified memory 4 4 (xs ++ ys))) .0 ≡ right
+    → T (not (equal (code wrong) (code right))) → Demand-3 (unitBy f) → ⊥
+refuted f xs ys x s wrong right c w r t d =
+    differ wrong right t
+    (sym (ap (λ e. ((unitBy f) .call x e) .0) (goes-on f xs ys s (afterBy (unitBy f) ys s) c refl) ∙ w)
+    ∙ demand-last (unitBy f) d memory 4 4 (xs ++ ys) x grants ∙ r)
 
 -- the four frames are mapped
 abbrev pub begin : List Call
