@@ -3,3 +3,4 @@ pub mod Mapped
 pub mod Filled
 pub mod Refute
 pub mod Stale
+pub mod Plainly

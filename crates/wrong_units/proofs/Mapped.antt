@@ -11,7 +11,7 @@ use lib.ListN.{length, set, replicate}
 use Rattle.spec.specs.declared.Call.{Call}
 use Rattle.spec.specs.declared.Call.the-variants.{Map as map}
 use Rattle.spec.specs.declared.Answer.the-variants as answer
-use Rattle.spec.specs.Entry.{bitSet, present, writable, frameOf, malformed, index, indexes, pageOf, wordOf, entryLimit}
+use Rattle.spec.specs.Entry.{bitSet, present, writable, switch, frameOf, malformed, index, indexes, pageOf, wordOf, entryLimit}
 use Rattle.spec.specs.Refusal.{openRefusal, recordFits}
 use Rattle.words.specs.After.{After, yields}
 use Rattle.words.specs.Words.{zeroed}
@@ -126,7 +126,7 @@ opens = granted-call memory 4 4 grants ∙ first-is ∙ ap (λ m. grantedBy (ent
 
 -- ---- what computes a call of the unit: naming this on an `unfolding` line opens all the definitions that a call rests on
 unfoldable pub calling : ℕ
-unfolding ones levelAt bitSet present writable frameOf malformed index indexes pageOf wordOf trace hosted entry next levels walk openRefusal recordFits zeroed entryIn highOf putOf guestOf levelOf parentOf slotOf headOf insideOf bareOf link followOf noneOf withTop freshOf freedOf takeOf lookOf roomOf tableOf topOf enterOf attachOf descendOf downOf placeOf insertOf hostEntry leafOf hostWalkOf mapOf memoryWorld walkedOf framesOf trailFrom noted keyOf depthOf marks.keys marks.inserted marks.tableOf marks.withKey marks.withoutKey marks.setRefusal marks.clearRefusal marks.placeIn marks.placeOf places marksOf markOf isTable poolFits poolsFit fitsOf headRoot headTables withMarks heldOf entryFor fillOf watchesOf watchedFrom watchedOf kindOf isLeaf aboveOf upFrom goesOf clearOne clearFrom settleOf sweepOf visitOf scanFrom scanOf tableNamed holderFrom dropPrefixOf detachOf releaseTop releaseOf lastIndex directOf servedOf servesOf foundOf filledOf missedOf plainOf translateOf access.putOf access.loadOf access.storeOf access.deviceOf headHeld headHost translatedOf loadCall storeCall deviceCall rootCall unmappedOf mapCall markedOf setMarkCall clearMarkCall callOf
+unfolding ones levelAt bitSet present writable switch frameOf malformed index indexes pageOf wordOf trace hosted entry next levels walk openRefusal recordFits zeroed entryIn highOf putOf guestOf levelOf parentOf slotOf headOf insideOf bareOf link followOf noneOf withTop freshOf freedOf takeOf lookOf roomOf tableOf topOf enterOf attachOf descendOf downOf placeOf insertOf hostEntry leafOf hostWalkOf mapOf memoryWorld walkedOf framesOf trailFrom noted keyOf depthOf marks.keys marks.inserted marks.tableOf marks.withKey marks.withoutKey marks.setRefusal marks.clearRefusal marks.placeIn marks.placeOf places marksOf markOf isTable poolFits poolsFit fitsOf headRoot headTables withMarks heldOf entryFor fillOf watchesOf watchedFrom watchedOf kindOf isLeaf aboveOf upFrom goesOf clearOne clearFrom settleOf sweepOf visitOf scanFrom scanOf tableNamed holderFrom dropPrefixOf detachOf releaseTop releaseOf lastIndex directOf servedOf servesOf foundOf filledOf missedOf plainOf translateOf access.putOf access.loadOf access.storeOf access.deviceOf headHeld headHost translatedOf loadCall storeCall deviceCall rootCall unmappedOf mapCall markedOf setMarkCall clearMarkCall callOf
 calling = 0
 
 -- the same for a step of the specification

@@ -58,3 +58,117 @@ remap-right = refl
 
 pub stale-mapping-refuted : Demand-3 (unitBy staleMapping) → ⊥
 stale-mapping-refuted = refuted staleMapping (begin ++ hold) remap (load 0) (heldRecord, heldWords) (value 0x3003 16 0) (value 0x2003 16 1) stale-mapping-comes stale-mapping-says remap-right tt
+
+-- ---- version 3
+
+-- The mark goes, the address is shadowed down to its page from now on, and where the top shadow table should lead to a shadow table
+-- the old switch entry leads to the guest's: the load takes that for damage.
+abbrev unmark : List Call
+unmark = clearMark 0 3 ∷ []
+
+stale-switch-marks : afterBy (unitBy staleSwitch) (setMark 0 3 ∷ setMark (2 ^ 39) 3 ∷ []) (firstRecord, mappedWords) ≡ (marked, mappedWords)
+unfolding staleSwitch markKeeping afterBy calling
+stale-switch-marks = refl
+
+stale-switch-comes : Comes staleSwitch (begin ++ hold) (heldRecord, heldWords)
+unfolding staleSwitch afterBy
+stale-switch-comes = holds-at staleSwitch stale-switch-marks refl (begins-at staleSwitch refl other-maps)
+
+stale-switch-says : ((unitBy staleSwitch) .call (load 0) (afterBy (unitBy staleSwitch) unmark (heldRecord, heldWords))) .0 ≡ no 11
+unfolding staleSwitch markKeeping afterBy calling
+stale-switch-says = refl
+
+unmark-right : (step (load 0) (specified memory 4 4 ((begin ++ hold) ++ unmark))) .0 ≡ value 0x3003 4 1
+unfolding specifying
+unmark-right = refl
+
+pub stale-switch-refuted : Demand-3 (unitBy staleSwitch) → ⊥
+stale-switch-refuted = refuted staleSwitch (begin ++ hold) unmark (load 0) (heldRecord, heldWords) (no 11) (value 0x3003 4 1) stale-switch-comes stale-switch-says unmark-right tt
+
+-- ---- device stores forgotten
+
+-- A device writes another table's number into entry 0 of the top table, which the held path read. The exit is counted, the path stays,
+-- and the load goes on through the table that was there before.
+abbrev write : List Call
+write = device 0 0x2003 ∷ []
+
+device-forgotten-comes : Comes deviceForgotten (begin ++ hold) (heldRecord, heldWords)
+unfolding deviceForgotten afterBy
+device-forgotten-comes = holds-at deviceForgotten marks-set refl (begins-at deviceForgotten refl other-maps)
+
+device-forgotten-says : ((unitBy deviceForgotten) .call (load 0) (afterBy (unitBy deviceForgotten) write (heldRecord, heldWords))) .0 ≡ value 0x3003 16 0
+unfolding deviceForgotten deviceWith putKeeping afterBy calling
+device-forgotten-says = refl
+
+write-right : (step (load 0) (specified memory 4 4 ((begin ++ hold) ++ write))) .0 ≡ value 0x2003 16 1
+unfolding specifying
+write-right = refl
+
+pub device-forgotten-refuted : Demand-3 (unitBy deviceForgotten) → ⊥
+device-forgotten-refuted = refuted deviceForgotten (begin ++ hold) write (load 0) (heldRecord, heldWords) (value 0x3003 16 0) (value 0x2003 16 1) device-forgotten-comes device-forgotten-says write-right tt
+
+-- ---- drops by the address of the store
+
+-- The guest reaches its own top table through another address, of the second mark, and writes the same entry. The path of that address
+-- goes; the path that read the word stays, and leads to the old table.
+abbrev through : List Call
+through = store (2 ^ 39 + 0x1000) 0x2003 ∷ []
+
+through-right : (step (load 0) (specified memory 4 4 ((begin ++ hold) ++ through))) .0 ≡ value 0x2003 16 1
+unfolding specifying
+through-right = refl
+
+by-own-path-comes : Comes byOwnPath (begin ++ hold) (heldRecord, heldWords)
+unfolding byOwnPath afterBy
+by-own-path-comes = holds-at byOwnPath marks-set refl (begins-at byOwnPath refl other-maps)
+
+by-own-path-says : ((unitBy byOwnPath) .call (load 0) (afterBy (unitBy byOwnPath) through (heldRecord, heldWords))) .0 ≡ value 0x3003 16 0
+unfolding byOwnPath storeWith putKeeping afterBy calling
+by-own-path-says = refl
+
+pub by-own-path-refuted : Demand-3 (unitBy byOwnPath) → ⊥
+by-own-path-refuted = refuted byOwnPath (begin ++ hold) through (load 0) (heldRecord, heldWords) (value 0x3003 16 0) (value 0x2003 16 1) by-own-path-comes by-own-path-says through-right tt
+
+-- ---- nothing is dropped
+
+-- The same store, and no path goes.
+never-drops-others : afterBy (unitBy neverDrops) others (firstRecord, tables []) ≡ (firstRecord, mappedWords)
+unfolding neverDrops mapKeeping afterBy calling
+never-drops-others = refl
+
+never-drops-marks : afterBy (unitBy neverDrops) (setMark 0 3 ∷ setMark (2 ^ 39) 3 ∷ []) (firstRecord, mappedWords) ≡ (marked, mappedWords)
+unfolding neverDrops markKeeping afterBy calling
+never-drops-marks = refl
+
+never-drops-comes : Comes neverDrops (begin ++ hold) (heldRecord, heldWords)
+unfolding neverDrops afterBy
+never-drops-comes = holds-at neverDrops never-drops-marks refl (begins-at neverDrops first-same never-drops-others)
+
+never-drops-says : ((unitBy neverDrops) .call (load 0) (afterBy (unitBy neverDrops) through (heldRecord, heldWords))) .0 ≡ value 0x3003 16 0
+unfolding neverDrops storeWith putKeeping afterBy calling
+never-drops-says = refl
+
+pub never-drops-refuted : Demand-3 (unitBy neverDrops) → ⊥
+never-drops-refuted = refuted neverDrops (begin ++ hold) through (load 0) (heldRecord, heldWords) (value 0x3003 16 0) (value 0x2003 16 1) never-drops-comes never-drops-says through-right tt
+
+-- ---- all is forgotten at a store
+
+-- With a mark of level 4 the path is the root's frame, held in the record. A store into a word that no path read leaves it held, so that
+-- the next load has no exit; this unit fills again.
+abbrev fill-store : List Call
+fill-store = setMark 0 4 ∷ load 0 ∷ store 0x10 7 ∷ []
+
+forgets-comes : Comes forgetsAtStore begin (firstRecord, mappedWords)
+unfolding forgetsAtStore afterBy
+forgets-comes = begins-at forgetsAtStore refl other-maps
+
+forgets-says : ((unitBy forgetsAtStore) .call (load 0) (afterBy (unitBy forgetsAtStore) fill-store (firstRecord, mappedWords))) .0 ≡ value 0x3003 20 1
+unfolding forgetsAtStore afterBy calling
+forgets-says = refl
+
+fill-store-right : (step (load 0) (specified memory 4 4 (begin ++ fill-store))) .0 ≡ value 0x3003 20 0
+unfolding specifying
+fill-store-right = refl
+
+pub forgets-at-store-refuted : Demand-3 (unitBy forgetsAtStore) → ⊥
+forgets-at-store-refuted = refuted forgetsAtStore begin fill-store (load 0) (firstRecord, mappedWords) (value 0x3003 20 1) (value 0x3003 20 0) forgets-comes forgets-says fill-store-right tt

@@ -100,12 +100,19 @@ faultsAll (unmap g) r m = callOf (unmap g) r m
 faultsAll (setMark a n) r m = callOf (setMark a n) r m
 faultsAll (clearMark a n) r m = callOf (clearMark a n) r m
 
--- every call is answered as by ours, but the guest words stay as they were
+-- a store is answered as by ours, but the guest words stay as they were
+abbrev pub unwritten : Record → List ℕ → After Reply → After Reply
+unwritten r m e = let words : ℕ = 512 * guestBase (configOf r) in ended (e .result .unit) (e .result .answer) (take words (e .memory) ++ drop words m)
+
 unfoldable pub storesNothing : Calls
-storesNothing x r m =
-    let e : After Reply = callOf x r m in
-    let words : ℕ = 512 * guestBase (configOf r) in
-    ended (e .result .unit) (e .result .answer) (take words (e .memory) ++ drop words m)
+storesNothing (store a v) r m = unwritten r m (callOf (store a v) r m)
+storesNothing (device a v) r m = unwritten r m (callOf (device a v) r m)
+storesNothing (root g) r m = callOf (root g) r m
+storesNothing (map g f w) r m = callOf (map g f w) r m
+storesNothing (unmap g) r m = callOf (unmap g) r m
+storesNothing (setMark a n) r m = callOf (setMark a n) r m
+storesNothing (clearMark a n) r m = callOf (clearMark a n) r m
+storesNothing (load a) r m = callOf (load a) r m
 
 -- ---- refusals that come too early
 
@@ -120,9 +127,9 @@ tablesFull (load a) r m = callOf (load a) r m
 tablesFull (store a v) r m = callOf (store a v) r m
 tablesFull (device a v) r m = callOf (device a v) r m
 
--- 7 with one place free
+-- 7 once four marks are set
 unfoldable pub marksFull : Calls
-marksFull (setMark a n) r m = elim (ltb (ones (r .guest .marks .set)) 63) [ true ↦ callOf (setMark a n) r m | false ↦ refused r 7 m ]
+marksFull (setMark a n) r m = elim (ltb (ones (r .guest .marks .set)) 4) [ true ↦ callOf (setMark a n) r m | false ↦ refused r 7 m ]
 marksFull (root g) r m = callOf (root g) r m
 marksFull (map g f w) r m = callOf (map g f w) r m
 marksFull (unmap g) r m = callOf (unmap g) r m
