@@ -2,5 +2,6 @@ pub mod Ours
 pub mod Mapped
 pub mod Filled
 pub mod Refute
-pub mod Stale
 pub mod Plainly
+pub mod Stale
+pub mod InFull

@@ -50,7 +50,7 @@ equal-refl : (xs : List ℕ) → T (equal xs xs)
 equal-refl [] = tt
 equal-refl (x ∷ xs) = both (eqb x x) (equal xs xs) (eqb-refl x) (equal-refl xs)
 
-differ : (k l : Line) → T (not (equal (code k) (code l))) → k ≡ l → ⊥
+pub differ : (k l : Line) → T (not (equal (code k) (code l))) → k ≡ l → ⊥
 differ k l t p = not-both (equal (code k) (code k)) (equal-refl (code k)) (subst (λ x. T (not (equal (code k) (code x)))) (sym p) t)
 
 -- ---- on the small guest
