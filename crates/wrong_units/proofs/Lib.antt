@@ -1,4 +1,5 @@
 pub mod Ours
+pub mod Clear
 pub mod Mapped
 pub mod Filled
 pub mod Refute

@@ -1,7 +1,7 @@
 -- A small guest on which the wrong units are run, and the states that our unit comes to on it, computed once.
 -- Assumes nothing.
 use mathlib.Core.Path.{_≡_, refl, sym, ap, _∙_}
-use Prim.Native.Nat.{ℕ, zero, suc, _+_, _*_, _^_, _<_, _≤_}
+use Prim.Native.Nat.{ℕ, zero, suc, _+_, _-_, _*_}
 use native.Mathlib.Omega.{arith}
 use native.Mathlib.Nat.{not-suc-le-zero, le-of-suc-le-suc}
 use mathlib.Core.Bool.{true}
@@ -16,9 +16,11 @@ use Rattle.spec.specs.Refusal.{openRefusal, recordFits}
 use Rattle.words.specs.After.{After, yields}
 use Rattle.words.specs.Words.{zeroed}
 use Rattle.pool.specs.declared.Pool.{Pool}
+use Rattle.pool.specs.declared.Area.{Area}
+use Rattle.pool.specs.declared.Way.the-variants.{To, Not}
 use Rattle.pool.specs.declared.Went.{Went}
 use Rattle.pool.specs.Header.{entryIn, highOf, putOf, guestOf, levelOf, parentOf, slotOf, headOf, insideOf, bareOf}
-use Rattle.pool.specs.Pool.{link, followOf, noneOf, withTop, freshOf, freedOf, takeOf}
+use Rattle.pool.specs.Pool.{link, followOf, end, noneOf, withTop, freshOf, freedOf, takeOf}
 use Rattle.area.specs.Tree.{lookOf, roomOf, tableOf, topOf, enterOf, attachOf, descendOf, downOf, placeOf, insertOf}
 use Rattle.area_laws.specs.Host.{hostEntry}
 use Rattle.layout.specs.Layout.{page, leafOf}
@@ -51,6 +53,7 @@ use Rattle.translate.specs.Translate.{directOf, servedOf, servesOf, foundOf, fi
 use Rattle.request.specs.Access as access
 use Rattle.calls.specs.Calls.{ended, openCall, headHeld, headHost, translatedOf, loadCall, storeCall, deviceCall, rootCall, unmappedOf, mapCall, markedOf, setMarkCall, clearMarkCall, callOf}
 use Rattle.claims.proofs.Opens.{granted-call}
+use Rattle.wrong_units.proofs.Clear.{Ready, zeroed-clear, enter-clear, down-clear}
 
 -- ---- the guest
 
@@ -67,16 +70,6 @@ abbrev pub memory : List ℕ
 memory = replicate 4096 0 ++ guest
 
 -- ---- the opening: to clear what is clear changes nothing
-
-set-zero : (k i : ℕ) (g : List ℕ) → i < k → set (replicate k 0 ++ g) i 0 ≡ replicate k 0 ++ g
-set-zero zero i g l = absurd (not-suc-le-zero l)
-set-zero (suc k) zero g l = refl
-set-zero (suc k) (suc i) g l = ap (λ xs. 0 ∷ xs) (set-zero k i g (le-of-suc-le-suc l))
-
-zeroed-zeros : (k p n : ℕ) (g : List ℕ) → p + n ≤ k → zeroed (replicate k 0 ++ g) p n ≡ replicate k 0 ++ g
-unfolding zeroed
-zeroed-zeros k p zero g l = refl
-zeroed-zeros k p (suc n) g l = ap (λ xs. set xs (p + n) 0) (zeroed-zeros k p n g (omega arith)) ∙ set-zero k (p + n) g (omega arith)
 
 -- a record by its host tables, its shadow tables and its marks
 abbrev pub recordAt : Pool → Pool → List ℕ → Record
@@ -111,22 +104,36 @@ grants = refl
 
 clears : clearedOf memory 8 ≡ memory
 unfolding clearedOf
-clears = zeroed-zeros 4096 0 4096 guest (omega arith)
+clears = zeroed-clear memory 0 4096 tt
 
 first-is : ended (grantedOf memory 4 4 .result) answer.Ok (grantedOf memory 4 4 .memory) ≡ grantedBy (enteredOn (clearedOf memory 8))
 unfolding grantedOf enteredOf
 first-is = refl
 
+ready : Ready (hostArea (configBy 6144 4 4)) noneOf memory
+unfolding noneOf insideOf followOf present bitSet
+ready = record { room = refl; noFreed = refl; fresh = refl; clear = tt }
+
+no-top : followOf 0 4 (noneOf .top) ≡ Not
+unfolding noneOf followOf present bitSet
+no-top = refl
+
 enters : grantedBy (enteredOn memory) ≡ ended openedRecord answer.Ok openedWords
-unfolding present bitSet zeroed headOf insideOf link followOf noneOf withTop freshOf takeOf tableOf topOf enterOf firstOf
-enters = refl
+unfolding noneOf withTop link headOf firstOf
+enters = ap grantedBy (enter-clear (hostArea (configBy 6144 4 4)) noneOf memory 0 ready no-top)
 
 pub opens : openCall memory 4 4 ≡ ended openedRecord answer.Ok openedWords
 opens = granted-call memory 4 4 grants ∙ first-is ∙ ap (λ m. grantedBy (enteredOn m)) clears ∙ enters
 
--- ---- what computes a call of the unit: naming this on an `unfolding` line opens all the definitions that a call rests on
+-- ---- what computes a call of the unit: naming one of these on an `unfolding` line opens the definitions that a call rests on
+
+-- all but those that put a path into an area
+unfoldable pub besides : ℕ
+unfolding ones levelAt bitSet present writable switch frameOf malformed index indexes pageOf wordOf trace hosted entry next levels walk openRefusal recordFits entryIn highOf putOf guestOf levelOf parentOf slotOf headOf insideOf bareOf link followOf noneOf withTop lookOf roomOf hostEntry leafOf hostWalkOf mapOf memoryWorld walkedOf framesOf trailFrom noted keyOf depthOf marks.keys marks.inserted marks.tableOf marks.withKey marks.withoutKey marks.setRefusal marks.clearRefusal marks.placeIn marks.placeOf places marksOf markOf isTable poolFits poolsFit fitsOf headRoot headTables withMarks heldOf entryFor fillOf watchesOf watchedFrom watchedOf kindOf isLeaf aboveOf upFrom goesOf clearOne clearFrom settleOf sweepOf visitOf scanFrom scanOf tableNamed holderFrom dropPrefixOf detachOf releaseTop releaseOf lastIndex directOf servedOf servesOf foundOf filledOf missedOf plainOf translateOf access.putOf access.loadOf access.storeOf access.deviceOf headHeld headHost translatedOf loadCall storeCall deviceCall rootCall unmappedOf mapCall markedOf setMarkCall clearMarkCall callOf
+besides = 0
+
 unfoldable pub calling : ℕ
-unfolding ones levelAt bitSet present writable switch frameOf malformed index indexes pageOf wordOf trace hosted entry next levels walk openRefusal recordFits zeroed entryIn highOf putOf guestOf levelOf parentOf slotOf headOf insideOf bareOf link followOf noneOf withTop freshOf freedOf takeOf lookOf roomOf tableOf topOf enterOf attachOf descendOf downOf placeOf insertOf hostEntry leafOf hostWalkOf mapOf memoryWorld walkedOf framesOf trailFrom noted keyOf depthOf marks.keys marks.inserted marks.tableOf marks.withKey marks.withoutKey marks.setRefusal marks.clearRefusal marks.placeIn marks.placeOf places marksOf markOf isTable poolFits poolsFit fitsOf headRoot headTables withMarks heldOf entryFor fillOf watchesOf watchedFrom watchedOf kindOf isLeaf aboveOf upFrom goesOf clearOne clearFrom settleOf sweepOf visitOf scanFrom scanOf tableNamed holderFrom dropPrefixOf detachOf releaseTop releaseOf lastIndex directOf servedOf servesOf foundOf filledOf missedOf plainOf translateOf access.putOf access.loadOf access.storeOf access.deviceOf headHeld headHost translatedOf loadCall storeCall deviceCall rootCall unmappedOf mapCall markedOf setMarkCall clearMarkCall callOf
+unfolding besides zeroed freshOf freedOf takeOf tableOf topOf enterOf attachOf descendOf downOf placeOf insertOf
 calling = 0
 
 -- the same for a step of the specification
@@ -148,6 +155,65 @@ fourTables = record { fresh = 4; free = 0; used = 4; top = 1 }
 abbrev pub firstRecord : Record
 firstRecord = recordAt fourTables none []
 
-pub first-map : callOf (map 0 8 true) openedRecord openedWords ≡ ended firstRecord answer.Ok (tables [])
+abbrev area : Area
+area = hostArea (configBy 6144 4 4)
+
+-- n tables are in use
+abbrev inUse : ℕ → Pool
+inUse n = record { fresh = n; free = 0; used = n; top = 1 }
+
+-- the memory once the tables of level 3, 2 and 1 hang in it
+abbrev hung : List ℕ → ℕ → List ℕ
+hung m f = putOf (headOf m (suc f) 0 (3 - f) f 0) f 0 (link (suc f))
+
+abbrev hung3 : List ℕ
+hung3 = hung openedWords 0
+
+abbrev hung2 : List ℕ
+hung2 = hung hung3 1
+
+abbrev hung1 : List ℕ
+hung1 = hung hung2 2
+
+ready3 : Ready area (inUse 1) openedWords
 unfolding calling
-first-map = refl
+ready3 = record { room = refl; noFreed = refl; fresh = refl; clear = tt }
+
+ready2 : Ready area (inUse 2) hung3
+unfolding calling
+ready2 = record { room = refl; noFreed = refl; fresh = refl; clear = tt }
+
+ready1 : Ready area (inUse 3) hung2
+unfolding calling
+ready1 = record { room = refl; noFreed = refl; fresh = refl; clear = tt }
+
+none3 : followOf 0 4 (entryIn openedWords 0 0) ≡ Not
+unfolding calling
+none3 = refl
+
+none2 : followOf 0 4 (entryIn hung3 1 0) ≡ Not
+unfolding calling
+none2 = refl
+
+none1 : followOf 0 4 (entryIn hung2 2 0) ≡ Not
+unfolding calling
+none1 = refl
+
+insert-down : insertOf area [] (inUse 1) openedWords (0 ∷ 0 ∷ 0 ∷ 0 ∷ []) 0x8003 ≡ downOf area [] (inUse 1) openedWords 0 0 0 (0 ∷ 0 ∷ 0 ∷ []) 0x8003
+unfolding besides insertOf placeOf enterOf
+insert-down = refl
+
+down-end : downOf area [] (inUse 4) hung1 3 3 0 [] 0x8003 ≡ end fourTables (To 3) (tables [])
+unfolding calling
+down-end = refl
+
+inserts : insertOf area [] (inUse 1) openedWords (0 ∷ 0 ∷ 0 ∷ 0 ∷ []) 0x8003 ≡ end fourTables (To 3) (tables [])
+inserts =
+    insert-down ∙ down-clear area [] (inUse 1) openedWords 0 0 0 0 (0 ∷ 0 ∷ []) 0x8003 ready3 none3
+    ∙ down-clear area [] (inUse 2) hung3 1 1 0 0 (0 ∷ []) 0x8003 ready2 none2
+    ∙ down-clear area [] (inUse 3) hung2 2 2 0 0 [] 0x8003 ready1 none1
+    ∙ down-end
+
+pub first-map : callOf (map 0 8 true) openedRecord openedWords ≡ ended firstRecord answer.Ok (tables [])
+unfolding besides
+first-map = rw inserts

@@ -16,7 +16,7 @@ use Rattle.record.specs.declared.Record.{Record}
 use Rattle.record.specs.Record.{configOf}
 use Rattle.calls.specs.Calls.{hostTop, mapCall, callOf}
 use Rattle.wrong_units.specs.Unit.{afterBy, specified, Demand-3, told, unitBy}
-use Rattle.wrong_units.specs.Wrong.{storeWith, deviceWith, putKeeping, mapKeeping, unmapKeeping, markKeeping, neverDrops, staleMapping, staleSwitch, deviceForgotten, byOwnPath, forgetsAtStore}
+use Rattle.wrong_units.specs.Wrong.{storeWith, deviceWith, putKeeping, mapKeeping, unmapKeeping, markKeeping, neverDrops, staleMapping, staleSwitch, deviceForgotten, byOwnPage, forgetsAtStore}
 use Rattle.wrong_units.proofs.Mapped.{calling, specifying, memory, openedRecord, openedWords, tables, firstRecord}
 use Rattle.wrong_units.proofs.Filled.{others, mappedWords, other-maps, marked, marks-set, heldRecord, heldWords}
 use Rattle.wrong_units.proofs.Refute.{Comes, refuted, goes-on, begin, begins-at, hold, holds-at}
@@ -107,10 +107,10 @@ write-right = refl
 pub device-forgotten-refuted : Demand-3 (unitBy deviceForgotten) → ⊥
 device-forgotten-refuted = refuted deviceForgotten (begin ++ hold) write (load 0) (heldRecord, heldWords) (value 0x3003 16 0) (value 0x2003 16 1) device-forgotten-comes device-forgotten-says write-right tt
 
--- ---- drops by the address of the store
+-- ---- drops by guest-virtual page only
 
--- The guest reaches its own top table through another address, of the second mark, and writes the same entry. The path of that address
--- goes; the path that read the word stays, and leads to the old table.
+-- The guest reaches its own top table through another address, under the second mark, and writes the same entry. What is dropped is
+-- looked for under that address; the path that read the word stays, and leads to the old table.
 abbrev through : List Call
 through = store (2 ^ 39 + 0x1000) 0x2003 ∷ []
 
@@ -118,16 +118,16 @@ through-right : (step (load 0) (specified memory 4 4 ((begin ++ hold) ++ through
 unfolding specifying
 through-right = refl
 
-by-own-path-comes : Comes byOwnPath (begin ++ hold) (heldRecord, heldWords)
-unfolding byOwnPath afterBy
-by-own-path-comes = holds-at byOwnPath marks-set refl (begins-at byOwnPath refl other-maps)
+by-own-page-comes : Comes byOwnPage (begin ++ hold) (heldRecord, heldWords)
+unfolding byOwnPage afterBy
+by-own-page-comes = holds-at byOwnPage marks-set refl (begins-at byOwnPage refl other-maps)
 
-by-own-path-says : ((unitBy byOwnPath) .call (load 0) (afterBy (unitBy byOwnPath) through (heldRecord, heldWords))) .0 ≡ value 0x3003 16 0
-unfolding byOwnPath storeWith putKeeping afterBy calling
-by-own-path-says = refl
+by-own-page-says : ((unitBy byOwnPage) .call (load 0) (afterBy (unitBy byOwnPage) through (heldRecord, heldWords))) .0 ≡ value 0x3003 16 0
+unfolding byOwnPage storeWith putKeeping afterBy calling
+by-own-page-says = refl
 
-pub by-own-path-refuted : Demand-3 (unitBy byOwnPath) → ⊥
-by-own-path-refuted = refuted byOwnPath (begin ++ hold) through (load 0) (heldRecord, heldWords) (value 0x3003 16 0) (value 0x2003 16 1) by-own-path-comes by-own-path-says through-right tt
+pub by-own-page-refuted : Demand-3 (unitBy byOwnPage) → ⊥
+by-own-page-refuted = refuted byOwnPage (begin ++ hold) through (load 0) (heldRecord, heldWords) (value 0x3003 16 0) (value 0x2003 16 1) by-own-page-comes by-own-page-says through-right tt
 
 -- ---- nothing is dropped
 

@@ -12,11 +12,11 @@ use Rattle.spec.specs.declared.Fault.the-variants.{Absent, Malformed, Protected
 use Rattle.spec.specs.declared.Answer.{Answer}
 use Rattle.spec.specs.declared.Answer.the-variants as answer
 use Rattle.spec.specs.Config.{Config, guestBase}
-use Rattle.spec.specs.Entry.{pageOf, wordOf}
+use Rattle.spec.specs.Entry.{pageOf, wordOf, indexes}
 use Rattle.spec.specs.Plain.{next}
 use Rattle.spec.specs.declared.Call.{Call}
 use Rattle.spec.specs.declared.Call.the-variants.{Root as root, Map as map, Unmap as unmap, SetMark as setMark, ClearMark as clearMark, Load as load, Store as store, Device as device}
-use Rattle.words.specs.After.{After, yields}
+use Rattle.words.specs.After.{After}
 use Rattle.words.specs.Words.{wordIn, setIn}
 use Rattle.pool.specs.declared.Pool.{Pool}
 use Rattle.host.specs.declared.Change.{Change}
@@ -24,22 +24,21 @@ use Rattle.host.specs.Map.{mapOf, unmapOf}
 use Rattle.walk.specs.declared.Walked.{Walked}
 use Rattle.walk.specs.declared.Walked.the-variants as walked
 use Rattle.walk.specs.Memory.{walkedOf}
-use Rattle.marks.specs.declared.Marks.{Marks}
 use Rattle.marks.specs.Key.{keyOf}
 use Rattle.record.specs.declared.Record.{Record}
-use Rattle.record.specs.Record.{configOf, guestFrame, headOf, headRoot, withHead, withMarks}
+use Rattle.record.specs.Record.{configOf, withMarks}
 use Rattle.shadow.specs.Watch.{watchedOf}
 use Rattle.drops.specs.declared.Left.{Left}
 use Rattle.drops.specs.Drop.{dropPrefixOf}
 use Rattle.translate.specs.declared.Held.{Held}
 use Rattle.translate.specs.declared.Translated.{Translated}
-use Rattle.translate.specs.Translate.{exitBy, pathIndexes}
+use Rattle.translate.specs.Translate.{exitBy}
 use Rattle.request.specs.declared.Put.{Put}
 use Rattle.request.specs.declared.Served.{Served}
 use Rattle.request.specs.Access as access
 use Rattle.request.specs.Access.{serving, stored, writtenBy}
 use Rattle.calls.specs.declared.Reply.{Reply}
-use Rattle.calls.specs.Calls.{hostTop, heldOf, rootOf, withHeld, withHost, nothing, ended, refused, judged, servedBy, addressOk, deviceOk, depthAt, translatedOf, markRefusal, marksAfter, callOf}
+use Rattle.calls.specs.Calls.{hostTop, heldOf, withHeld, withHost, nothing, ended, refused, judged, servedBy, addressOk, deviceOk, translatedOf, markRefusal, marksAfter, callOf}
 use Rattle.claims.proofs.Plain.{plainWalk}
 use Rattle.wrong_units.specs.Unit.{Calls}
 
@@ -227,29 +226,30 @@ deviceForgotten (clearMark a n) r m = callOf (clearMark a n) r m
 deviceForgotten (load a) r m = callOf (load a) r m
 deviceForgotten (store a v) r m = callOf (store a v) r m
 
--- the path of the address a goes, and no other
-abbrev pub withoutPath : ℕ → Record → Answer → After Left → After Reply
-withoutPath a r x o = ended (withHeld r (record { pool = o .result .pool; frame = r .guest .held })) x (o .memory)
+-- what a drop left, beside the answer
+abbrev pub leaving : Record → Answer → After Left → After Reply
+leaving r x o = ended (withHeld r (record { pool = o .result .pool; frame = r .guest .held })) x (o .memory)
 
-abbrev pub ownPath : ℕ → ℕ → Record → List ℕ → Answer → After Reply
-ownPath d a r m answer.Ok = ended r answer.Ok m
-ownPath d a r m (answer.Value v n e) = ended r (answer.Value v n e) m
-ownPath d a r m (answer.Done n e) = withoutPath a r (answer.Done n e) (dropPrefixOf (configOf r) (r .pools .shadow) m (pathIndexes (configOf r) d a))
-ownPath d a r m (answer.Faulted x n e) = ended r (answer.Faulted x n e) m
-ownPath d a r m (answer.Refused n) = ended r (answer.Refused n) m
+-- where a store is done, the paths of the page that it names are dropped
+abbrev pub ownPage : ℕ → Record → List ℕ → Answer → After Reply
+ownPage a r m answer.Ok = ended r answer.Ok m
+ownPage a r m (answer.Value v n e) = ended r (answer.Value v n e) m
+ownPage a r m (answer.Done n e) = leaving r (answer.Done n e) (dropPrefixOf (configOf r) (r .pools .shadow) m (indexes (r .layout .levels) (pageOf a)))
+ownPage a r m (answer.Faulted x n e) = ended r (answer.Faulted x n e) m
+ownPage a r m (answer.Refused n) = ended r (answer.Refused n) m
 
--- a store drops the path of its own address alone
-unfoldable pub byOwnPath : Calls
-byOwnPath (store a v) r m =
+-- a store drops by its own guest-virtual page alone
+unfoldable pub byOwnPage : Calls
+byOwnPage (store a v) r m =
     let e : After Reply = storeWith putKeeping r m a v in
-    ownPath (depthAt r a) a (e .result .unit) (e .memory) (e .result .answer)
-byOwnPath (root g) r m = callOf (root g) r m
-byOwnPath (map g f w) r m = callOf (map g f w) r m
-byOwnPath (unmap g) r m = callOf (unmap g) r m
-byOwnPath (setMark a n) r m = callOf (setMark a n) r m
-byOwnPath (clearMark a n) r m = callOf (clearMark a n) r m
-byOwnPath (load a) r m = callOf (load a) r m
-byOwnPath (device a v) r m = callOf (device a v) r m
+    ownPage a (e .result .unit) (e .memory) (e .result .answer)
+byOwnPage (root g) r m = callOf (root g) r m
+byOwnPage (map g f w) r m = callOf (map g f w) r m
+byOwnPage (unmap g) r m = callOf (unmap g) r m
+byOwnPage (setMark a n) r m = callOf (setMark a n) r m
+byOwnPage (clearMark a n) r m = callOf (clearMark a n) r m
+byOwnPage (load a) r m = callOf (load a) r m
+byOwnPage (device a v) r m = callOf (device a v) r m
 
 -- a store drops all that is held
 unfoldable pub forgetsAtStore : Calls
