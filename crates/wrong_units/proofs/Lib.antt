@@ -6,3 +6,4 @@ pub mod Refute
 pub mod Plainly
 pub mod Stale
 pub mod InFull
+pub mod Walked

@@ -21,8 +21,9 @@ use Rattle.claims.specs.Counted.{SameWords, countedOf, touchedOf}
 use Rattle.claims.proofs.Invariant.{Inv, at}
 use Rattle.claims.proofs.Opens.{opened-inv, granted-call}
 use Rattle.claims.proofs.Demands.{follows, at-self, opened-config, demand-3}
+use Rattle.claims.proofs.Plain.{requestAt, isStore, plainWalk, AsWalked, Unrefused, demand-2}
 use Rattle.claims.proofs.Counted.{run-counted-load}
-use Rattle.wrong_units.specs.Unit.{MemoryUnit, runBy, afterBy, Demand-3, Calls, told, unitBy, cangrieb, WordsCounted}
+use Rattle.wrong_units.specs.Unit.{MemoryUnit, runBy, afterBy, Demand-3, Demand-2, Calls, told, unitBy, cangrieb, WordsCounted}
 
 -- a table of calls that does what ours does on every record and memory that stand for a machine and a book
 abbrev pub AsOurs : Calls → Type 0
@@ -59,6 +60,15 @@ after-is : (xs : List Call) (r : Record) (m : List ℕ) (e : After Reply) → r 
 unfolding afterBy unitAfter
 after-is [] r m e p q = λ i. (p i, q i)
 after-is (x ∷ xs) r m e p q = after-is xs (callOf x r m .result .unit) (callOf x r m .memory) (callOf x r m) refl refl
+
+pub cangrieb-demand-2 : Demand-2 callOf
+unfolding Demand-2
+cangrieb-demand-2 m h s xs g a v =
+    let o = openCall m h s in
+    subst Walks (sym (after-is xs (o .result .unit) (o .memory) o refl refl)) (demand-2 m h s xs g a v)
+  where
+    Walks : Record × List ℕ → Type 0
+    Walks e = Unrefused (callOf (requestAt a v) (e .0) (e .1) .result .answer) → AsWalked (e .0) (e .1) a v (callOf (requestAt a v) (e .0) (e .1)) (plainWalk (e .0) (e .1) (isStore v) a)
 
 pub cangrieb-words-counted : WordsCounted callOf
 unfolding WordsCounted callOf

@@ -16,7 +16,7 @@ use Rattle.wrong_units.proofs.Mapped.{calling, specifying, memory, open
 use Rattle.wrong_units.proofs.Filled.{mappedWords, other-maps}
 use Rattle.wrong_units.proofs.Refute.{Comes, refuted, begin, begins-at}
 
-abbrev plain : List Call
+abbrev pub plain : List Call
 plain = setMark 0 5 ∷ []
 
 load-right : (step (load 0) (specified memory 4 4 (begin ++ plain))) .0 ≡ value 0x3003 24 0
@@ -38,7 +38,7 @@ flat-counts-refuted = refuted flatCounts begin plain (load 0) (firstRecord, mapp
 
 -- ---- every request faults: this load is granted
 
-faults-comes : Comes faultsAll begin (firstRecord, mappedWords)
+pub faults-comes : Comes faultsAll begin (firstRecord, mappedWords)
 unfolding faultsAll afterBy
 faults-comes = begins-at faultsAll refl other-maps
 
@@ -51,7 +51,7 @@ faults-all-refuted = refuted faultsAll begin plain (load 0) (firstRecord, mapped
 
 -- ---- one word for all: the first guest word is the top table's entry 0, and the page has another
 
-one-word-comes : Comes oneWord begin (firstRecord, mappedWords)
+pub one-word-comes : Comes oneWord begin (firstRecord, mappedWords)
 unfolding oneWord afterBy
 one-word-comes = begins-at oneWord refl other-maps
 

@@ -1,23 +1,30 @@
 -- How a run refuses a unit: by the line of its last call.
 -- Assumes nothing.
 use mathlib.Core.Path.{_≡_, refl, sym, ap, _∙_, subst}
-use Prim.Native.Nat.{ℕ, _^_}
-use mathlib.Core.Bool.{Bool, true, not, _&&_}
+use Prim.Native.Nat.{ℕ, _+_, _*_, _^_}
+use mathlib.Core.Bool.{Bool, true, false, not, _&&_}
 use mathlib.Core.List.{List, [], _∷_, _++_}
+use mathlib.Core.Option.{none}
 use lib.Dec.{T, eqb, eqb-refl}
 use lib.ListN.{length}
-use Rattle.spec.specs.Answer.{Line, ok}
+use Rattle.spec.specs.declared.Answer.{Answer}
+use Rattle.spec.specs.Answer.{Line, ok, value, line}
+use Rattle.spec.specs.Entry.{wordOf}
 use Rattle.spec.specs.declared.Call.{Call}
 use Rattle.spec.specs.declared.Call.the-variants.{Map as map, SetMark as setMark, Load as load}
 use Rattle.spec.specs.Guest.{code, equal}
 use Rattle.spec.specs.Run.{State, step, run, after, opened}
 use Rattle.spec_laws.proofs.Lists.{both, not-both}
+use Rattle.entry.specs.declared.HostPhysical.{HostPhysical}
+use Rattle.words.specs.Words as words
+use Rattle.walk.specs.declared.Walked.the-variants as walked
 use Rattle.record.specs.declared.Record.{Record}
-use Rattle.record.specs.Record.{configBy}
+use Rattle.record.specs.Record.{configOf, configBy}
 use Rattle.record.specs.Open.{refusalOf}
-use Rattle.calls.specs.Calls.{callOf}
+use Rattle.calls.specs.Calls.{depthAt, callOf}
 use Rattle.claims.specs.Run.{machineRun}
-use Rattle.wrong_units.specs.Unit.{MemoryUnit, runBy, afterBy, specified, Demand-3, Calls, told, unitBy, cangrieb}
+use Rattle.claims.proofs.Plain.{plainWalk, AsWalked, Unrefused}
+use Rattle.wrong_units.specs.Unit.{MemoryUnit, runBy, afterBy, specified, Demand-3, Demand-2, Calls, told, unitBy, cangrieb}
 use Rattle.wrong_units.proofs.Mapped.{memory, grants, opens, openedRecord, openedWords, firstRecord, tables, first-map}
 use Rattle.wrong_units.proofs.Filled.{others, mappedWords, other-maps, marked, marks-set, heldRecord, heldWords, fills}
 
@@ -76,6 +83,22 @@ refuted f xs ys x s wrong right c w r t d =
     differ wrong right t
     (sym (ap (λ e. ((unitBy f) .call x e) .0) (goes-on f xs ys s (afterBy (unitBy f) ys s) c refl) ∙ w)
     ∙ demand-last (unitBy f) d memory 4 4 (xs ++ ys) x grants ∙ r)
+
+-- a unit whose load there is not refused and does not yield the word u that the plain walk over its memory comes to, in host frame t
+pub not-as-walked : (f : Calls) (xs ys : List Call) (a u : ℕ) (s : Record × List ℕ) (t : HostPhysical) (w : Bool) (k : ℕ) (x : Answer) → Comes f xs s
+    → let e : Record × List ℕ = afterBy (unitBy f) ys s in
+    f (load a) (e .0) (e .1) .result .answer ≡ x → Unrefused x → plainWalk (e .0) (e .1) false a ≡ walked.Arrived t w k → words.wordIn (e .1) (t .0) (wordOf a) ≡ u
+    → ((n c : ℕ) → line x ≡ value u n c → ⊥) → Demand-2 f → ⊥
+unfolding Demand-2
+not-as-walked f xs ys a u s t w k x c p q r o clash d =
+    let e = afterBy (unitBy f) ys s in
+    let l = subst Walks (goes-on f xs ys s e c refl) (d memory 4 4 (xs ++ ys) grants a none) (subst Unrefused (sym p) q) in
+    let g = subst (AsWalked (e .0) (e .1) a none (f (load a) (e .0) (e .1))) r l in
+    let n : ℕ = configOf (e .0) .levels + configOf (e .0) .levels * depthAt (e .0) a in
+    clash n (g .exits) (ap line (sym p) ∙ g .says ∙ ap (λ v. value v n (g .exits)) o)
+  where
+    Walks : Record × List ℕ → Type 0
+    Walks e = Unrefused (f (load a) (e .0) (e .1) .result .answer) → AsWalked (e .0) (e .1) a none (f (load a) (e .0) (e .1)) (plainWalk (e .0) (e .1) false a)
 
 -- the four frames are mapped
 abbrev pub begin : List Call

@@ -111,7 +111,7 @@ device-forgotten-refuted = refuted deviceForgotten (begin ++ hold) write (load 0
 
 -- The guest reaches its own top table through another address, under the second mark, and writes the same entry. What is dropped is
 -- looked for under that address; the path that read the word stays, and leads to the old table.
-abbrev through : List Call
+abbrev pub through : List Call
 through = store (2 ^ 39 + 0x1000) 0x2003 ∷ []
 
 through-right : (step (load 0) (specified memory 4 4 ((begin ++ hold) ++ through))) .0 ≡ value 0x2003 16 1
@@ -140,7 +140,7 @@ never-drops-marks : afterBy (unitBy neverDrops) (setMark 0 3 ∷ setMark (2 ^ 39
 unfolding neverDrops markKeeping afterBy calling
 never-drops-marks = refl
 
-never-drops-comes : Comes neverDrops (begin ++ hold) (heldRecord, heldWords)
+pub never-drops-comes : Comes neverDrops (begin ++ hold) (heldRecord, heldWords)
 unfolding neverDrops afterBy
 never-drops-comes = holds-at neverDrops never-drops-marks refl (begins-at neverDrops first-same never-drops-others)
 

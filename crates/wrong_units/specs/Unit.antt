@@ -4,6 +4,7 @@ use mathlib.Core.Path.{_≡_}
 use Prim.Native.Nat.{ℕ}
 use mathlib.Core.Bool.{false}
 use mathlib.Core.List.{List, [], _∷_}
+use mathlib.Core.Option.{Option}
 use lib.ListN.{length}
 use Rattle.spec.specs.Answer.{Line, line}
 use Rattle.spec.specs.declared.Call.{Call}
@@ -16,6 +17,7 @@ use Rattle.record.specs.Open.{refusalOf}
 use Rattle.calls.specs.declared.Reply.{Reply}
 use Rattle.calls.specs.Calls.{openCall, callOf}
 use Rattle.claims.specs.Run.{guestArea, machineRun}
+use Rattle.claims.proofs.Plain.{requestAt, isStore, plainWalk, AsWalked, Unrefused}
 use Rattle.claims.specs.Counted.{SameWords, HeldOrPlain, countedOf, touchedOf}
 
 -- ---- any unit
@@ -69,6 +71,14 @@ unitBy f = record {
 -- ours
 abbrev pub cangrieb : MemoryUnit
 cangrieb = unitBy callOf
+
+-- demand 2: after any run, a load or a store that is not refused comes to what the plain two-level walk over that very memory comes to,
+-- the same word or the same fault
+unfoldable pub Demand-2 : Calls → Type 0
+Demand-2 f =
+    (m : List ℕ) (h s : ℕ) (xs : List Call) → refusalOf (length m) h s ≡ 0 → (a : ℕ) (v : Option ℕ)
+    → let e : Record × List ℕ = afterBy (unitBy f) xs ((unitBy f) .opens m h s) in
+    Unrefused (f (requestAt a v) (e .0) (e .1) .result .answer) → AsWalked (e .0) (e .1) a v (f (requestAt a v) (e .0) (e .1)) (plainWalk (e .0) (e .1) (isStore v) a)
 
 -- words counted: after any run, a load whose path is held or whose depth is N + 1 says the same on any memory that has the words
 -- which it counts and the word that it loads, whatever the others are
