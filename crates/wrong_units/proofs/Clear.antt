@@ -1,8 +1,8 @@
 -- A table handed out from a frame that is clear already: to set its words to 0 changes nothing. So a fill or a map on a fresh memory is
 -- computed without writing 512 zeros one by one.
 -- Assumes nothing.
-use mathlib.Core.Path.{_≡_, refl, sym, ap, _∙_, subst}
-use Prim.Native.Nat.{ℕ, zero, suc, _+_, _-_, _*_, _<_, _≤_}
+use mathlib.Core.Path.{_≡_, refl, sym, ap, _∙_}
+use Prim.Native.Nat.{ℕ, zero, suc, _+_, _-_, _*_, _<_}
 use native.Mathlib.Omega.{arith}
 use native.Mathlib.Nat.{not-suc-le-zero, le-of-suc-le-suc}
 use mathlib.Core.Bool.{Bool, true, _&&_}
@@ -17,7 +17,7 @@ use Rattle.pool.specs.declared.Pool.{Pool}
 use Rattle.pool.specs.declared.Way.the-variants.{To, Not}
 use Rattle.pool.specs.Header.{entryIn, putOf, headOf}
 use Rattle.pool.specs.Pool.{link, followOf, end, poolOf, withTop, freshOf, takeOf}
-use Rattle.area.specs.Tree.{tableOf, topOf, enterOf, attachOf, descendOf, onward, downOf}
+use Rattle.area.specs.Tree.{tableOf, topOf, enterOf, attachOf, descendOf, downOf}
 
 -- the first n words are 0
 abbrev pub zeros : ℕ → List ℕ → Bool

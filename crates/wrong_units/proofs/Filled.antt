@@ -13,13 +13,14 @@ use Rattle.pool.specs.declared.Area.{Area}
 use Rattle.pool.specs.declared.Way.the-variants.{To, Not}
 use Rattle.pool.specs.Pool.{followOf, end}
 use Rattle.area.specs.Tree.{downOf, placeOf, insertOf}
-use Rattle.shadow.specs.Held.{shadowArea}
 use Rattle.record.specs.declared.Record.{Record}
 use Rattle.record.specs.Record.{configBy}
+use Rattle.shadow.specs.Held.{shadowArea}
 use Rattle.calls.specs.Calls.{ended, callOf}
 use Rattle.wrong_units.specs.Unit.{afterBy, cangrieb}
 use Rattle.wrong_units.proofs.Clear.{Ready, enter-clear}
-use Rattle.wrong_units.proofs.Mapped.{besides, placed, recordAt, none, levelWord, tables, fourTables, firstRecord, calling}
+use Rattle.wrong_units.proofs.Computing.{besides, calling}
+use Rattle.wrong_units.proofs.Mapped.{placed, recordAt, none, levelWord, tables, fourTables, firstRecord}
 
 abbrev pub mappedWords : List ℕ
 mappedWords = tables ((1537, levelWord 1 + 0x9003) ∷ (1538, 2 * entryLimit + 0xa003) ∷ (1539, 0xb003) ∷ [])

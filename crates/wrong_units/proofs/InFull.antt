@@ -5,18 +5,16 @@ use mathlib.Core.Path.{_≡_, refl, sym, ap, _∙_, subst}
 use mathlib.Core.Logic.{inl}
 use Prim.Native.Nat.{ℕ}
 use native.Mathlib.Omega.{arith}
-use mathlib.Core.Bool.{Bool, true, false, not}
+use mathlib.Core.Bool.{Bool, false}
 use mathlib.Core.List.{List, [], _∷_, _++_}
 use mathlib.Core.Option.{none}
 use lib.Dec.{T, eqb, eqb→eq}
 use lib.ListN.{length, set, length-set}
 use Rattle.spec.specs.declared.Answer.{Answer}
 use Rattle.spec.specs.declared.Answer.the-variants as answer
-use Rattle.spec.specs.Answer.{Line, line, value, fault, faultLine}
-use Rattle.spec.specs.declared.Call.{Call}
+use Rattle.spec.specs.Answer.{line, value, fault}
 use Rattle.spec.specs.declared.Call.the-variants.{Root as root, Map as map, Unmap as unmap, SetMark as setMark, ClearMark as clearMark, Load as load, Store as store, Device as device}
 use Rattle.spec.specs.Refusal.{allOf}
-use Rattle.spec.specs.Run.{State}
 use Rattle.spec_laws.proofs.Lists.{and-left, and-right}
 use Rattle.words.specs.After.{After}
 use Rattle.words.specs.Words.{wordIn}
@@ -27,12 +25,12 @@ use Rattle.record.specs.declared.Record.{Record}
 use Rattle.calls.specs.declared.Reply.{Reply}
 use Rattle.calls.specs.Calls.{callOf}
 use Rattle.claims.specs.Counted.{Word, SameWords, HeldOrPlain, walkWords, pathWords, countedOf, touchedOf}
-use Rattle.claims.proofs.Invariant.{Inv}
 use Rattle.claims.proofs.Plain.{plainWalk, AsWalked, Unrefused, as-walked}
-use Rattle.wrong_units.specs.Unit.{afterBy, specified, Demand-3, WordsCounted, told, unitBy}
+use Rattle.wrong_units.specs.Unit.{afterBy, specified, Demand-3, WordsCounted, unitBy}
 use Rattle.wrong_units.specs.Wrong.{rewalked, walksInFull}
 use Rattle.wrong_units.proofs.Ours.{AsOurs, as-ours-demand-3}
-use Rattle.wrong_units.proofs.Mapped.{calling, specifying, memory, grants}
+use Rattle.wrong_units.proofs.Computing.{calling, specifying}
+use Rattle.wrong_units.proofs.Mapped.{memory, grants}
 use Rattle.wrong_units.proofs.Filled.{other-maps, marks-set, heldRecord, heldWords}
 use Rattle.wrong_units.proofs.Refute.{Comes, begin, begins-at, hold, holds-at, differ}
 

@@ -1,59 +1,33 @@
--- A small guest on which the wrong units are run, and the states that our unit comes to on it, computed once.
+-- A small guest on which the wrong units are run; and where our unit is after its opening and after the first map.
 -- Assumes nothing.
-use mathlib.Core.Path.{_≡_, refl, sym, ap, _∙_}
-use Prim.Native.Nat.{ℕ, zero, suc, _+_, _-_, _*_}
-use native.Mathlib.Omega.{arith}
-use native.Mathlib.Nat.{not-suc-le-zero, le-of-suc-le-suc}
+use mathlib.Core.Path.{_≡_, refl, ap, _∙_}
+use Prim.Native.Nat.{ℕ, suc, _-_, _*_}
 use mathlib.Core.Bool.{true}
 use mathlib.Core.List.{List, [], _∷_, _++_}
-use lib.Count.{ones}
 use lib.ListN.{length, set, replicate}
-use Rattle.spec.specs.declared.Call.{Call}
 use Rattle.spec.specs.declared.Call.the-variants.{Map as map}
 use Rattle.spec.specs.declared.Answer.the-variants as answer
-use Rattle.spec.specs.Entry.{bitSet, present, writable, switch, frameOf, malformed, index, indexes, pageOf, wordOf, entryLimit}
-use Rattle.spec.specs.Refusal.{openRefusal, recordFits}
-use Rattle.words.specs.After.{After, yields}
-use Rattle.words.specs.Words.{zeroed}
+use Rattle.spec.specs.Entry.{bitSet, present, entryLimit}
+use Rattle.spec.specs.Refusal.{openRefusal}
+use Rattle.words.specs.After.{After}
 use Rattle.pool.specs.declared.Pool.{Pool}
 use Rattle.pool.specs.declared.Area.{Area}
 use Rattle.pool.specs.declared.Way.the-variants.{To, Not}
 use Rattle.pool.specs.declared.Went.{Went}
-use Rattle.pool.specs.Header.{entryIn, highOf, putOf, guestOf, levelOf, parentOf, slotOf, headOf, insideOf, bareOf}
-use Rattle.pool.specs.Pool.{link, followOf, end, noneOf, withTop, freshOf, freedOf, takeOf}
-use Rattle.area.specs.Tree.{lookOf, roomOf, tableOf, topOf, enterOf, attachOf, descendOf, downOf, placeOf, insertOf}
-use Rattle.area_laws.specs.Host.{hostEntry}
-use Rattle.layout.specs.Layout.{page, leafOf}
-use Rattle.host.specs.Walk.{hostWalkOf}
-use Rattle.host.specs.Map.{hostArea, mapOf}
+use Rattle.pool.specs.Header.{entryIn, putOf, headOf, insideOf}
+use Rattle.pool.specs.Pool.{link, followOf, end, noneOf, withTop}
+use Rattle.area.specs.Tree.{tableOf, enterOf, downOf, placeOf, insertOf}
+use Rattle.layout.specs.Layout.{page}
+use Rattle.host.specs.Map.{hostArea}
 use Rattle.marks.specs.Table as marks
 use Rattle.record.specs.declared.Record.{Record}
-use Rattle.record.specs.Record.{configBy, layoutOf, guestFrame, isTable, poolFits, poolsFit, fitsOf, headRoot, headTables, withMarks}
+use Rattle.record.specs.Record.{configBy, layoutOf, guestFrame}
 use Rattle.record.specs.Open.{refusalOf, clearedOf, enteredOf, firstOf, grantedOf}
 use Rattle.calls.specs.declared.Reply.{Reply}
-use Rattle.spec.specs.Walk.{trace}
-use Rattle.spec.specs.Plain.{hosted, entry, next, levels, walk}
-use Rattle.spec.specs.Machine.{hostCost, world}
-use Rattle.spec.specs.Call as spec
-use Rattle.spec.specs.Call.{plain, deviceWalk, machineStep}
-use Rattle.spec.specs.Count.{request, storing, bookStep}
-use Rattle.spec.specs.Refusal.{tests, refusal}
-use Rattle.spec.specs.Run.{step, run, after}
-use Rattle.bits.specs.Bit.{places}
-use Rattle.marks.specs.Key.{keyOf, levelAt, depthOf}
-use Rattle.marks.specs.Reading.{marksOf, markOf}
-use Rattle.walk.specs.Memory.{memoryWorld, walkedOf, noted, framesOf, trailFrom}
-use Rattle.prune.specs.Remove.{detachOf, releaseTop, releaseOf, lastIndex}
-use Rattle.shadow.specs.Held.{heldOf, entryFor}
-use Rattle.shadow.specs.Fill.{fillOf}
-use Rattle.shadow.specs.Watch.{watchesOf, watchedFrom, watchedOf}
-use Rattle.drops.specs.Cut.{isLeaf, kindOf, aboveOf, upFrom}
-use Rattle.drops.specs.Drop.{goesOf, clearOne, clearFrom, settleOf, sweepOf, visitOf, scanFrom, scanOf, tableNamed, holderFrom, dropPrefixOf}
-use Rattle.translate.specs.Translate.{directOf, servedOf, servesOf, foundOf, filledOf, missedOf, plainOf, translateOf}
-use Rattle.request.specs.Access as access
-use Rattle.calls.specs.Calls.{ended, openCall, headHeld, headHost, translatedOf, loadCall, storeCall, deviceCall, rootCall, unmappedOf, mapCall, markedOf, setMarkCall, clearMarkCall, callOf}
+use Rattle.calls.specs.Calls.{ended, openCall, callOf}
 use Rattle.claims.proofs.Opens.{granted-call}
 use Rattle.wrong_units.proofs.Clear.{Ready, zeroed-clear, enter-clear, down-clear}
+use Rattle.wrong_units.proofs.Computing.{besides, calling}
 
 -- ---- the guest
 
@@ -62,14 +36,17 @@ abbrev pub placed : List (ℕ × ℕ) → List ℕ → List ℕ
 placed [] m = m
 placed (x ∷ xs) m = set (placed xs m) (x .0) (x .1)
 
--- its words, in host frames 8 to 11: the top table, two tables of level 3, and a frame that is table and page at once
+-- Its words, in host frames 8 to 11. Frame 0 is the top table: entry 0 names frame 1, entry 1 frame 3. Frame 1 is a table of level 3 and
+-- names frame 3. Frames 2 and 3 name themselves, so that each is a table of any level and, at the end, a page; what a load of address 0
+-- yields says in which of them it ended. Entry 1 of frame 3 names frame 0: the guest can write its own top table.
 abbrev pub guest : List ℕ
 guest = placed ((0, 0x1003) ∷ (1, 0x3003) ∷ (512, 0x3003) ∷ (1024, 0x2003) ∷ (1536, 0x3003) ∷ (1537, 0x3) ∷ []) (replicate 2048 0)
 
+-- 12 frames: 4 for host tables, 4 for shadow tables, 4 for the guest
 abbrev pub memory : List ℕ
 memory = replicate 4096 0 ++ guest
 
--- ---- the opening: to clear what is clear changes nothing
+-- ---- the opening
 
 -- a record by its host tables, its shadow tables and its marks
 abbrev pub recordAt : Pool → Pool → List ℕ → Record
@@ -125,24 +102,9 @@ enters = ap grantedBy (enter-clear (hostArea (configBy 6144 4 4)) noneOf memory 
 pub opens : openCall memory 4 4 ≡ ended openedRecord answer.Ok openedWords
 opens = granted-call memory 4 4 grants ∙ first-is ∙ ap (λ m. grantedBy (enteredOn m)) clears ∙ enters
 
--- ---- what computes a call of the unit: naming one of these on an `unfolding` line opens the definitions that a call rests on
+-- ---- guest frame 0 is mapped to host frame 8: there are host tables of all four levels then
 
--- all but those that put a path into an area
-unfoldable pub besides : ℕ
-unfolding ones levelAt bitSet present writable switch frameOf malformed index indexes pageOf wordOf trace hosted entry next levels walk openRefusal recordFits entryIn highOf putOf guestOf levelOf parentOf slotOf headOf insideOf bareOf link followOf noneOf withTop lookOf roomOf hostEntry leafOf hostWalkOf mapOf memoryWorld walkedOf framesOf trailFrom noted keyOf depthOf marks.keys marks.inserted marks.tableOf marks.withKey marks.withoutKey marks.setRefusal marks.clearRefusal marks.placeIn marks.placeOf places marksOf markOf isTable poolFits poolsFit fitsOf headRoot headTables withMarks heldOf entryFor fillOf watchesOf watchedFrom watchedOf kindOf isLeaf aboveOf upFrom goesOf clearOne clearFrom settleOf sweepOf visitOf scanFrom scanOf tableNamed holderFrom dropPrefixOf detachOf releaseTop releaseOf lastIndex directOf servedOf servesOf foundOf filledOf missedOf plainOf translateOf access.putOf access.loadOf access.storeOf access.deviceOf headHeld headHost translatedOf loadCall storeCall deviceCall rootCall unmappedOf mapCall markedOf setMarkCall clearMarkCall callOf
-besides = 0
-
-unfoldable pub calling : ℕ
-unfolding besides zeroed freshOf freedOf takeOf tableOf topOf enterOf attachOf descendOf downOf placeOf insertOf
-calling = 0
-
--- the same for a step of the specification
-unfoldable pub specifying : ℕ
-unfolding bitSet present writable frameOf malformed index indexes pageOf wordOf trace hosted entry next levels walk hostCost world plain deviceWalk spec.access machineStep request storing bookStep tests refusal step run after
-specifying = 0
-
--- ---- the frames are mapped: host tables of all four levels, the lowest with an entry for each frame
-
+-- the host tables, and the words that xs adds
 abbrev pub tables : List (ℕ × ℕ) → List ℕ
 tables xs =
     placed xs

@@ -3,19 +3,28 @@
 -- Assumes nothing.
 use mathlib.Core.Path.{_≡_, refl, sym, ap, _∙_, subst}
 use Prim.Native.Nat.{ℕ}
-use mathlib.Core.Bool.{false}
+use mathlib.Core.Bool.{true, false, cond}
 use mathlib.Core.List.{List, [], _∷_}
 use lib.ListN.{length}
 use Rattle.spec.specs.Answer.{Line, line}
 use Rattle.spec.specs.declared.Call.{Call}
-use Rattle.spec.specs.declared.Call.the-variants.{Load as load}
-use Rattle.spec.specs.Run.{State, step, run, opened}
+use Rattle.spec.specs.declared.Call.the-variants.{Store as store, Device as device}
+use Rattle.spec.specs.Config.{Config}
+use Rattle.spec.specs.Entry.{pageOf}
+use Rattle.spec.specs.Plain.{next}
+use Rattle.spec.specs.Run.{State, step, opened}
 use Rattle.words.specs.After.{After}
+use Rattle.walk.specs.declared.Walked.{Walked}
+use Rattle.walk.specs.declared.Walked.the-variants as walked
+use Rattle.walk.specs.Memory.{walkedOf}
 use Rattle.record.specs.declared.Record.{Record}
 use Rattle.record.specs.Record.{configOf, configBy}
-use Rattle.record.specs.Open.{refusalOf, grantedOf}
+use Rattle.record.specs.Open.{grantedOf}
+use Rattle.translate.specs.declared.Held.{Held}
+use Rattle.translate.specs.declared.Translated.{Translated}
+use Rattle.request.specs.Access.{putOf, storeBy, storeOf, deviceBy, deviceOf}
 use Rattle.calls.specs.declared.Reply.{Reply}
-use Rattle.calls.specs.Calls.{openCall, callOf, loadCall}
+use Rattle.calls.specs.Calls.{hostTop, heldOf, judged, refused, servedBy, addressOk, deviceOk, translatedOf, openCall, callOf, loadCall, storeCall, deviceCall}
 use Rattle.claims.specs.Run.{guestArea, unitRun, unitAfter}
 use Rattle.claims.specs.Counted.{SameWords, countedOf, touchedOf}
 use Rattle.claims.proofs.Invariant.{Inv, at}
@@ -23,7 +32,8 @@ use Rattle.claims.proofs.Opens.{opened-inv, granted-call}
 use Rattle.claims.proofs.Demands.{follows, at-self, opened-config, demand-3}
 use Rattle.claims.proofs.Plain.{requestAt, isStore, plainWalk, AsWalked, Unrefused, demand-2}
 use Rattle.claims.proofs.Counted.{run-counted-load}
-use Rattle.wrong_units.specs.Unit.{MemoryUnit, runBy, afterBy, Demand-3, Demand-2, Calls, told, unitBy, cangrieb, WordsCounted}
+use Rattle.wrong_units.specs.Unit.{runBy, afterBy, Demand-3, Demand-2, Calls, told, unitBy, cangrieb, WordsCounted}
+use Rattle.wrong_units.specs.Wrong.{storeAs, storeWith, deviceAs, deviceWith}
 
 -- a table of calls that does what ours does on every record and memory that stand for a machine and a book
 abbrev pub AsOurs : Calls → Type 0
@@ -80,3 +90,27 @@ cangrieb-words-counted m h s xs g a k =
     Same : Record × List ℕ → Type 0
     Same e = (n : List ℕ) → length n ≡ length (e .1) → SameWords (e .1) n (countedOf (e .0) (e .1) false a) → SameWords (e .1) n (touchedOf (e .0) (e .1) false a)
         → line (loadCall (e .0) n a .result .answer) ≡ line (loadCall (e .0) (e .1) a .result .answer)
+
+-- ---- the calls of specs/Wrong.antt that take an argument for what is changed are ours with our own argument
+
+store-as-ours : (c : Config) (h : Held) (a v : ℕ) (o : After Translated) (w : Walked) → storeAs putOf c h a v o w ≡ storeBy c h a v o w
+store-as-ours c h a v o (walked.Arrived t w n) = refl
+store-as-ours c h a v o (walked.Faulted x n) = refl
+store-as-ours c h a v o walked.Damaged = refl
+
+pub store-with-ours : (r : Record) (m : List ℕ) (a v : ℕ) → storeWith putOf r m a v ≡ callOf (store a v) r m
+unfolding storeWith callOf storeCall storeOf translatedOf
+store-with-ours r m a v =
+    let o = translatedOf r m true a in
+    ap (λ s. judged r m (cond (addressOk r a) (servedBy r s) (refused r 4 m))) (store-as-ours (configOf r) (heldOf r) a v o (o .result .walked))
+
+device-as-ours : (c : Config) (m : List ℕ) (h : Held) (a v : ℕ) (w : Walked) → deviceAs putOf c m h a v w ≡ deviceBy c m h a v w
+device-as-ours c m h a v (walked.Arrived t w n) = refl
+device-as-ours c m h a v (walked.Faulted x n) = refl
+device-as-ours c m h a v walked.Damaged = refl
+
+pub device-with-ours : (r : Record) (m : List ℕ) (a v : ℕ) → deviceWith putOf r m a v ≡ callOf (device a v) r m
+unfolding deviceWith callOf deviceCall deviceOf
+device-with-ours r m a v =
+    ap (λ s. judged r m (cond (deviceOk r a) (servedBy r s) (refused r 4 m)))
+    (device-as-ours (configOf r) m (heldOf r) a v (walkedOf (configOf r) (hostTop r) m 0 (next true true (pageOf a) true)))

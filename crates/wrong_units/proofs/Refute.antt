@@ -2,7 +2,7 @@
 -- Assumes nothing.
 use mathlib.Core.Path.{_≡_, refl, sym, ap, _∙_, subst}
 use Prim.Native.Nat.{ℕ, _+_, _*_, _^_}
-use mathlib.Core.Bool.{Bool, true, false, not, _&&_}
+use mathlib.Core.Bool.{Bool, true, false, not}
 use mathlib.Core.List.{List, [], _∷_, _++_}
 use mathlib.Core.Option.{none}
 use lib.Dec.{T, eqb, eqb-refl}
@@ -24,9 +24,9 @@ use Rattle.record.specs.Open.{refusalOf}
 use Rattle.calls.specs.Calls.{depthAt, callOf}
 use Rattle.claims.specs.Run.{machineRun}
 use Rattle.claims.proofs.Plain.{plainWalk, AsWalked, Unrefused}
-use Rattle.wrong_units.specs.Unit.{MemoryUnit, runBy, afterBy, specified, Demand-3, Demand-2, Calls, told, unitBy, cangrieb}
+use Rattle.wrong_units.specs.Unit.{MemoryUnit, runBy, afterBy, specified, Demand-3, Demand-2, Calls, told, unitBy}
 use Rattle.wrong_units.proofs.Mapped.{memory, grants, opens, openedRecord, openedWords, firstRecord, tables, first-map}
-use Rattle.wrong_units.proofs.Filled.{others, mappedWords, other-maps, marked, marks-set, heldRecord, heldWords, fills}
+use Rattle.wrong_units.proofs.Filled.{others, mappedWords, marked, heldRecord, heldWords, fills}
 
 -- ---- the line of the last call
 

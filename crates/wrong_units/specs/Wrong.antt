@@ -1,5 +1,7 @@
--- Wrong units: each is ours with one change, and agrees with itself. Most are what a reviewer would look for first; three are faults
--- that earlier versions had.
+-- Wrong units: each is ours with one change, and agrees with itself. Most are what a reviewer looks for first; three are faults that
+-- earlier versions had. They are tables of calls over our own record, memory and definitions, not over the specification: so what
+-- goes stale in them are real shadow entries. Their runs are computed word by word on a memory of 12 frames; only clearing a frame that
+-- is clear, which would take most of the time, goes by a law (proofs/Clear.antt).
 -- Assumes nothing.
 use Prim.Native.Nat.{ℕ, _*_}
 use mathlib.Core.Bool.{Bool, true, false, cond}
@@ -14,7 +16,6 @@ use Rattle.spec.specs.declared.Answer.the-variants as answer
 use Rattle.spec.specs.Config.{Config, guestBase}
 use Rattle.spec.specs.Entry.{pageOf, wordOf, indexes}
 use Rattle.spec.specs.Plain.{next}
-use Rattle.spec.specs.declared.Call.{Call}
 use Rattle.spec.specs.declared.Call.the-variants.{Root as root, Map as map, Unmap as unmap, SetMark as setMark, ClearMark as clearMark, Load as load, Store as store, Device as device}
 use Rattle.words.specs.After.{After}
 use Rattle.words.specs.Words.{wordIn, setIn}
@@ -67,15 +68,15 @@ missing (Protected n) = Absent n
 missing (HostAbsent g) = HostAbsent g
 missing (HostReadOnly g) = HostAbsent g
 
-abbrev pub told-missing : Answer → Answer
-told-missing answer.Ok = answer.Ok
-told-missing (answer.Value v n e) = answer.Value v n e
-told-missing (answer.Done n e) = answer.Done n e
-told-missing (answer.Faulted x n e) = answer.Faulted (missing x) n e
-told-missing (answer.Refused n) = answer.Refused n
+abbrev pub missingIn : Answer → Answer
+missingIn answer.Ok = answer.Ok
+missingIn (answer.Value v n e) = answer.Value v n e
+missingIn (answer.Done n e) = answer.Done n e
+missingIn (answer.Faulted x n e) = answer.Faulted (missing x) n e
+missingIn (answer.Refused n) = answer.Refused n
 
 unfoldable pub readOnlyMissing : Calls
-readOnlyMissing x r m = saying told-missing (callOf x r m)
+readOnlyMissing x r m = saying missingIn (callOf x r m)
 
 -- every value is the first guest word, whatever the address
 abbrev pub always : ℕ → Answer → Answer
@@ -182,7 +183,7 @@ unfoldable pub markKeeping : Bool → Record → List ℕ → ℕ → ℕ → Af
 markKeeping b r m a n =
     judged r m (cond (eqb (markRefusal b r a n) 0) (ended (withMarks r (marksAfter b (r .guest .marks) (keyOf n (pageOf a)))) answer.Ok m) (refused r (markRefusal b r a n) m))
 
--- nothing is ever dropped but by a root load
+-- nothing is dropped after the first fill, but by a root load
 unfoldable pub neverDrops : Calls
 neverDrops (root g) r m = callOf (root g) r m
 neverDrops (map g f w) r m = mapKeeping r m g f w

@@ -1,12 +1,11 @@
 -- Units that keep a path which they should drop, and one that drops too much: each is refused by demand 3, on a run that tells the story
 -- of the fault.
 -- Assumes nothing.
-use mathlib.Core.Path.{_≡_, refl, sym, ap, _∙_}
+use mathlib.Core.Path.{_≡_, refl, ap}
 use Prim.Native.Nat.{ℕ, _+_, _^_}
-use mathlib.Core.Bool.{Bool, true, false}
+use mathlib.Core.Bool.{Bool, true}
 use mathlib.Core.List.{List, [], _∷_, _++_}
-use lib.ListN.{set}
-use Rattle.spec.specs.Answer.{Line, value, no}
+use Rattle.spec.specs.Answer.{value, no}
 use Rattle.spec.specs.declared.Call.{Call}
 use Rattle.spec.specs.declared.Call.the-variants.{Map as map, SetMark as setMark, ClearMark as clearMark, Load as load, Store as store, Device as device}
 use Rattle.spec.specs.Run.{step}
@@ -16,10 +15,11 @@ use Rattle.record.specs.declared.Record.{Record}
 use Rattle.record.specs.Record.{configOf}
 use Rattle.calls.specs.Calls.{hostTop, mapCall, callOf}
 use Rattle.wrong_units.specs.Unit.{afterBy, specified, Demand-3, told, unitBy}
-use Rattle.wrong_units.specs.Wrong.{storeWith, deviceWith, putKeeping, mapKeeping, unmapKeeping, markKeeping, neverDrops, staleMapping, staleSwitch, deviceForgotten, byOwnPage, forgetsAtStore}
-use Rattle.wrong_units.proofs.Mapped.{calling, specifying, memory, openedRecord, openedWords, tables, firstRecord}
+use Rattle.wrong_units.specs.Wrong.{storeWith, deviceWith, putKeeping, mapKeeping, markKeeping, neverDrops, staleMapping, staleSwitch, deviceForgotten, byOwnPage, forgetsAtStore}
+use Rattle.wrong_units.proofs.Computing.{calling, specifying}
+use Rattle.wrong_units.proofs.Mapped.{memory, openedRecord, openedWords, tables, firstRecord}
 use Rattle.wrong_units.proofs.Filled.{others, mappedWords, other-maps, marked, marks-set, heldRecord, heldWords}
-use Rattle.wrong_units.proofs.Refute.{Comes, refuted, goes-on, begin, begins-at, hold, holds-at}
+use Rattle.wrong_units.proofs.Refute.{Comes, refuted, begin, begins-at, hold, holds-at}
 
 -- a frame that was not mapped has no path to drop
 fresh-map : (r : Record) (m : List ℕ) (g f : ℕ) (w : Bool) (k : ℕ) → hostWalkOf (configOf r) (hostTop r) m g ≡ host.Absent k → mapKeeping r m g f w ≡ callOf (map g f w) r m

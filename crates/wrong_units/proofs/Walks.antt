@@ -8,20 +8,19 @@ use mathlib.Core.List.{_++_}
 use Rattle.spec.specs.Entry.{wordOf}
 use Rattle.spec.specs.declared.Fault.the-variants.{Absent}
 use Rattle.spec.specs.declared.Answer.the-variants as answer
-use Rattle.spec.specs.Answer.{line, value}
 use Rattle.spec.specs.declared.Call.the-variants.{Load as load}
 use Rattle.words.specs.Words.{wordIn}
 use Rattle.layout.specs.Layout.{page}
 use Rattle.walk.specs.declared.Walked.the-variants as walked
-use Rattle.record.specs.declared.Record.{Record}
 use Rattle.claims.proofs.Plain.{plainWalk}
 use Rattle.wrong_units.specs.Unit.{afterBy, Demand-2, unitBy}
 use Rattle.wrong_units.specs.Wrong.{neverDrops, faultsAll, oneWord, storeWith, putKeeping}
-use Rattle.wrong_units.proofs.Mapped.{calling, firstRecord}
+use Rattle.wrong_units.proofs.Computing.{calling}
+use Rattle.wrong_units.proofs.Mapped.{firstRecord}
 use Rattle.wrong_units.proofs.Filled.{mappedWords, heldRecord, heldWords}
 use Rattle.wrong_units.proofs.Refute.{not-as-walked, begin, hold}
-use Rattle.wrong_units.proofs.Plainly.{plain, faults-comes, one-word-comes}
-use Rattle.wrong_units.proofs.Stale.{through, never-drops-comes}
+use Rattle.wrong_units.proofs.Answers.{plain, faults-comes, one-word-comes}
+use Rattle.wrong_units.proofs.Drops.{through, never-drops-comes}
 
 -- ---- every request faults
 

@@ -2,17 +2,18 @@
 -- guest's frames are mapped; a mark of level 5 makes each request the plain walk, so that no table of the unit's is in the way.
 -- Assumes nothing.
 use mathlib.Core.Path.{_≡_, refl, ap, _∙_}
-use Prim.Native.Nat.{ℕ, _^_}
+use Prim.Native.Nat.{_^_}
 use mathlib.Core.Bool.{true, false}
 use mathlib.Core.List.{List, [], _∷_, _++_}
-use Rattle.spec.specs.Answer.{Line, ok, value, fault, no}
+use Rattle.spec.specs.Answer.{ok, value, fault, no}
 use Rattle.spec.specs.declared.Call.{Call}
 use Rattle.spec.specs.declared.Call.the-variants.{Map as map, SetMark as setMark, Load as load, Store as store}
 use Rattle.spec.specs.Guest.{marksOn}
 use Rattle.spec.specs.Run.{step}
 use Rattle.wrong_units.specs.Unit.{afterBy, specified, Demand-3, told, unitBy}
 use Rattle.wrong_units.specs.Wrong.{flatCounts, readOnlyMissing, oneWord, faultsAll, storesNothing, tablesFull, marksFull}
-use Rattle.wrong_units.proofs.Mapped.{calling, specifying, memory, opens, openedRecord, openedWords, tables, firstRecord, first-map}
+use Rattle.wrong_units.proofs.Computing.{calling, specifying}
+use Rattle.wrong_units.proofs.Mapped.{memory, opens, openedRecord, openedWords, tables, firstRecord, first-map}
 use Rattle.wrong_units.proofs.Filled.{mappedWords, other-maps}
 use Rattle.wrong_units.proofs.Refute.{Comes, refuted, begin, begins-at}
 
