@@ -1,0 +1,52 @@
+-- Names for what has to be opened to compute: one of them on an `unfolding` line opens all the definitions that it names.
+-- Assumes nothing.
+use Prim.Native.Nat.{ℕ}
+use lib.Count.{ones}
+use Rattle.spec.specs.Entry.{bitSet, present, writable, switch, frameOf, malformed, index, indexes, pageOf, wordOf}
+use Rattle.spec.specs.Refusal.{openRefusal, recordFits}
+use Rattle.spec.specs.Walk.{trace}
+use Rattle.spec.specs.Plain.{hosted, entry, next, levels, walk}
+use Rattle.spec.specs.Machine.{hostCost, world}
+use Rattle.spec.specs.Call as spec
+use Rattle.spec.specs.Call.{plain, deviceWalk, machineStep}
+use Rattle.spec.specs.Count.{request, storing, bookStep}
+use Rattle.spec.specs.Refusal.{tests, refusal}
+use Rattle.spec.specs.Run.{step, run, after}
+use Rattle.bits.specs.Bit.{places}
+use Rattle.words.specs.Words.{zeroed}
+use Rattle.pool.specs.Header.{entryIn, highOf, putOf, guestOf, levelOf, parentOf, slotOf, headOf, insideOf, bareOf}
+use Rattle.pool.specs.Pool.{link, followOf, noneOf, withTop, freshOf, freedOf, takeOf}
+use Rattle.area.specs.Tree.{lookOf, roomOf, tableOf, topOf, enterOf, attachOf, descendOf, downOf, placeOf, insertOf}
+use Rattle.prune.specs.Remove.{detachOf, releaseTop, releaseOf, lastIndex}
+use Rattle.area_laws.specs.Host.{hostEntry}
+use Rattle.layout.specs.Layout.{leafOf}
+use Rattle.host.specs.Walk.{hostWalkOf}
+use Rattle.host.specs.Map.{mapOf}
+use Rattle.walk.specs.Memory.{memoryWorld, walkedOf, noted, framesOf, trailFrom}
+use Rattle.marks.specs.Table as marks
+use Rattle.marks.specs.Key.{keyOf, levelAt, depthOf}
+use Rattle.marks.specs.Reading.{marksOf, markOf}
+use Rattle.record.specs.Record.{isTable, poolFits, poolsFit, fitsOf, headRoot, headTables, withMarks}
+use Rattle.shadow.specs.Held.{heldOf, entryFor}
+use Rattle.shadow.specs.Fill.{fillOf}
+use Rattle.shadow.specs.Watch.{watchesOf, watchedFrom, watchedOf}
+use Rattle.drops.specs.Cut.{isLeaf, kindOf, aboveOf, upFrom}
+use Rattle.drops.specs.Drop.{goesOf, clearOne, clearFrom, settleOf, sweepOf, visitOf, scanFrom, scanOf, tableNamed, holderFrom, dropPrefixOf}
+use Rattle.translate.specs.Translate.{directOf, servedOf, servesOf, foundOf, filledOf, missedOf, plainOf, translateOf}
+use Rattle.request.specs.Access as access
+use Rattle.calls.specs.Calls.{headHeld, headHost, translatedOf, loadCall, storeCall, deviceCall, rootCall, unmappedOf, mapCall, markedOf, setMarkCall, clearMarkCall, callOf}
+
+-- a call of the unit, but for what puts a path into an area
+unfoldable pub besides : ℕ
+unfolding ones levelAt bitSet present writable switch frameOf malformed index indexes pageOf wordOf trace hosted entry next levels walk openRefusal recordFits entryIn highOf putOf guestOf levelOf parentOf slotOf headOf insideOf bareOf link followOf noneOf withTop lookOf roomOf hostEntry leafOf hostWalkOf mapOf memoryWorld walkedOf framesOf trailFrom noted keyOf depthOf marks.keys marks.inserted marks.tableOf marks.withKey marks.withoutKey marks.setRefusal marks.clearRefusal marks.placeIn marks.placeOf places marksOf markOf isTable poolFits poolsFit fitsOf headRoot headTables withMarks heldOf entryFor fillOf watchesOf watchedFrom watchedOf kindOf isLeaf aboveOf upFrom goesOf clearOne clearFrom settleOf sweepOf visitOf scanFrom scanOf tableNamed holderFrom dropPrefixOf detachOf releaseTop releaseOf lastIndex directOf servedOf servesOf foundOf filledOf missedOf plainOf translateOf access.putOf access.loadOf access.storeOf access.deviceOf headHeld headHost translatedOf loadCall storeCall deviceCall rootCall unmappedOf mapCall markedOf setMarkCall clearMarkCall callOf
+besides = 0
+
+-- a whole call
+unfoldable pub calling : ℕ
+unfolding besides zeroed freshOf freedOf takeOf tableOf topOf enterOf attachOf descendOf downOf placeOf insertOf
+calling = 0
+
+-- a step of the specification
+unfoldable pub specifying : ℕ
+unfolding bitSet present writable frameOf malformed index indexes pageOf wordOf trace hosted entry next levels walk hostCost world plain deviceWalk spec.access machineStep request storing bookStep tests refusal step run after
+specifying = 0

@@ -1,0 +1,10 @@
+pub mod Ours
+pub mod Clear
+pub mod Computing
+pub mod Mapped
+pub mod Filled
+pub mod Refute
+pub mod Answers
+pub mod Drops
+pub mod Walks
+pub mod InFull

@@ -1,0 +1,116 @@
+-- Our unit meets the demands, as they are stated of any unit; and so does every unit that says and leaves the same where machine and
+-- book stand behind it.
+-- Assumes nothing.
+use mathlib.Core.Path.{_≡_, refl, sym, ap, _∙_, subst}
+use Prim.Native.Nat.{ℕ}
+use mathlib.Core.Bool.{true, false, cond}
+use mathlib.Core.List.{List, [], _∷_}
+use lib.ListN.{length}
+use Rattle.spec.specs.Answer.{Line, line}
+use Rattle.spec.specs.declared.Call.{Call}
+use Rattle.spec.specs.declared.Call.the-variants.{Store as store, Device as device}
+use Rattle.spec.specs.Config.{Config}
+use Rattle.spec.specs.Entry.{pageOf}
+use Rattle.spec.specs.Plain.{next}
+use Rattle.spec.specs.Run.{State, step, opened}
+use Rattle.words.specs.After.{After}
+use Rattle.walk.specs.declared.Walked.{Walked}
+use Rattle.walk.specs.declared.Walked.the-variants as walked
+use Rattle.walk.specs.Memory.{walkedOf}
+use Rattle.record.specs.declared.Record.{Record}
+use Rattle.record.specs.Record.{configOf, configBy}
+use Rattle.record.specs.Open.{grantedOf}
+use Rattle.translate.specs.declared.Held.{Held}
+use Rattle.translate.specs.declared.Translated.{Translated}
+use Rattle.request.specs.Access.{putOf, storeBy, storeOf, deviceBy, deviceOf}
+use Rattle.calls.specs.declared.Reply.{Reply}
+use Rattle.calls.specs.Calls.{hostTop, heldOf, judged, refused, servedBy, addressOk, deviceOk, translatedOf, openCall, callOf, loadCall, storeCall, deviceCall}
+use Rattle.claims.specs.Run.{guestArea, unitRun, unitAfter}
+use Rattle.claims.specs.Counted.{SameWords, countedOf, touchedOf}
+use Rattle.claims.proofs.Invariant.{Inv, at}
+use Rattle.claims.proofs.Opens.{opened-inv, granted-call}
+use Rattle.claims.proofs.Demands.{follows, at-self, opened-config, demand-3}
+use Rattle.claims.proofs.Plain.{requestAt, isStore, plainWalk, AsWalked, Unrefused, demand-2}
+use Rattle.claims.proofs.Counted.{run-counted-load}
+use Rattle.wrong_units.specs.Unit.{runBy, afterBy, Demand-3, Demand-2, Calls, told, unitBy, cangrieb, WordsCounted}
+use Rattle.wrong_units.specs.Wrong.{storeAs, storeWith, deviceAs, deviceWith}
+
+-- a table of calls that does what ours does on every record and memory that stand for a machine and a book
+abbrev pub AsOurs : Calls → Type 0
+AsOurs f = (s : State) (r : Record) (m : List ℕ) → Inv s r m → (x : Call) → told (f x r m) ≡ told (callOf x r m)
+
+-- its runs are ours
+pub same-run : (f : Calls) → AsOurs f → (xs : List Call) (s : State) (r : Record) (m : List ℕ) → s .config ≡ configOf r → Inv s r m → runBy (unitBy f) xs (r, m) ≡ unitRun xs r m
+unfolding runBy unitRun
+same-run f k [] s r m e i = refl
+same-run f k (x ∷ xs) s r m e i =
+    let l = follows x s r m i in
+    let u = callOf x r m in
+    let now : step x (at (configOf r) s) ≡ step x s = ap (step x) (at-self (configOf r) s e) in
+    ap (λ (o : Line × (Record × List ℕ)). (o .0, guestArea (o .1 .0) (o .1 .1)) ∷ runBy (unitBy f) xs (o .1)) (k s r m i x)
+    ∙ ap (λ ys. (line (u .result .answer), guestArea (u .result .unit) (u .memory)) ∷ ys)
+    (same-run f k xs ((step x s) .1) (u .result .unit) (u .memory) (sym (l .config ∙ ap (λ o. o .1 .config) now)) (subst (λ o. Inv (o .1) (u .result .unit) (u .memory)) now (l .next)))
+
+pub as-ours-demand-3 : (f : Calls) → AsOurs f → Demand-3 (unitBy f)
+unfolding Demand-3
+as-ours-demand-3 f k m h s xs g =
+    let c = configBy (length m) h s in
+    let o = grantedOf m h s in
+    ap (λ (e : After Reply). runBy (unitBy f) xs (e .result .unit, e .memory)) (granted-call m h s g)
+    ∙ same-run f k xs (opened c m) (o .result) (o .memory) (sym (opened-config m h s)) (opened-inv m h s g)
+    ∙ ap (λ (e : After Reply). unitRun xs (e .result .unit) (e .memory)) (sym (granted-call m h s g))
+    ∙ demand-3 m h s xs g
+
+-- our unit
+pub cangrieb-demand-3 : Demand-3 cangrieb
+cangrieb-demand-3 = as-ours-demand-3 callOf (λ s r m i x. refl)
+
+after-is : (xs : List Call) (r : Record) (m : List ℕ) (e : After Reply) → r ≡ e .result .unit → m ≡ e .memory
+    → let u = unitAfter xs r m e in afterBy cangrieb xs (r, m) ≡ (u .result .unit, u .memory)
+unfolding afterBy unitAfter
+after-is [] r m e p q = λ i. (p i, q i)
+after-is (x ∷ xs) r m e p q = after-is xs (callOf x r m .result .unit) (callOf x r m .memory) (callOf x r m) refl refl
+
+pub cangrieb-demand-2 : Demand-2 callOf
+unfolding Demand-2
+cangrieb-demand-2 m h s xs g a v =
+    let o = openCall m h s in
+    subst Walks (sym (after-is xs (o .result .unit) (o .memory) o refl refl)) (demand-2 m h s xs g a v)
+  where
+    Walks : Record × List ℕ → Type 0
+    Walks e = Unrefused (callOf (requestAt a v) (e .0) (e .1) .result .answer) → AsWalked (e .0) (e .1) a v (callOf (requestAt a v) (e .0) (e .1)) (plainWalk (e .0) (e .1) (isStore v) a)
+
+pub cangrieb-words-counted : WordsCounted callOf
+unfolding WordsCounted callOf
+cangrieb-words-counted m h s xs g a k =
+    let o = openCall m h s in
+    subst Same (sym (after-is xs (o .result .unit) (o .memory) o refl refl))
+    (λ n l c t. ap (λ (x : After Reply). line (x .result .answer)) (run-counted-load m h s xs g a k n l c t))
+  where
+    Same : Record × List ℕ → Type 0
+    Same e = (n : List ℕ) → length n ≡ length (e .1) → SameWords (e .1) n (countedOf (e .0) (e .1) false a) → SameWords (e .1) n (touchedOf (e .0) (e .1) false a)
+        → line (loadCall (e .0) n a .result .answer) ≡ line (loadCall (e .0) (e .1) a .result .answer)
+
+-- ---- the calls of specs/Wrong.antt that take an argument for what is changed are ours with our own argument
+
+store-as-ours : (c : Config) (h : Held) (a v : ℕ) (o : After Translated) (w : Walked) → storeAs putOf c h a v o w ≡ storeBy c h a v o w
+store-as-ours c h a v o (walked.Arrived t w n) = refl
+store-as-ours c h a v o (walked.Faulted x n) = refl
+store-as-ours c h a v o walked.Damaged = refl
+
+pub store-with-ours : (r : Record) (m : List ℕ) (a v : ℕ) → storeWith putOf r m a v ≡ callOf (store a v) r m
+unfolding storeWith callOf storeCall storeOf translatedOf
+store-with-ours r m a v =
+    let o = translatedOf r m true a in
+    ap (λ s. judged r m (cond (addressOk r a) (servedBy r s) (refused r 4 m))) (store-as-ours (configOf r) (heldOf r) a v o (o .result .walked))
+
+device-as-ours : (c : Config) (m : List ℕ) (h : Held) (a v : ℕ) (w : Walked) → deviceAs putOf c m h a v w ≡ deviceBy c m h a v w
+device-as-ours c m h a v (walked.Arrived t w n) = refl
+device-as-ours c m h a v (walked.Faulted x n) = refl
+device-as-ours c m h a v walked.Damaged = refl
+
+pub device-with-ours : (r : Record) (m : List ℕ) (a v : ℕ) → deviceWith putOf r m a v ≡ callOf (device a v) r m
+unfolding deviceWith callOf deviceCall deviceOf
+device-with-ours r m a v =
+    ap (λ s. judged r m (cond (deviceOk r a) (servedBy r s) (refused r 4 m)))
+    (device-as-ours (configOf r) m (heldOf r) a v (walkedOf (configOf r) (hostTop r) m 0 (next true true (pageOf a) true)))

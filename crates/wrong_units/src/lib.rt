@@ -1,0 +1,1 @@
+// Wrong units, and that the claims refuse each; no code.
