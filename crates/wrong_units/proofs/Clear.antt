@@ -15,9 +15,9 @@ use Rattle.words.specs.Words.{zeroed}
 use Rattle.pool.specs.declared.Area.{Area}
 use Rattle.pool.specs.declared.Pool.{Pool}
 use Rattle.pool.specs.declared.Way.the-variants.{To, Not}
-use Rattle.pool.specs.Header.{entryIn, putOf, headOf}
+use Rattle.pool.specs.Header.{entryAtOf, putEntryOf, headerOf}
 use Rattle.pool.specs.Pool.{link, followOf, end, poolOf, withTop, freshOf, takeOf}
-use Rattle.area.specs.Tree.{tableOf, topOf, enterOf, attachOf, descendOf, downOf}
+use Rattle.area.specs.Tree.{newTableOf, newTopOf, enterOf, attachOf, descendOf, downOf}
 
 -- the first n words are 0
 abbrev pub zeros : ℕ → List ℕ → Bool
@@ -60,13 +60,13 @@ take-clear a p m r = rw (r .room, r .noFreed, r .fresh, zeroed-clear m ((a .base
 
 -- as the top table, where there is none
 pub enter-clear : (a : Area) (p : Pool) (m : List ℕ) (guest : ℕ) → Ready a p m → followOf (a .base) (a .size) (p .top) ≡ Not
-    → enterOf a p m guest ≡ end (withTop (taken p) (link (a .base + p .fresh))) (To (a .base + p .fresh)) (headOf m (a .base + p .fresh) guest (a .levels) 0 0)
-unfolding enterOf topOf tableOf
+    → enterOf a p m guest ≡ end (withTop (taken p) (link (a .base + p .fresh))) (To (a .base + p .fresh)) (headerOf m (a .base + p .fresh) guest (a .levels) 0 0)
+unfolding enterOf newTopOf newTableOf
 enter-clear a p m guest r e = rw (e, take-clear a p m r)
 
 -- as a lower one, on the way of a path
-pub down-clear : (a : Area) (gs : List ℕ) (p : Pool) (m : List ℕ) (d f i j : ℕ) (is : List ℕ) (e : ℕ) → Ready a p m → followOf (a .base) (a .size) (entryIn m f i) ≡ Not
+pub down-clear : (a : Area) (gs : List ℕ) (p : Pool) (m : List ℕ) (d f i j : ℕ) (is : List ℕ) (e : ℕ) → Ready a p m → followOf (a .base) (a .size) (entryAtOf m f i) ≡ Not
     → downOf a gs p m d f i (j ∷ is) e
-    ≡ downOf a gs (taken p) (putOf (headOf m (a .base + p .fresh) (getD gs (d + 1) 0) (a .levels - (d + 1)) f i) f i (link (a .base + p .fresh))) (d + 1) (a .base + p .fresh) j is e
-unfolding downOf descendOf attachOf tableOf
+    ≡ downOf a gs (taken p) (putEntryOf (headerOf m (a .base + p .fresh) (getD gs (d + 1) 0) (a .levels - (d + 1)) f i) f i (link (a .base + p .fresh))) (d + 1) (a .base + p .fresh) j is e
+unfolding downOf descendOf attachOf newTableOf
 down-clear a gs p m d f i j is e r n = rw (n, take-clear a p m r)

@@ -14,9 +14,9 @@ use Rattle.spec.specs.Refusal.{tests, refusal}
 use Rattle.spec.specs.Run.{step, run, after}
 use Rattle.bits.specs.Bit.{places}
 use Rattle.words.specs.Words.{zeroed}
-use Rattle.pool.specs.Header.{entryIn, highOf, putOf, guestOf, levelOf, parentOf, slotOf, headOf, insideOf, bareOf}
+use Rattle.pool.specs.Header.{entryAtOf, highOf, putEntryOf, guestOf, levelOf, parentOf, slotOf, headerOf, insideOf, bareOf}
 use Rattle.pool.specs.Pool.{link, followOf, noneOf, withTop, freshOf, freedOf, takeOf}
-use Rattle.area.specs.Tree.{lookOf, roomOf, tableOf, topOf, enterOf, attachOf, descendOf, downOf, placeOf, insertOf}
+use Rattle.area.specs.Tree.{lookupOf, roomOf, newTableOf, newTopOf, enterOf, attachOf, descendOf, downOf, placeOf, insertOf}
 use Rattle.prune.specs.Remove.{detachOf, releaseTop, releaseOf, lastIndex}
 use Rattle.area_laws.specs.Host.{hostEntry}
 use Rattle.layout.specs.Layout.{leafOf}
@@ -30,20 +30,20 @@ use Rattle.record.specs.Record.{isTable, poolFits, poolsFit, fitsOf, headRoot, 
 use Rattle.shadow.specs.Held.{heldOf, entryFor}
 use Rattle.shadow.specs.Fill.{fillOf}
 use Rattle.shadow.specs.Watch.{watchesOf, watchedFrom, watchedOf}
-use Rattle.drops.specs.Cut.{isLeaf, kindOf, aboveOf, upFrom}
-use Rattle.drops.specs.Drop.{goesOf, clearOne, clearFrom, settleOf, sweepOf, visitOf, scanFrom, scanOf, tableNamed, holderFrom, dropPrefixOf}
+use Rattle.drops.specs.Cut.{isLeaf, kindOf, linkUpOf, linksUpOf}
+use Rattle.drops.specs.Drop.{goesOf, clearOneOf, clearLeavesOf, settleOf, sweepOf, visitOf, scanFrom, scanOf, tableNamed, holderOf, dropPrefixOf}
 use Rattle.translate.specs.Translate.{directOf, servedOf, servesOf, foundOf, filledOf, missedOf, plainOf, translateOf}
 use Rattle.request.specs.Access as access
 use Rattle.calls.specs.Calls.{headHeld, headHost, translatedOf, loadCall, storeCall, deviceCall, rootCall, unmappedOf, mapCall, markedOf, setMarkCall, clearMarkCall, callOf}
 
 -- a call of the unit, but for what puts a path into an area
 unfoldable pub besides : ℕ
-unfolding ones levelAt bitSet present writable switch frameOf malformed index indexes pageOf wordOf trace hosted entry next levels walk openRefusal recordFits entryIn highOf putOf guestOf levelOf parentOf slotOf headOf insideOf bareOf link followOf noneOf withTop lookOf roomOf hostEntry leafOf hostWalkOf mapOf memoryWorld walkedOf framesOf trailFrom noted keyOf depthOf marks.keys marks.inserted marks.tableOf marks.withKey marks.withoutKey marks.setRefusal marks.clearRefusal marks.placeIn marks.placeOf places marksOf markOf isTable poolFits poolsFit fitsOf headRoot headTables withMarks heldOf entryFor fillOf watchesOf watchedFrom watchedOf kindOf isLeaf aboveOf upFrom goesOf clearOne clearFrom settleOf sweepOf visitOf scanFrom scanOf tableNamed holderFrom dropPrefixOf detachOf releaseTop releaseOf lastIndex directOf servedOf servesOf foundOf filledOf missedOf plainOf translateOf access.putOf access.loadOf access.storeOf access.deviceOf headHeld headHost translatedOf loadCall storeCall deviceCall rootCall unmappedOf mapCall markedOf setMarkCall clearMarkCall callOf
+unfolding ones levelAt bitSet present writable switch frameOf malformed index indexes pageOf wordOf trace hosted entry next levels walk openRefusal recordFits entryAtOf highOf putEntryOf guestOf levelOf parentOf slotOf headerOf insideOf bareOf link followOf noneOf withTop lookupOf roomOf hostEntry leafOf hostWalkOf mapOf memoryWorld walkedOf framesOf trailFrom noted keyOf depthOf marks.keys marks.inserted marks.tableOf marks.withKey marks.withoutKey marks.setRefusal marks.clearRefusal marks.placeIn marks.placeOf places marksOf markOf isTable poolFits poolsFit fitsOf headRoot headTables withMarks heldOf entryFor fillOf watchesOf watchedFrom watchedOf kindOf isLeaf linkUpOf linksUpOf goesOf clearOneOf clearLeavesOf settleOf sweepOf visitOf scanFrom scanOf tableNamed holderOf dropPrefixOf detachOf releaseTop releaseOf lastIndex directOf servedOf servesOf foundOf filledOf missedOf plainOf translateOf access.putWordOf access.loadOf access.storeOf access.deviceOf headHeld headHost translatedOf loadCall storeCall deviceCall rootCall unmappedOf mapCall markedOf setMarkCall clearMarkCall callOf
 besides = 0
 
 -- a whole call
 unfoldable pub calling : ℕ
-unfolding besides zeroed freshOf freedOf takeOf tableOf topOf enterOf attachOf descendOf downOf placeOf insertOf
+unfolding besides zeroed freshOf freedOf takeOf newTableOf newTopOf enterOf attachOf descendOf downOf placeOf insertOf
 calling = 0
 
 -- a step of the specification

@@ -18,14 +18,15 @@ use Rattle.spec.specs.Refusal.{allOf}
 use Rattle.spec_laws.proofs.Lists.{and-left, and-right}
 use Rattle.words.specs.After.{After}
 use Rattle.words.specs.Words.{wordIn}
-use Rattle.area_laws.proofs.Local.{entriesRead}
+use Rattle.area.specs.Tree.{entriesRead}
 use Rattle.walk.specs.declared.Walked.{Walked}
 use Rattle.walk.specs.declared.Walked.the-variants as walked
 use Rattle.record.specs.declared.Record.{Record}
 use Rattle.calls.specs.declared.Reply.{Reply}
 use Rattle.calls.specs.Calls.{callOf}
 use Rattle.claims.specs.Counted.{Word, SameWords, HeldOrPlain, walkWords, pathWords, countedOf, touchedOf}
-use Rattle.claims.proofs.Plain.{plainWalk, AsWalked, Unrefused, as-walked}
+use Rattle.claims.specs.Plain.{plainWalk, AsWalked, Unrefused}
+use Rattle.claims.proofs.Plain.{as-walked}
 use Rattle.wrong_units.specs.Unit.{afterBy, specified, Demand-3, WordsCounted, unitBy}
 use Rattle.wrong_units.specs.Wrong.{rewalked, walksInFull}
 use Rattle.wrong_units.proofs.Ours.{AsOurs, as-ours-demand-3}

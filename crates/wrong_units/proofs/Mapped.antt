@@ -14,9 +14,9 @@ use Rattle.pool.specs.declared.Pool.{Pool}
 use Rattle.pool.specs.declared.Area.{Area}
 use Rattle.pool.specs.declared.Way.the-variants.{To, Not}
 use Rattle.pool.specs.declared.Went.{Went}
-use Rattle.pool.specs.Header.{entryIn, putOf, headOf, insideOf}
+use Rattle.pool.specs.Header.{entryAtOf, putEntryOf, headerOf, insideOf}
 use Rattle.pool.specs.Pool.{link, followOf, end, noneOf, withTop}
-use Rattle.area.specs.Tree.{tableOf, enterOf, downOf, placeOf, insertOf}
+use Rattle.area.specs.Tree.{newTableOf, enterOf, downOf, placeOf, insertOf}
 use Rattle.layout.specs.Layout.{page}
 use Rattle.host.specs.Map.{hostArea}
 use Rattle.marks.specs.Table as marks
@@ -96,7 +96,7 @@ unfolding noneOf followOf present bitSet
 no-top = refl
 
 enters : grantedBy (enteredOn memory) ≡ ended openedRecord answer.Ok openedWords
-unfolding noneOf withTop link headOf firstOf
+unfolding noneOf withTop link headerOf firstOf
 enters = ap grantedBy (enter-clear (hostArea (configBy 6144 4 4)) noneOf memory 0 ready no-top)
 
 pub opens : openCall memory 4 4 ≡ ended openedRecord answer.Ok openedWords
@@ -126,7 +126,7 @@ inUse n = record { fresh = n; free = 0; used = n; top = 1 }
 
 -- the memory once the tables of level 3, 2 and 1 hang in it
 abbrev hung : List ℕ → ℕ → List ℕ
-hung m f = putOf (headOf m (suc f) 0 (3 - f) f 0) f 0 (link (suc f))
+hung m f = putEntryOf (headerOf m (suc f) 0 (3 - f) f 0) f 0 (link (suc f))
 
 abbrev hung3 : List ℕ
 hung3 = hung openedWords 0
@@ -149,15 +149,15 @@ ready1 : Ready area (inUse 3) hung2
 unfolding calling
 ready1 = record { room = refl; noFreed = refl; fresh = refl; clear = tt }
 
-none3 : followOf 0 4 (entryIn openedWords 0 0) ≡ Not
+none3 : followOf 0 4 (entryAtOf openedWords 0 0) ≡ Not
 unfolding calling
 none3 = refl
 
-none2 : followOf 0 4 (entryIn hung3 1 0) ≡ Not
+none2 : followOf 0 4 (entryAtOf hung3 1 0) ≡ Not
 unfolding calling
 none2 = refl
 
-none1 : followOf 0 4 (entryIn hung2 2 0) ≡ Not
+none1 : followOf 0 4 (entryAtOf hung2 2 0) ≡ Not
 unfolding calling
 none1 = refl
 

@@ -22,7 +22,7 @@ use Rattle.record.specs.Record.{configOf, configBy}
 use Rattle.record.specs.Open.{grantedOf}
 use Rattle.translate.specs.declared.Held.{Held}
 use Rattle.translate.specs.declared.Translated.{Translated}
-use Rattle.request.specs.Access.{putOf, storeBy, storeOf, deviceBy, deviceOf}
+use Rattle.request.specs.Access.{putWordOf, storeBy, storeOf, deviceBy, deviceOf}
 use Rattle.calls.specs.declared.Reply.{Reply}
 use Rattle.calls.specs.Calls.{hostTop, heldOf, judged, refused, servedBy, addressOk, deviceOk, translatedOf, openCall, callOf, loadCall, storeCall, deviceCall}
 use Rattle.claims.specs.Run.{guestArea, unitRun, unitAfter}
@@ -30,7 +30,8 @@ use Rattle.claims.specs.Counted.{SameWords, countedOf, touchedOf}
 use Rattle.claims.proofs.Invariant.{Inv, at}
 use Rattle.claims.proofs.Opens.{opened-inv, granted-call}
 use Rattle.claims.proofs.Demands.{follows, at-self, opened-config, demand-3}
-use Rattle.claims.proofs.Plain.{requestAt, isStore, plainWalk, AsWalked, Unrefused, demand-2}
+use Rattle.claims.specs.Plain.{requestAt, isStore, plainWalk, AsWalked, Unrefused}
+use Rattle.claims.proofs.Plain.{demand-2}
 use Rattle.claims.proofs.Counted.{run-counted-load}
 use Rattle.wrong_units.specs.Unit.{runBy, afterBy, Demand-3, Demand-2, Calls, told, unitBy, cangrieb, WordsCounted}
 use Rattle.wrong_units.specs.Wrong.{storeAs, storeWith, deviceAs, deviceWith}
@@ -93,23 +94,23 @@ cangrieb-words-counted m h s xs g a k =
 
 -- ---- the calls of specs/Wrong.antt that take an argument for what is changed are ours with our own argument
 
-store-as-ours : (c : Config) (h : Held) (a v : ℕ) (o : After Translated) (w : Walked) → storeAs putOf c h a v o w ≡ storeBy c h a v o w
+store-as-ours : (c : Config) (h : Held) (a v : ℕ) (o : After Translated) (w : Walked) → storeAs putWordOf c h a v o w ≡ storeBy c h a v o w
 store-as-ours c h a v o (walked.Arrived t w n) = refl
 store-as-ours c h a v o (walked.Faulted x n) = refl
 store-as-ours c h a v o walked.Damaged = refl
 
-pub store-with-ours : (r : Record) (m : List ℕ) (a v : ℕ) → storeWith putOf r m a v ≡ callOf (store a v) r m
+pub store-with-ours : (r : Record) (m : List ℕ) (a v : ℕ) → storeWith putWordOf r m a v ≡ callOf (store a v) r m
 unfolding storeWith callOf storeCall storeOf translatedOf
 store-with-ours r m a v =
     let o = translatedOf r m true a in
     ap (λ s. judged r m (cond (addressOk r a) (servedBy r s) (refused r 4 m))) (store-as-ours (configOf r) (heldOf r) a v o (o .result .walked))
 
-device-as-ours : (c : Config) (m : List ℕ) (h : Held) (a v : ℕ) (w : Walked) → deviceAs putOf c m h a v w ≡ deviceBy c m h a v w
+device-as-ours : (c : Config) (m : List ℕ) (h : Held) (a v : ℕ) (w : Walked) → deviceAs putWordOf c m h a v w ≡ deviceBy c m h a v w
 device-as-ours c m h a v (walked.Arrived t w n) = refl
 device-as-ours c m h a v (walked.Faulted x n) = refl
 device-as-ours c m h a v walked.Damaged = refl
 
-pub device-with-ours : (r : Record) (m : List ℕ) (a v : ℕ) → deviceWith putOf r m a v ≡ callOf (device a v) r m
+pub device-with-ours : (r : Record) (m : List ℕ) (a v : ℕ) → deviceWith putWordOf r m a v ≡ callOf (device a v) r m
 unfolding deviceWith callOf deviceCall deviceOf
 device-with-ours r m a v =
     ap (λ s. judged r m (cond (deviceOk r a) (servedBy r s) (refused r 4 m)))

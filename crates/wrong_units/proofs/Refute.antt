@@ -23,7 +23,7 @@ use Rattle.record.specs.Record.{configOf, configBy}
 use Rattle.record.specs.Open.{refusalOf}
 use Rattle.calls.specs.Calls.{depthAt, callOf}
 use Rattle.claims.specs.Run.{machineRun}
-use Rattle.claims.proofs.Plain.{plainWalk, AsWalked, Unrefused}
+use Rattle.claims.specs.Plain.{plainWalk, AsWalked, Unrefused}
 use Rattle.wrong_units.specs.Unit.{MemoryUnit, runBy, afterBy, specified, Demand-3, Demand-2, Calls, told, unitBy}
 use Rattle.wrong_units.proofs.Mapped.{memory, grants, opens, openedRecord, openedWords, firstRecord, tables, first-map}
 use Rattle.wrong_units.proofs.Filled.{others, mappedWords, marked, heldRecord, heldWords, fills}

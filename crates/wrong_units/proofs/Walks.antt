@@ -12,7 +12,7 @@ use Rattle.spec.specs.declared.Call.the-variants.{Load as load}
 use Rattle.words.specs.Words.{wordIn}
 use Rattle.layout.specs.Layout.{page}
 use Rattle.walk.specs.declared.Walked.the-variants as walked
-use Rattle.claims.proofs.Plain.{plainWalk}
+use Rattle.claims.specs.Plain.{plainWalk}
 use Rattle.wrong_units.specs.Unit.{afterBy, Demand-2, unitBy}
 use Rattle.wrong_units.specs.Wrong.{neverDrops, faultsAll, oneWord, storeWith, putKeeping}
 use Rattle.wrong_units.proofs.Computing.{calling}

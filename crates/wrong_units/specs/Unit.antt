@@ -17,7 +17,7 @@ use Rattle.record.specs.Open.{refusalOf}
 use Rattle.calls.specs.declared.Reply.{Reply}
 use Rattle.calls.specs.Calls.{openCall, callOf}
 use Rattle.claims.specs.Run.{guestArea, machineRun}
-use Rattle.claims.proofs.Plain.{requestAt, isStore, plainWalk, AsWalked, Unrefused}
+use Rattle.claims.specs.Plain.{requestAt, isStore, plainWalk, AsWalked, Unrefused}
 use Rattle.claims.specs.Counted.{SameWords, HeldOrPlain, countedOf, touchedOf}
 
 -- ---- any unit

@@ -40,7 +40,7 @@ use Rattle.request.specs.Access as access
 use Rattle.request.specs.Access.{serving, stored, writtenBy}
 use Rattle.calls.specs.declared.Reply.{Reply}
 use Rattle.calls.specs.Calls.{hostTop, heldOf, withHeld, withHost, nothing, ended, refused, judged, servedBy, addressOk, deviceOk, translatedOf, markRefusal, marksAfter, callOf}
-use Rattle.claims.proofs.Plain.{plainWalk}
+use Rattle.claims.specs.Plain.{plainWalk}
 use Rattle.wrong_units.specs.Unit.{Calls}
 
 -- ---- what is said of a call, changed
