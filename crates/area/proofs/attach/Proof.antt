@@ -36,11 +36,15 @@ returns c =
 
 returns-2 : tie.Need-returns-2
 unfolding attachOf
-returns-2 c = rw (← c .before .before .before .before .new-table .ensures, c .enum-told .given .1)
+returns-2 c =
+    let new-table = c .before .before .before .before .new-table in
+    rw (← new-table .ensures, c .enum-told .given .1)
 
 returns-3 : tie.Need-returns-3
 unfolding attachOf
-returns-3 c = rw (← c .before .before .before .before .new-table .ensures, c .enum-told2 .given .1)
+returns-3 c =
+    let new-table = c .before .before .before .before .new-table in
+    rw (← new-table .ensures, c .enum-told2 .given .1)
 
 pub attach-spec : {M : Type 1} → statement M
 attach-spec =

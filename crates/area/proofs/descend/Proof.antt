@@ -9,7 +9,9 @@ enum-told c = search needs
 
 returns : tie.Need-returns
 unfolding descendOf
-returns c = rw (← c .before .before .before .before .entry-at .ensures, ← c .before .before .before .follow .ensures, c .before .h .given .1)
+returns c =
+    let entry-at = c .before .before .before .before .entry-at in
+    rw (← entry-at .ensures, ← c .before .before .before .follow .ensures, c .before .h .given .1)
 
 returns-2 : tie.Need-returns-2
 unfolding descendOf

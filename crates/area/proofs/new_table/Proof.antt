@@ -27,11 +27,15 @@ returns c =
 
 returns-2 : tie.Need-returns-2
 unfolding newTableOf
-returns-2 c = rw (← c .before .before .before .before .take-frame .ensures, c .enum-told .given .1)
+returns-2 c =
+    let take-frame = c .before .before .before .before .take-frame in
+    rw (← take-frame .ensures, c .enum-told .given .1)
 
 returns-3 : tie.Need-returns-3
 unfolding newTableOf
-returns-3 c = rw (← c .before .before .before .before .take-frame .ensures, c .enum-told2 .given .1)
+returns-3 c =
+    let take-frame = c .before .before .before .before .take-frame in
+    rw (← take-frame .ensures, c .enum-told2 .given .1)
 
 pub new-table-spec : {M : Type 1} → statement M
 new-table-spec =

@@ -15,7 +15,9 @@ returns c =
     rw (eq-eqb _ _ (if1 .taken), with-held .ensures, held-none .ensures, with-host .ensures)
 
 drop-mapping-requires : tie.Need-drop-mapping-requires
-drop-mapping-requires c κs = c .before .before .before .before .before .before .pre
+drop-mapping-requires c κs =
+    let pre = c .before .before .before .before .before .before .pre in
+    pre
 
 returns-2 : tie.Need-returns-2
 unfolding unmappedOf

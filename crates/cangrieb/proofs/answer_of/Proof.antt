@@ -16,7 +16,9 @@ returns-3 : tie.Need-returns-3
 returns-3 c = rw (c .before .a2 .given .1)
 
 returns-4 : tie.Need-returns-4
-returns-4 c = rw (c .before .before .before .before .a3 .given .1, c .before .before .letter-of .ensures, c .before .level-of .ensures, c .frame-of .ensures)
+returns-4 c =
+    let a3 = c .before .before .before .before .a3 in
+    rw (a3 .given .1, c .before .before .letter-of .ensures, c .before .level-of .ensures, c .frame-of .ensures)
 
 returns-5 : tie.Need-returns-5
 returns-5 c = rw (c .before .a4 .given .1)

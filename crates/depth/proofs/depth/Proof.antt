@@ -34,7 +34,10 @@ wanted-from-requires c κs = search needs
 returns-2 : tie.Need-returns-2 Inv-loop μ-loop
 returns-2 c =
     let none = sym (c .before .wanted-from .ensures .0) ∙ keys-end (c .before .before .before .before .before .before .args .place .now) (c .before .wanted-from .result) (c .if2 .taken) in
-    omega (arith, c .before .before .before .loop .inv .1 (pageOf (c .before .before .before .before .before .before .args .address .0)) (c .before .before .before .before .wants-of .ensures), wanted-end (pageOf (c .before .before .before .before .before .before .args .address .0)) (keys (c .before .before .before .before .before .before .args .place .now) (c .before .before .before .loop .rest)) (rw (c .before .before .before .before .wants-of .ensures) at none))
+    let args = c .before .before .before .before .before .before .args in
+    let wants-of = c .before .before .before .before .wants-of in
+    let loop = c .before .before .before .loop in
+    omega (arith, loop .inv .1 (pageOf (args .address .0)) (wants-of .ensures), wanted-end (pageOf (args .address .0)) (keys (args .place .now) (loop .rest)) (rw (wants-of .ensures) at none))
 
 lowest-requires : tie.Need-lowest-requires Inv-loop μ-loop
 lowest-requires c κs = search needs
@@ -58,7 +61,9 @@ loop-again : tie.Need-loop-again Inv-loop μ-loop
 loop-again c =
     let turn = keys-turn (c .before .before .before .before .before .before .before .before .before .before .args .place .now) (c .before .before .before .before .before .wanted-from .result) (c .before .before .before .lowest .result) (c .after-lowest .result) (omega arith) (omega arith) (c .before .before .before .lowest .ensures .0) (c .after-lowest .ensures .0) in
     let first = sym (c .before .before .before .before .before .wanted-from .ensures .0) ∙ turn in
-    (omega arith, λ p e. omega (arith, c .before .before .before .before .before .before .before .loop .inv .1 p e, wanted-turn p (keys (c .before .before .before .before .before .before .before .before .before .before .args .place .now) (c .before .before .before .before .before .before .before .loop .rest)) _ _ (rw e at first), c .before .greater .ensures))
+    let args = c .before .before .before .before .before .before .before .before .before .before .args in
+    let loop = c .before .before .before .before .before .before .before .loop in
+    (omega arith, λ p e. omega (arith, loop .inv .1 p e, wanted-turn p (keys (args .place .now) (loop .rest)) _ _ (rw e at first), c .before .greater .ensures))
 
 pub depth-spec : {M : Type 1} → statement M
 depth-spec =

@@ -39,7 +39,9 @@ returns : tie.Need-returns Inv-loop μ-loop
 unfolding wantedFrom
 returns c =
     let turn = keys-turn (c .before .before .before .before .before .before .args .place .now) (c .before .before .before .before .before .loop .rest) (c .before .before .before .lowest .result) (bitAnd (c .before .before .before .before .before .loop .rest) (c .before .before .before .before .before .loop .rest - 1)) (omega arith) (omega arith) (c .before .before .before .lowest .ensures .0) refl in
-    (turn ∙ sym (sym (c .before .before .before .before .before .loop .inv .1) ∙ ap (wantedFrom (c .before .before .before .before .before .before .args .wants .now)) turn ∙ rw (eq-eqb _ _ (c .if1 .taken))), omega arith)
+    let args = c .before .before .before .before .before .before .args in
+    let loop = c .before .before .before .before .before .loop in
+    (turn ∙ sym (sym (loop .inv .1) ∙ ap (wantedFrom (args .wants .now)) turn ∙ rw (eq-eqb _ _ (c .if1 .taken))), omega arith)
 
 after-lowest-requires : tie.Need-after-lowest-requires Inv-loop μ-loop
 after-lowest-requires c κs = search needs
@@ -51,7 +53,8 @@ loop-again : tie.Need-loop-again Inv-loop μ-loop
 unfolding wantedFrom
 loop-again c =
     let turn = ap (wantedFrom (c .before .before .before .before .before .before .before .args .wants .now)) (keys-turn (c .before .before .before .before .before .before .before .args .place .now) (c .before .before .before .before .before .before .loop .rest) (c .before .before .before .before .lowest .result) (c .after-lowest .result) (omega arith) (omega arith) (c .before .before .before .before .lowest .ensures .0) (c .after-lowest .ensures .0)) in
-    (omega arith, rw (ne-eqb _ _ (c .before .if1 .left)) at (sym turn) ∙ c .before .before .before .before .before .before .loop .inv .1)
+    let loop = c .before .before .before .before .before .before .loop in
+    (omega arith, rw (ne-eqb _ _ (c .before .if1 .left)) at (sym turn) ∙ loop .inv .1)
 
 returns-2 : tie.Need-returns-2 Inv-loop μ-loop
 unfolding wantedFrom

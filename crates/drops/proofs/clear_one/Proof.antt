@@ -34,7 +34,9 @@ returns-3 c =
 
 returns-4 : tie.Need-returns-4
 unfolding clearOneOf
-returns-4 c = rw (← c .before .before .before .before .entry-at .ensures, ← c .before .before .before .kind-of .ensures, c .before .t .given .1)
+returns-4 c =
+    let entry-at = c .before .before .before .before .entry-at in
+    rw (← entry-at .ensures, ← c .before .before .before .kind-of .ensures, c .before .t .given .1)
 
 returns-5 : tie.Need-returns-5
 unfolding clearOneOf

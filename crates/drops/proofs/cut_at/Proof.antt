@@ -7,16 +7,23 @@ use Rattle.drops.proofs.cut_at.Statement.{statement}
 use Rattle.drops.proofs.cut_at.Tie as tie
 
 word-in-requires : tie.Need-word-in-requires
-word-in-requires c κs = let g = guest-small (c .before .before .before .before .before .args .mem .now) (c .before .before .before .before .before .args .table) in (omega (arith, c .guest2 .ensures), c .before .before .before .before .before .pre .1)
+word-in-requires c κs =
+    let args = c .before .before .before .before .before .args in
+    let pre = c .before .before .before .before .before .pre in
+    let g = guest-small (args .mem .now) (args .table) in (omega (arith, c .guest2 .ensures), pre .1)
 
 returns : tie.Need-returns
-returns c = rw (c .before .before .before .before .cut .given .1, eq-eqb _ _ (c .before .before .if1 .taken), c .before .guest .ensures)
+returns c =
+    let cut = c .before .before .before .before .cut in
+    rw (cut .given .1, eq-eqb _ _ (c .before .before .if1 .taken), c .before .guest .ensures)
 
 returns-2 : tie.Need-returns-2
 returns-2 c = rw (c .before .before .cut .given .1, ne-eqb _ _ (c .if1 .left))
 
 returns-3 : tie.Need-returns-3
-returns-3 c = rw (c .before .before .before .before .before .cut2 .given .1, ← c .before .before .before .guest2 .ensures, ← c .before .before .word-in .ensures, c .before .frame-of .ensures)
+returns-3 c =
+    let cut2 = c .before .before .before .before .before .cut2 in
+    rw (cut2 .given .1, ← c .before .before .before .guest2 .ensures, ← c .before .before .word-in .ensures, c .before .frame-of .ensures)
 
 returns-4 : tie.Need-returns-4
 returns-4 c = rw (c .before .before .before .cut3 .given .1, eq-eqb _ _ (c .before .if2 .taken))

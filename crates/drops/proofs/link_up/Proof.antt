@@ -7,15 +7,23 @@ use Rattle.drops.proofs.link_up.Statement.{statement}
 use Rattle.drops.proofs.link_up.Tie as tie
 
 cut-at-requires : tie.Need-cut-at-requires
-cut-at-requires c κs = let p = parent-small (c .before .before .before .before .before .args .mem .now) (c .before .before .before .before .before .args .frame) in let s = slot-small (c .before .before .before .before .before .args .mem .now) (c .before .before .before .before .before .args .frame) in (omega (arith, c .before .before .before .parent .ensures), omega (arith, c .slot .ensures))
+cut-at-requires c κs =
+    let args = c .before .before .before .before .before .args in
+    let p = parent-small (args .mem .now) (args .frame) in let s = slot-small (args .mem .now) (args .frame) in (omega (arith, c .before .before .before .parent .ensures), omega (arith, c .slot .ensures))
 
 returns : tie.Need-returns
 unfolding linkUpOf
-returns c = rw (← c .before .before .before .before .before .parent .ensures, ← c .before .before .before .before .inside .ensures, c .before .before .before .if1 .taken, ← c .before .before .slot .ensures, ← c .before .cut-at .ensures, c .if2 .taken)
+returns c =
+    let parent = c .before .before .before .before .before .parent in
+    let inside = c .before .before .before .before .inside in
+    rw (← parent .ensures, ← inside .ensures, c .before .before .before .if1 .taken, ← c .before .before .slot .ensures, ← c .before .cut-at .ensures, c .if2 .taken)
 
 returns-2 : tie.Need-returns-2
 unfolding linkUpOf
-returns-2 c = rw (← c .before .before .before .before .before .parent .ensures, ← c .before .before .before .before .inside .ensures, c .before .before .before .if1 .taken, ← c .before .before .slot .ensures, ← c .before .cut-at .ensures, c .if2 .left)
+returns-2 c =
+    let parent = c .before .before .before .before .before .parent in
+    let inside = c .before .before .before .before .inside in
+    rw (← parent .ensures, ← inside .ensures, c .before .before .before .if1 .taken, ← c .before .before .slot .ensures, ← c .before .cut-at .ensures, c .if2 .left)
 
 returns-3 : tie.Need-returns-3
 unfolding linkUpOf

@@ -6,7 +6,10 @@ use Rattle.drops.proofs.sweep.Tie as tie
 
 returns : tie.Need-returns
 unfolding sweepOf
-returns c = rw (← c .before .before .before .before .before .before .before .clear-leaves .ensures, c .before .before .before .before .if1 .taken) (c .before .before .settle .ensures)
+returns c =
+    let clear-leaves = c .before .before .before .before .before .before .before .clear-leaves in
+    let if1 = c .before .before .before .before .if1 in
+    rw (← clear-leaves .ensures, if1 .taken) (c .before .before .settle .ensures)
 
 returns-2 : tie.Need-returns-2
 unfolding sweepOf

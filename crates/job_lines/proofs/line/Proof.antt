@@ -9,7 +9,10 @@ returns : tie.Need-returns
 unfolding lineOf
 returns c =
     let a = c .before .before .before .before .before .before .before .before .before .before .before .before .before .args in
-    (omega (arith, c .before .before .before .before .before .before .before .before .before .before .put-decimal .ensures .0, c .before .before .before .before .before .before .put-answer .ensures .0, c .before .before .put .ensures .0), (then (a .out .now) (c .before .before .before .before .before .before .put-answer .last .0) (c .before .before .put .last .0) 0 (c .before .before .before .before .before .before .put-answer .result) (c .before .before .put .result) _ _ (then (a .out .now) (c .before .before .before .before .before .before .before .before .before .before .put-decimal .last .0) (c .before .before .before .before .before .before .put-answer .last .0) 0 (c .before .before .before .before .before .before .before .before .before .before .put-decimal .result) (c .before .before .before .before .before .before .put-answer .result) _ _ (c .before .before .before .before .before .before .before .before .before .before .put-decimal .ensures .1) (c .before .before .before .before .before .before .put-answer .ensures .1)) (c .before .before .put .ensures .1)))
+    let put-decimal = c .before .before .before .before .before .before .before .before .before .before .put-decimal in
+    let put-answer = c .before .before .before .before .before .before .put-answer in
+    let put = c .before .before .put in
+    (omega (arith, put-decimal .ensures .0, put-answer .ensures .0, put .ensures .0), (then (a .out .now) (put-answer .last .0) (put .last .0) 0 (put-answer .result) (put .result) _ _ (then (a .out .now) (put-decimal .last .0) (put-answer .last .0) 0 (put-decimal .result) (put-answer .result) _ _ (put-decimal .ensures .1) (put-answer .ensures .1)) (put .ensures .1)))
 
 pub line-spec : {M : Type 1} → statement M
 line-spec = tie.close (tie.spec (λ c κs. search needs) (λ c κs. search needs) (λ c κs. search needs) (λ c. search needs) returns)

@@ -8,11 +8,16 @@ enum-told c = search needs
 
 returns : tie.Need-returns
 unfolding runOf
-returns c = rw (c .before .before .before .before .before .job .given .1) (c .before .before .run-open .ensures)
+returns c =
+    let job = c .before .before .before .before .before .job in
+    rw (job .given .1) (c .before .before .run-open .ensures)
 
 returns-2 : tie.Need-returns-2
 unfolding runOf
-returns-2 c = rw (c .before .before .before .before .before .before .before .job2 .given .1, c .before .before .before .before .before .if1 .taken, ← c .before .before .before .run-call .ensures)
+returns-2 c =
+    let job2 = c .before .before .before .before .before .before .before .job2 in
+    let if1 = c .before .before .before .before .before .if1 in
+    rw (job2 .given .1, if1 .taken, ← c .before .before .before .run-call .ensures)
 
 returns-3 : tie.Need-returns-3
 unfolding runOf

@@ -7,7 +7,9 @@ enum-told : tie.Need-enum-told
 enum-told c = search needs
 
 returns : tie.Need-returns
-returns c = rw (← c .before .before .before .before .lookup .ensures, c .before .before .entry .given .1) (c .leaf .ensures)
+returns c =
+    let lookup = c .before .before .before .before .lookup in
+    rw (← lookup .ensures, c .before .before .entry .given .1) (c .leaf .ensures)
 
 returns-2 : tie.Need-returns-2
 returns-2 c = rw (← c .before .before .lookup .ensures, c .enum-told .given .1)

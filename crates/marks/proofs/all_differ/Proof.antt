@@ -42,7 +42,11 @@ returns : tie.Need-returns Inv-loop μ-loop
 unfolding keysFit
 returns c =
     let turn = ap (keysFit (c .before .before .before .before .before .before .before .before .before .args .levels)) (keys-turn (c .before .before .before .before .before .before .before .before .before .args .place .now) (c .before .before .before .before .before .before .before .loop .rest) (c .before .before .before .before .before .lowest .result) (c .before .before .before .before .after-lowest .result) (omega arith) (omega arith) (c .before .before .before .before .before .lowest .ensures .0) (c .before .before .before .before .after-lowest .ensures .0)) in
-    sym (sym (c .before .before .before .before .before .before .before .loop .inv .1) ∙ turn ∙ rw (← ends-fit (c .before .before .before .before .before .before .before .before .before .args .levels), ← c .before .before .before .before .before .before .before .before .ends-of .ensures, ← c .before .differs .ensures, not-true (c .before .differs .result) (c .if1 .taken)))
+    let args = c .before .before .before .before .before .before .before .before .before .args in
+    let ends-of = c .before .before .before .before .before .before .before .before .ends-of in
+    let loop = c .before .before .before .before .before .before .before .loop in
+    let differs = c .before .differs in
+    sym (sym (loop .inv .1) ∙ turn ∙ rw (← ends-fit (args .levels), ← ends-of .ensures, ← differs .ensures, not-true (differs .result) (c .if1 .taken)))
 
 loop-less : tie.Need-loop-less Inv-loop μ-loop
 loop-less c = search needs
@@ -51,7 +55,11 @@ loop-again : tie.Need-loop-again Inv-loop μ-loop
 unfolding keysFit
 loop-again c =
     let turn = ap (keysFit (c .before .before .before .before .before .before .before .before .before .args .levels)) (keys-turn (c .before .before .before .before .before .before .before .before .before .args .place .now) (c .before .before .before .before .before .before .before .loop .rest) (c .before .before .before .before .before .lowest .result) (c .before .before .before .before .after-lowest .result) (omega arith) (omega arith) (c .before .before .before .before .before .lowest .ensures .0) (c .before .before .before .before .after-lowest .ensures .0)) in
-    (omega arith, rw (← ends-fit (c .before .before .before .before .before .before .before .before .before .args .levels), ← c .before .before .before .before .before .before .before .before .ends-of .ensures, ← c .before .differs .ensures, not-false (c .before .differs .result) (c .if1 .left)) at (sym turn) ∙ c .before .before .before .before .before .before .before .loop .inv .1)
+    let args = c .before .before .before .before .before .before .before .before .before .args in
+    let ends-of = c .before .before .before .before .before .before .before .before .ends-of in
+    let loop = c .before .before .before .before .before .before .before .loop in
+    let differs = c .before .differs in
+    (omega arith, rw (← ends-fit (args .levels), ← ends-of .ensures, ← differs .ensures, not-false (differs .result) (c .if1 .left)) at (sym turn) ∙ loop .inv .1)
 
 returns-2 : tie.Need-returns-2 Inv-loop μ-loop
 unfolding keysFit

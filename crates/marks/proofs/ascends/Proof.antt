@@ -44,7 +44,11 @@ returns-2 : tie.Need-returns-2 Inv-loop μ-loop
 unfolding ascending
 returns-2 c =
     let turn = ap (ascending (c .before .before .before .before .before .before .before .before .before .args .levels) (c .before .before .before .before .before .before .loop .last)) (keys-turn (c .before .before .before .before .before .before .before .before .before .args .place .now) (c .before .before .before .before .before .before .loop .rest) (c .before .before .before .before .lowest .result) (bitAnd (c .before .before .before .before .before .before .loop .rest) (c .before .before .before .before .before .before .loop .rest - 1)) (omega arith) (omega arith) (c .before .before .before .before .lowest .ensures .0) refl) in
-    sym (sym (c .before .before .before .before .before .before .loop .inv .1) ∙ turn ∙ rw (← ends-fit (c .before .before .before .before .before .before .before .before .before .args .levels), ← c .before .before .before .before .before .before .before .ends-of .ensures, ← c .before .follows .ensures, not-true (c .before .follows .result) (c .if2 .taken)))
+    let args = c .before .before .before .before .before .before .before .before .before .args in
+    let ends-of = c .before .before .before .before .before .before .before .ends-of in
+    let loop = c .before .before .before .before .before .before .loop in
+    let follows = c .before .follows in
+    sym (sym (loop .inv .1) ∙ turn ∙ rw (← ends-fit (args .levels), ← ends-of .ensures, ← follows .ensures, not-true (follows .result) (c .if2 .taken)))
 
 after-lowest-requires : tie.Need-after-lowest-requires Inv-loop μ-loop
 after-lowest-requires c κs = search needs
@@ -56,11 +60,18 @@ loop-again : tie.Need-loop-again Inv-loop μ-loop
 unfolding ascending
 loop-again c =
     let turn = ap (ascending (c .before .before .before .before .before .before .before .before .before .before .args .levels) (c .before .before .before .before .before .before .before .loop .last)) (keys-turn (c .before .before .before .before .before .before .before .before .before .before .args .place .now) (c .before .before .before .before .before .before .before .loop .rest) (c .before .before .before .before .before .lowest .result) (c .after-lowest .result) (omega arith) (omega arith) (c .before .before .before .before .before .lowest .ensures .0) (c .after-lowest .ensures .0)) in
-    (omega arith, rw (← ends-fit (c .before .before .before .before .before .before .before .before .before .before .args .levels), ← c .before .before .before .before .before .before .before .before .ends-of .ensures, ← c .before .before .follows .ensures, not-false (c .before .before .follows .result) (c .before .if2 .left)) at (sym turn) ∙ c .before .before .before .before .before .before .before .loop .inv .1)
+    let args = c .before .before .before .before .before .before .before .before .before .before .args in
+    let ends-of = c .before .before .before .before .before .before .before .before .ends-of in
+    let loop = c .before .before .before .before .before .before .before .loop in
+    let follows = c .before .before .follows in
+    (omega arith, rw (← ends-fit (args .levels), ← ends-of .ensures, ← follows .ensures, not-false (follows .result) (c .before .if2 .left)) at (sym turn) ∙ loop .inv .1)
 
 returns-3 : tie.Need-returns-3 Inv-loop μ-loop
 unfolding ascending
-returns-3 c = sym (sym (c .before .loop .inv .1) ∙ ap (ascending (c .before .before .before .before .args .levels) (c .before .loop .last)) (keys-end (c .before .before .before .before .args .place .now) (c .before .loop .rest) (c .loop-test .left)))
+returns-3 c =
+    let args = c .before .before .before .before .args in
+    let loop = c .before .loop in
+    sym (sym (loop .inv .1) ∙ ap (ascending (args .levels) (loop .last)) (keys-end (args .place .now) (loop .rest) (c .loop-test .left)))
 
 pub ascends-spec : {M : Type 1} → statement M
 ascends-spec =

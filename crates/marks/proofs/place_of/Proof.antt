@@ -31,7 +31,8 @@ element-copy-out-if1 c = search needs
 returns : tie.Need-returns Inv-loop μ-loop
 returns c =
     let turn = place-turn (c .before .before .before .before .before .args .place .now) (c .before .before .before .before .loop .rest) (c .before .before .lowest .result) (bitAnd (c .before .before .before .before .loop .rest) (c .before .before .before .before .loop .rest - 1)) (omega arith) (omega arith) (c .before .before .lowest .ensures .0) refl (c .before .before .before .before .before .args .key) in
-    sym (sym (c .before .before .before .before .loop .inv .1) ∙ turn ∙ rw (eq-eqb _ _ (sym (c .if1 .taken))))
+    let loop = c .before .before .before .before .loop in
+    sym (sym (loop .inv .1) ∙ turn ∙ rw (eq-eqb _ _ (sym (c .if1 .taken))))
 
 after-lowest-requires : tie.Need-after-lowest-requires Inv-loop μ-loop
 after-lowest-requires c κs = search needs
@@ -42,7 +43,8 @@ loop-less c = search needs
 loop-again : tie.Need-loop-again Inv-loop μ-loop
 loop-again c =
     let turn = place-turn (c .before .before .before .before .before .before .args .place .now) (c .before .before .before .before .before .loop .rest) (c .before .before .before .lowest .result) (c .after-lowest .result) (omega arith) (omega arith) (c .before .before .before .lowest .ensures .0) (c .after-lowest .ensures .0) (c .before .before .before .before .before .before .args .key) in
-    (omega arith, rw (ne-eqb _ _ (λ e. c .before .if1 .left (sym e))) at (sym turn) ∙ c .before .before .before .before .before .loop .inv .1)
+    let loop = c .before .before .before .before .before .loop in
+    (omega arith, rw (ne-eqb _ _ (λ e. c .before .if1 .left (sym e))) at (sym turn) ∙ loop .inv .1)
 
 returns-2 : tie.Need-returns-2 Inv-loop μ-loop
 returns-2 c = sym (sym (c .before .loop .inv .1) ∙ place-end (c .before .before .args .place .now) (c .before .loop .rest) (c .before .before .args .key) (c .loop-test .left))

@@ -35,7 +35,9 @@ loop-less c = search needs
 loop-again : tie.Need-loop-again Inv-loop μ-loop
 loop-again c =
     let z : 0 + c .before .before .before .before .before .loop .i ≡ c .before .before .before .before .before .loop .i = omega arith in
-    (omega arith, search needs, search needs, rw (c .before .before .set-word .ensures, c .before .before .before .before .before .loop .inv .3) (rw z at (zeroed-more (c .before .before .before .before .before .before .before .args .mem .now) 0 (c .before .before .before .before .before .loop .i))))
+    let args = c .before .before .before .before .before .before .before .args in
+    let loop = c .before .before .before .before .before .loop in
+    (omega arith, search needs, search needs, rw (c .before .before .set-word .ensures, loop .inv .3) (rw z at (zeroed-more (args .mem .now) 0 (loop .i))))
 
 same-length : tie.Need-same-length Inv-loop μ-loop
 same-length c = search needs

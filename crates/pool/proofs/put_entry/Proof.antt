@@ -6,7 +6,9 @@ use Rattle.pool.proofs.put_entry.Tie as tie
 
 returns : tie.Need-returns
 unfolding putEntryOf
-returns c = rw (c .before .before .set-in .ensures, c .before .before .before .before .word-in .ensures)
+returns c =
+    let word-in = c .before .before .before .before .word-in in
+    rw (c .before .before .set-in .ensures, word-in .ensures)
 
 pub put-entry-spec : {M : Type 1} → statement M
 put-entry-spec =

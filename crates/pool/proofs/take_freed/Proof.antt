@@ -6,7 +6,9 @@ use Rattle.pool.proofs.take_freed.Tie as tie
 
 returns : tie.Need-returns
 unfolding freedOf
-returns c = rw (c .before .before .before .zero-frame .ensures, c .before .before .before .before .before .word-in .ensures)
+returns c =
+    let word-in = c .before .before .before .before .before .word-in in
+    rw (c .before .before .before .zero-frame .ensures, word-in .ensures)
 
 pub take-freed-spec : {M : Type 1} → statement M
 take-freed-spec = tie.close (tie.spec (λ c κs. search needs) (λ c κs. search needs) (λ c. search needs) (λ c. search needs) returns)

@@ -34,7 +34,9 @@ loop-less : tie.Need-loop-less Inv-loop μ-loop
 loop-less c = search needs
 
 loop-again : tie.Need-loop-again Inv-loop μ-loop
-loop-again c = (search needs, search needs, search needs, rw (c .before .before .set-word .ensures, c .before .before .before .before .before .loop .inv .3, zeroed-more))
+loop-again c =
+    let loop = c .before .before .before .before .before .loop in
+    (search needs, search needs, search needs, rw (c .before .before .set-word .ensures, loop .inv .3, zeroed-more))
 
 same-length : tie.Need-same-length Inv-loop μ-loop
 same-length c = search needs
