@@ -247,3 +247,11 @@ pub fn body<'a>(r: Reader<'a>) -> &'a [u8]
 {
     body_at(r.src, r.at)
 }
+
+// The reader behind the record at the cursor.
+pub fn skip<'a>(r: Reader<'a>) -> Reader<'a>
+    ensures { λ q. ⌜ (q .src ≡ r .entry .src) × (q .at ≡ nextOf (r .entry .at) (cutAt (now (r .entry .src)) (r .entry .at))) ⌝ }
+{
+    let at = next_at(r.src, r.at);
+    Reader { src: r.src, at }
+}
