@@ -213,7 +213,7 @@ pub fn job_at(s: &[u8], at: usize) -> Job
     ensures { λ r. ⌜ r ≡ jobAt (now (s .entry)) at ⌝ }
 {
     match cut_at(s, at) {
-        Cut::Body { kind, start, len } => decode(kind, body_at(s, at)),
+        Cut::Body { kind, start, len } => decode(kind, read_body(s, at)),
         Cut::Short => Job::Bad,
         Cut::Wrong => Job::Bad,
     }
@@ -227,21 +227,14 @@ pub struct Reader<'a> {
     pub at: usize,
 }
 
-// A reader at the start of the input.
-pub fn new<'a>(src: &'a [u8]) -> Reader<'a>
-    ensures { λ r. ⌜ (r .src ≡ src .entry) × (r .at ≡ 0) ⌝ }
+// A reader of the input, at a position.
+pub fn new<'a>(src: &'a [u8], at: usize) -> Reader<'a>
+    ensures { λ r. ⌜ (r .src ≡ src .entry) × (r .at ≡ at) ⌝ }
 {
-    Reader { src, at: 0 }
+    Reader { src, at }
 }
 
-// The record at the cursor.
-pub fn next<'a>(r: Reader<'a>) -> Cut
-    ensures { λ c. ⌜ c ≡ cutAt (now (r .entry .src)) (r .entry .at) ⌝ }
-{
-    cut_at(r.src, r.at)
-}
-
-// Its body, as a part of the input.
+// The body of the record at the cursor, as a part of the input.
 pub fn body<'a>(r: Reader<'a>) -> &'a [u8]
     ensures { λ b. ⌜ now b ≡ bodyOf (now (r .entry .src)) (cutAt (now (r .entry .src)) (r .entry .at)) ⌝ }
 {
@@ -254,4 +247,11 @@ pub fn skip<'a>(r: Reader<'a>) -> Reader<'a>
 {
     let at = next_at(r.src, r.at);
     Reader { src: r.src, at }
+}
+
+// The body of the record at a position, as a reader there hands it out. For callers that the checker covers.
+pub fn read_body(s: &[u8], at: usize) -> &[u8]
+    ensures { λ b. ⌜ now b ≡ bodyOf (now (s .entry)) (cutAt (now (s .entry)) at) ⌝ }
+{
+    body(new(s, at))
 }
