@@ -249,9 +249,17 @@ pub fn skip<'a>(r: Reader<'a>) -> Reader<'a>
     Reader { src: r.src, at }
 }
 
-// The body of the record at a position, as a reader there hands it out. For callers that the checker covers.
+// What a reader at a position hands out. With a slice and a number as parameters a caller needs no proof by hand.
 pub fn read_body(s: &[u8], at: usize) -> &[u8]
     ensures { λ b. ⌜ now b ≡ bodyOf (now (s .entry)) (cutAt (now (s .entry)) at) ⌝ }
 {
     body(new(s, at))
+}
+
+// Where a reader at a position stands once it has moved on.
+pub fn read_next(s: &[u8], at: usize) -> usize
+    ensures { λ r. ⌜ r ≡ nextOf at (cutAt (now (s .entry)) at) ⌝ }
+{
+    let r = skip(new(s, at));
+    r.at
 }
