@@ -1,25 +1,23 @@
 -- From the bytes of the input to the bytes of the output: what the job program writes is what machine and book say.
 -- Assumes nothing.
 use mathlib.Core.Path.{_≡_, refl, sym, ap, ap₂, _∙_}
-use mathlib.Core.Logic.{_⊎_, inl, inr, ⊎-elim}
+use mathlib.Core.Logic.{_⊎_, inl, inr}
 use mathlib.Core.Bool.{Bool, true, false, cond}
-use mathlib.Core.List.{List, [], _∷_, _++_, append-nil}
-use mathlib.Core.Option.{Option, none, some}
-use Prim.Native.Nat.{ℕ, zero, suc, _+_, _*_}
+use mathlib.Core.List.{List, [], _∷_, _++_}
+use mathlib.Core.Option.{Option, none}
+use Prim.Native.Nat.{ℕ, zero, suc, _+_}
 use native.Mathlib.Omega.{arith}
-use lib.ListN.{length, take, drop}
+use lib.ListN.{length, drop}
 use Rattle.spec.specs.declared.Answer.{Answer}
-use Rattle.spec.specs.Answer.{Line, line}
-use Rattle.spec.specs.Config.{guestBase}
+use Rattle.spec.specs.Answer.{line}
 use Rattle.spec.specs.Run.{State}
 use Rattle.spec.specs.declared.Call.{Call}
 use Rattle.record.specs.declared.Record.{Record}
-use Rattle.record.specs.Record.{configOf, zeros}
+use Rattle.record.specs.Record.{zeros}
 use Rattle.words.specs.After.{After}
 use Rattle.calls.specs.Calls.{openCall}
 use Rattle.job_records.specs.declared.Job.{Job}
 use Rattle.job_records.specs.declared.Job.the-variants as job
-use Rattle.job_records.specs.Records.{jobAt}
 use Rattle.job_run.specs.declared.Ran.{Ran}
 use Rattle.job_run.specs.Run.{isOk, runOf}
 use Rattle.job_lines.specs.Text.{lineOf}
@@ -27,10 +25,10 @@ use Rattle.job_stream.specs.declared.Flow.{Flow}
 use Rattle.job_stream.specs.Whole.{behind, wroteFrom, wrote}
 use Rattle.job_stream.specs.Turns.{first as start, Looped}
 use Rattle.job_stream.proofs.Pieces.{looped-writes}
-use Rattle.job_claims.specs.Job.{lengthOf, asksOf, untilBad, recordsFrom, recordsOf, said, meets, saidAll, lineBytes, bytesFrom, outputOf}
+use Rattle.job_claims.specs.Job.{lengthOf, asksOf, untilBad, recordsFrom, recordsOf, said, saidAll, lineBytes, bytesFrom, outputOf}
 use Rattle.job_claims.specs.Tables.{tablesOf}
-use Rattle.job_claims.proofs.Lines.{Stands, met, Alike, alike}
-use Rattle.job_claims.proofs.Decodes.{First, first-same}
+use Rattle.job_claims.proofs.Lines.{Stands, met, alike}
+use Rattle.job_claims.proofs.Decodes.{first-same}
 
 -- the bytes of a line are those of what it says
 line-bytes : (n : ℕ) (x : Answer) → lineOf n x ≡ lineBytes n (line x)

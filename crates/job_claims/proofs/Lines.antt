@@ -5,7 +5,7 @@ use Prim.Native.Nat.{ℕ, _*_}
 use mathlib.Core.Bool.{Bool, true, false}
 use mathlib.Core.List.{List, _++_}
 use mathlib.Core.Option.{Option, none, some}
-use lib.ListN.{length, take, drop, take-append-drop}
+use lib.ListN.{length, take, take-append-drop}
 use native.Mathlib.Decide.{ℕ-discrete}
 use Rattle.spec.specs.Answer.{line}
 use Rattle.spec.specs.Config.{guestBase}

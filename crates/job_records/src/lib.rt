@@ -213,7 +213,7 @@ pub fn job_at(s: &[u8], at: usize) -> Job
     ensures { λ r. ⌜ r ≡ jobAt (now (s .entry)) at ⌝ }
 {
     match cut_at(s, at) {
-        Cut::Body { kind, start, len } => decode(kind, body_at(s, at)),
+        Cut::Body { kind, start, len } => decode(kind, read_body(s, at)),
         Cut::Short => Job::Bad,
         Cut::Wrong => Job::Bad,
     }
@@ -227,23 +227,39 @@ pub struct Reader<'a> {
     pub at: usize,
 }
 
-// A reader at the start of the input.
-pub fn new<'a>(src: &'a [u8]) -> Reader<'a>
-    ensures { λ r. ⌜ (r .src ≡ src .entry) × (r .at ≡ 0) ⌝ }
+// A reader of the input, at a position.
+pub fn new<'a>(src: &'a [u8], at: usize) -> Reader<'a>
+    ensures { λ r. ⌜ (r .src ≡ src .entry) × (r .at ≡ at) ⌝ }
 {
-    Reader { src, at: 0 }
+    Reader { src, at }
 }
 
-// The record at the cursor.
-pub fn next<'a>(r: Reader<'a>) -> Cut
-    ensures { λ c. ⌜ c ≡ cutAt (now (r .entry .src)) (r .entry .at) ⌝ }
-{
-    cut_at(r.src, r.at)
-}
-
-// Its body, as a part of the input.
+// The body of the record at the cursor, as a part of the input.
 pub fn body<'a>(r: Reader<'a>) -> &'a [u8]
     ensures { λ b. ⌜ now b ≡ bodyOf (now (r .entry .src)) (cutAt (now (r .entry .src)) (r .entry .at)) ⌝ }
 {
     body_at(r.src, r.at)
+}
+
+// The reader behind the record at the cursor.
+pub fn skip<'a>(r: Reader<'a>) -> Reader<'a>
+    ensures { λ q. ⌜ (q .src ≡ r .entry .src) × (q .at ≡ nextOf (r .entry .at) (cutAt (now (r .entry .src)) (r .entry .at))) ⌝ }
+{
+    let at = next_at(r.src, r.at);
+    Reader { src: r.src, at }
+}
+
+// What a reader at a position hands out. With a slice and a number as parameters a caller needs no proof by hand.
+pub fn read_body(s: &[u8], at: usize) -> &[u8]
+    ensures { λ b. ⌜ now b ≡ bodyOf (now (s .entry)) (cutAt (now (s .entry)) at) ⌝ }
+{
+    body(new(s, at))
+}
+
+// Where a reader at a position stands once it has moved on.
+pub fn read_next(s: &[u8], at: usize) -> usize
+    ensures { λ r. ⌜ r ≡ nextOf at (cutAt (now (s .entry)) at) ⌝ }
+{
+    let r = skip(new(s, at));
+    r.at
 }

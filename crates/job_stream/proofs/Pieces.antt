@@ -7,7 +7,7 @@ use Prim.Native.Nat.{ℕ, zero, suc, _+_, _-_, _≤_, _<_}
 use native.Mathlib.Omega.{arith}
 use borrow.Author.Tests.{eqb-true, eqb-false}
 use lib.Dec.{eqb}
-use lib.ListN.{length, take, drop, length-drop, length-take, length-append, take-append-drop}
+use lib.ListN.{length, take, drop, length-drop, length-append, take-append-drop}
 use lib.Seq.{drop-drop, drop-append-le, take-take, drop-length}
 use Rattle.record.specs.declared.Record.{Record}
 use Rattle.words.specs.After.{After, yields}
@@ -23,7 +23,7 @@ use Rattle.job_run.specs.Run.{runOf}
 use Rattle.job_lines.specs.Text.{lineOf}
 use Rattle.job_stream.specs.declared.Flow.{Flow}
 use Rattle.job_stream.specs.Whole.{behind, wroteFrom, wrote}
-use Rattle.job_stream.specs.Turns.{Turned, unread, ranOf, front, stopped, endedOf, refilledOf, turnBy, cutOf, turnOf, Refilled, BufferBy, Turn, readBy, Runs, start, then, first, Looped}
+use Rattle.job_stream.specs.Turns.{unread, ranOf, front, stopped, refilledOf, turnBy, cutOf, turnOf, Refilled, BufferBy, Turn, readBy, Runs, start, then, first, Looped}
 use Rattle.record.specs.Record.{zeros}
 
 -- ---- a whole input, record by record

@@ -7,12 +7,12 @@ use Prim.Native.Nat.{ℕ, _+_, _-_, _≤_, _<_}
 use native.Mathlib.Omega.{arith}
 use borrow.Author.Tests.{eq-eqb, ne-eqb}
 use lib.Dec.{eqb}
-use lib.ListN.{length, take, drop}
+use lib.ListN.{length, take}
 use Rattle.words.specs.After.{After, yields}
 use Rattle.job_records.specs.declared.Cut.{Cut}
 use Rattle.job_records.specs.declared.Cut.the-variants.{Body, Short, Wrong}
 use Rattle.job_stream.specs.declared.Flow.{Flow}
-use Rattle.job_stream.specs.Turns.{Turned, unread, ranOf, front, stopped, endedOf, refilledOf, turnBy, cutOf, turnOf, Refilled, BufferBy, Turn, readBy, Runs, start, then, first, most, Looped}
+use Rattle.job_stream.specs.Turns.{Turned, unread, ranOf, front, endedOf, refilledOf, turnBy, cutOf, turnOf, Refilled, BufferBy, Turn, readBy, Runs, start, then, first, most, Looped}
 use Rattle.record.specs.declared.Record.{Record}
 use Rattle.record.specs.Record.{zeros}
 

@@ -55,7 +55,7 @@ fn run_record(f: Flow, mem: &mut [u64; 8192], buf: &[u8; 4096]) -> Flow
     let unit = f.unit;
     let input = part(buf, len);
     let job = job_records::job_at(input, at);
-    let next = job_records::next_at(input, at);
+    let next = job_records::read_next(input, at);
     let ran = job_run::run_job(f.opened, unit, mem, job);
     let after = ran.unit;
     let answer = ran.answer;

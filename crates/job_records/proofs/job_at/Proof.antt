@@ -8,7 +8,7 @@ enum-told c = search needs
 
 returns : tie.Need-returns
 unfolding jobAt
-returns c = rw (c .decode .ensures, c .before .body-at .ensures, ← c .before .before .before .before .before .cut-at .ensures, c .before .before .before .kind .given .1)
+returns c = rw (c .decode .ensures, c .before .read-body .ensures, ← c .before .before .before .before .before .cut-at .ensures, c .before .before .before .kind .given .1)
 
 returns-2 : tie.Need-returns-2
 unfolding jobAt

@@ -1,7 +1,6 @@
 -- What stands before the part that is lent to the read comes back as it was. Assumes nothing.
 use native.Mathlib.Omega.{arith}
-use lib.ListN.{length, length-drop}
-use mathlib.Core.Path.{_≡_}
+use lib.ListN.{length}
 use Prim.Native.Nat.{_-_}
 use borrow.Author.Needs.{needs}
 use Rattle.job_stream.proofs.Buffer.{behind-front}

@@ -1,6 +1,6 @@
 -- What was not run yet goes to the front, and the bytes of a read stand behind it. Assumes nothing.
 use native.Mathlib.Omega.{arith}
-use mathlib.Core.Path.{_≡_, sym, ap, _∙_}
+use mathlib.Core.Path.{_≡_, ap, _∙_}
 use borrow.Author.Needs.{needs}
 use Rattle.job_stream.specs.Turns.{unread}
 use Rattle.job_stream.proofs.Steps.{refill-stops, refill-runs, refill-reads, refilled}

@@ -7,7 +7,7 @@ returns : tie.Need-returns
 returns c =
     let part = c .before .before .before .before .before .before .before .part in
     let job = c .before .before .before .before .before .before .job-at in
-    let next = c .before .before .before .before .before .next-at in
+    let next = c .before .before .before .before .before .read-next in
     let ran = c .before .before .before .run-job in
     rw (← part .ensures, ← job .ensures, ← next .ensures, ← ran .ensures)
 

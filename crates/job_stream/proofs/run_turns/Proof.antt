@@ -1,6 +1,6 @@
 -- The loop is a run of turns, counted. Assumes nothing.
 use native.Mathlib.Omega.{arith}
-use mathlib.Core.Path.{_≡_, sym, _∙_}
+use mathlib.Core.Path.{_≡_}
 use Prim.Native.Nat.{ℕ}
 use borrow.Author.Needs.{needs}
 use Rattle.job_stream.proofs.Steps.{Going, going-start, going-next, going-ends}

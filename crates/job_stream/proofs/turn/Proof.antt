@@ -2,7 +2,7 @@
 use native.Mathlib.Omega.{arith}
 use mathlib.Core.Path.{_≡_, sym, ap, _∙_}
 use borrow.Author.Needs.{needs}
-use lib.ListN.{length, take, drop}
+use lib.ListN.{take}
 use Rattle.job_records.specs.Records.{cutAt}
 use Rattle.job_records.specs.declared.Cut.the-variants.{Short}
 use Rattle.job_records.proofs.Pieces.{short-few}
