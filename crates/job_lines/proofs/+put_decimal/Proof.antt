@@ -1,3 +1,4 @@
+-- By the digits that may still stand in front: below 10 the digit ends it, else the rest comes first and has a digit less.
 use Rattle.job_lines.specs.Text.{decimal, puts-as, then, decimal-zero, decimal-one, decimal-more}
 use Prim.Native.Nat.{_-_, _/_}
 use mathlib.Core.List.{[], _∷_, _++_}

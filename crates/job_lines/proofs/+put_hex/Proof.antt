@@ -1,3 +1,4 @@
+-- By the width: the higher digits come first, then the last; each text is put behind what stands there.
 use Rattle.job_lines.specs.Text.{hexadecimal, puts-as, then, hex-zero, hex-more}
 use Prim.Native.Nat.{_-_, _/_}
 use lib.ListN.{take}

@@ -1,3 +1,4 @@
+-- Below ten the digits begin at 48, from ten on the letters at 97.
 use borrow.Author.Tests.{lt-ltb, le-ltb}
 use borrow.Author.Needs.{needs}
 use Rattle.job_lines.proofs.digit_of.Statement.{statement}

@@ -1,3 +1,4 @@
+-- One byte is set at the position, and what stood before it stays.
 use native.Mathlib.Omega.{arith}
 use Rattle.job_lines.specs.Text.{puts-byte}
 use mathlib.Core.Path.{refl}

@@ -1,3 +1,4 @@
+-- Each case of the answer has its text, which is that of its line.
 use native.Mathlib.Omega.{arith}
 use mathlib.Core.Path.{sym, ap}
 use Rattle.job_lines.specs.Text.{puts-as, answerText}

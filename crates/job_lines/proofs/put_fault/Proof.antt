@@ -1,3 +1,4 @@
+-- The letter of the fault, then its level and its frame, of which one is 0.
 use native.Mathlib.Omega.{arith}
 use Rattle.job_lines.specs.Text.{puts-as, then}
 use borrow.Author.Needs.{needs}

@@ -1,3 +1,4 @@
+-- The word, the fault and the pair of counts, one behind the other.
 use native.Mathlib.Omega.{arith}
 use Rattle.job_lines.specs.Text.{then}
 use borrow.Author.Needs.{needs}

@@ -1,3 +1,4 @@
+-- A space, then the digits.
 use native.Mathlib.Omega.{arith}
 use Rattle.job_lines.specs.Text.{then}
 use borrow.Author.Needs.{needs}

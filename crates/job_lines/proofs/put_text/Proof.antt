@@ -1,3 +1,4 @@
+-- The loop copies byte by byte: what is put so far is the front of the text.
 use Prim.Native.Nat.{ℕ, _≤_, _-_, _+_}
 use lib.ListN.{length, take}
 use lib.Seq.{take-all}

@@ -1,3 +1,4 @@
+-- Only a whole record has a body, and it lies within the input.
 use native.Mathlib.Omega.{arith}
 use Prim.Native.Nat.{ℕ, _+_, _-_}
 use lib.ListN.{length, take, drop}

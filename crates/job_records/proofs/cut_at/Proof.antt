@@ -1,3 +1,4 @@
+-- The tests of the definition in their order: two bytes of length, a length that some kind has, and so many bytes.
 use borrow.Author.Tests.{lt-ltb, le-ltb, le-leb, lt-leb}
 use native.Mathlib.Omega.{arith}
 use Prim.Native.Nat.{_+_, _-_, _≤_, _<_}

@@ -1,3 +1,4 @@
+-- By the kind, in the order of the definition; what no kind has is bad.
 use borrow.Author.Tests.{ne-eqb}
 use Rattle.job_records.specs.Records.{jobOf}
 use borrow.Author.Needs.{needs}

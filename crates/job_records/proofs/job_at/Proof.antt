@@ -1,3 +1,4 @@
+-- A whole record is decoded; one that is cut, or has a length that no kind has, is bad.
 use Rattle.job_records.specs.Records.{jobAt}
 use borrow.Author.Needs.{needs}
 use Rattle.job_records.proofs.job_at.Statement.{statement}

@@ -1,3 +1,4 @@
+-- The body has its kind's length, or the record is bad; the last byte says whether the frame may be written.
 use borrow.Author.Tests.{eq-eqb, ne-eqb}
 use borrow.Author.Needs.{needs}
 use Rattle.job_records.proofs.map_body.Statement.{statement}

@@ -1,3 +1,4 @@
+-- A whole record ends where its body does; any other ends where it starts.
 use native.Mathlib.Omega.{arith}
 use lib.ListN.{length}
 use mathlib.Core.Path.{sym, ap, _∙_, subst}

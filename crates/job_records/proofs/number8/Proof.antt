@@ -1,3 +1,4 @@
+-- Two halves of four bytes, the lower first.
 use Rattle.job_records.specs.Laws.{number-8}
 use native.Mathlib.Omega.{arith}
 use borrow.Author.Needs.{needs}

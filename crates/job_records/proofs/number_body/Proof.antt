@@ -1,3 +1,4 @@
+-- The body has its kind's length, or the record is bad; the kind tells the three calls of one number apart.
 use borrow.Author.Tests.{eq-eqb, ne-eqb}
 use borrow.Author.Needs.{needs}
 use Rattle.job_records.proofs.number_body.Statement.{statement}

@@ -1,3 +1,4 @@
+-- The body has its kind's length, or the record is bad; it holds two numbers of two bytes.
 use borrow.Author.Tests.{eq-eqb, ne-eqb}
 use borrow.Author.Needs.{needs}
 use Rattle.job_records.proofs.open_body.Statement.{statement}

@@ -1,3 +1,4 @@
+-- The body has its kind's length, or the record is bad; the kind tells the guest's store from a device's.
 use borrow.Author.Tests.{eq-eqb, ne-eqb}
 use borrow.Author.Needs.{needs}
 use Rattle.job_records.proofs.pair_body.Statement.{statement}

@@ -1,3 +1,4 @@
+-- Each call is the unit's own, and the unit's promise names the definition that the table has for it.
 use Rattle.calls.specs.Calls.{callOf}
 use borrow.Author.Needs.{needs}
 use Rattle.job_run.proofs.run_call.Statement.{statement}

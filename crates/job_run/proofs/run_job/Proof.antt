@@ -1,3 +1,4 @@
+-- An opening, a call once one was granted, 3 before that, and 13 with the end for a bad record.
 use Rattle.job_run.specs.Run.{runOf}
 use borrow.Author.Needs.{needs}
 use Rattle.job_run.proofs.run_job.Statement.{statement}

@@ -1,3 +1,4 @@
+-- A granted opening gives the record to use; a refused one leaves the record that was in use.
 use borrow.Author.Needs.{needs}
 use Rattle.job_run.proofs.run_open.Statement.{statement}
 use Rattle.job_run.proofs.run_open.Tie as tie
