@@ -79,7 +79,7 @@ pub fn cut_at(s: &[u8], at: usize) -> Cut
 }
 
 // The body of the record that starts at a position, as a part of the caller's slice; an empty part where there is none.
-pub fn body_at(s: &[u8], at: usize) -> &[u8]
+fn body_at(s: &[u8], at: usize) -> &[u8]
     ensures { λ r. ⌜ now r ≡ bodyOf (now (s .entry)) (cutAt (now (s .entry)) at) ⌝ }
 {
     match cut_at(s, at) {
@@ -90,7 +90,7 @@ pub fn body_at(s: &[u8], at: usize) -> &[u8]
 }
 
 // Where the record that starts at a position ends; the position itself where there is no whole record.
-pub fn next_at(s: &[u8], at: usize) -> usize
+fn next_at(s: &[u8], at: usize) -> usize
     ensures { λ r. ⌜ r ≡ nextOf at (cutAt (now (s .entry)) at) ⌝ }
 {
     match cut_at(s, at) {
@@ -191,7 +191,7 @@ fn pair_body(kind: u64, b: &[u8]) -> Job
 }
 
 // What a record of that kind with that body asks for.
-pub fn decode(kind: u64, b: &[u8]) -> Job
+fn decode(kind: u64, b: &[u8]) -> Job
     ensures { λ r. ⌜ r ≡ jobOf kind (now (b .entry)) ⌝ }
 {
     match kind {
@@ -250,7 +250,7 @@ pub fn skip<'a>(r: Reader<'a>) -> Reader<'a>
 }
 
 // What a reader at a position hands out. With a slice and a number as parameters a caller needs no proof by hand.
-pub fn read_body(s: &[u8], at: usize) -> &[u8]
+fn read_body(s: &[u8], at: usize) -> &[u8]
     ensures { λ b. ⌜ now b ≡ bodyOf (now (s .entry)) (cutAt (now (s .entry)) at) ⌝ }
 {
     body(new(s, at))
