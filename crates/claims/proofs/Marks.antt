@@ -34,7 +34,7 @@ use Rattle.area_laws.proofs.Hosts.{indexes-small}
 use Rattle.layout.proofs.Laws.{InGuestArea}
 use Rattle.walk.proofs.Stands.{Stands}
 use Rattle.marks.specs.declared.Marks.{Marks}
-use Rattle.marks.specs.Key.{keyOf, keyFits, keysFit}
+use Rattle.marks.specs.Key.{lowPage, keyOf, keyFits, keysFit}
 use Rattle.marks.specs.Table.{room, inserted, tableOf, withKey, withoutKey, placeOf, setRefusal, clearRefusal, number}
 use Rattle.marks.specs.Reading.{markOf, marksOf}
 use Rattle.marks.proofs.Turn.{keys-count}
@@ -44,7 +44,8 @@ use Rattle.marks.proofs.Order.{SameMembers, members-fold, members-map, members-
 use Rattle.marks.proofs.Tables.{keys-with, keys-without, inserted-members, around-members}
 use Rattle.marks.proofs.Reading as reading
 use Rattle.marks.proofs.Reading.{key-fits}
-use Rattle.marks.proofs.Book.{keysOf, page-small, marks-fit, may-set, may-clear, set-refused, clear-refused, set-granted, clear-granted}
+use Rattle.marks.proofs.Pages.{low-small}
+use Rattle.marks.proofs.Book.{keysOf, marks-fit, may-set, may-clear, set-refused, clear-refused, set-granted, clear-granted}
 use Rattle.record.specs.declared.Record.{Record}
 use Rattle.entry.specs.declared.HostPhysical.{HostPhysical}
 use Rattle.layout.specs.Layout.{page}
@@ -78,25 +79,25 @@ members-fit c {ks} {js} d =
 -- ---- the table after a mark is set or cleared
 module _ (n : ℕ) (t : Marks) (a level : ℕ) (word : t .set < 2 ^ 64) where
   k : ℕ
-  k = keyOf level (pageOf a)
+  k = keyOf level (lowPage n a)
 
-  pub set-word : withKey t (keyOf level (pageOf a)) .set < 2 ^ 64
+  pub set-word : withKey t (keyOf level (lowPage n a)) .set < 2 ^ 64
   unfolding withKey tableOf
   set-word = go (ltb (ones (t .set)) room) refl
     where
       more : List ℕ
-      more = inserted (keyOf level (pageOf a)) (keysOf t)
+      more = inserted (keyOf level (lowPage n a)) (keysOf t)
 
       go : (b : Bool) → ltb (ones (t .set)) room ≡ b → (cond b (tableOf more) t) .set < 2 ^ 64
       go true e =
-          let few : length more ≤ 64 = omega (arith, inserted-length (keyOf level (pageOf a)) (keysOf t), keys-count (t .place) (t .set) word, ltb-true (ones (t .set)) room e) in
+          let few : length more ≤ 64 = omega (arith, inserted-length (keyOf level (lowPage n a)) (keysOf t), keys-count (t .place) (t .set) word, ltb-true (ones (t .set)) room e) in
           let top : 2 ^ length more ≤ 2 ^ 64 = pow-mono few in
           omega (arith, pow-pos (length more))
       go false e = word
 
-  pub clear-word : withoutKey t (keyOf level (pageOf a)) .set < 2 ^ 64
+  pub clear-word : withoutKey t (keyOf level (lowPage n a)) .set < 2 ^ 64
   unfolding withoutKey
-  clear-word = go (placeOf (t .place) (t .set) (keyOf level (pageOf a)))
+  clear-word = go (placeOf (t .place) (t .set) (keyOf level (lowPage n a)))
     where
       go : (i : ℕ) → (cond (ltb i room) (record { set = t .set - 2 ^ i; place = t .place }) t) .set < 2 ^ 64
       go i = by (ltb i room)
@@ -106,14 +107,14 @@ module _ (n : ℕ) (t : Marks) (a level : ℕ) (word : t .set < 2 ^ 64) where
           by false = word
 
   module _ (small : n < 7) (whole : keysFit n (keysOf t) ≡ true) where
-    pub set-rule : number (setRefusal n (keysOf t) a level) ≡ 0 → keysFit n (keysOf (withKey t (keyOf level (pageOf a)))) ≡ true
+    pub set-rule : number (setRefusal n (keysOf t) a level) ≡ 0 → keysFit n (keysOf (withKey t (keyOf level (lowPage n a)))) ≡ true
     unfolding keysFit k
     set-rule e =
         let may = may-set n t a level e in
-        let fits = key-fits (ofLevels n) level (pageOf a) (page-small (ofLevels n) a (may .address)) (omega (arith, level-below n level (may .fits))) (may .fits) in
+        let fits = key-fits (ofLevels n) level (lowPage n a) (low-small n a) (omega (arith, level-below n level (may .fits))) (may .fits) in
         ap (keysFit n) (keys-with t k word (may .free)) ∙ members-fit (ofLevels n) (inserted-members k (keysOf t)) ∙ rw (fits, may .new, whole)
 
-    pub clear-rule : number (clearRefusal n (keysOf t) a level) ≡ 0 → keysFit n (keysOf (withoutKey t (keyOf level (pageOf a)))) ≡ true
+    pub clear-rule : number (clearRefusal n (keysOf t) a level) ≡ 0 → keysFit n (keysOf (withoutKey t (keyOf level (lowPage n a)))) ≡ true
     unfolding keysFit k
     clear-rule e =
         let without = around-members k _ _ (keys-without t k (may-clear n t a level e .held)) in
@@ -246,11 +247,11 @@ module _ (s : State) (r : Record) (m : List ℕ) (h : Inv s r m) (a n : ℕ) whe
   unfolding setMarkCall tests machineStep bookStep
   set-mark-follows =
       let same = set-refused (configOf r) (r .guest .marks) (s .book) few (h .word) (h .marks) (s .machine) a n refl in
-      by-refusal (setMark a n) (withKey (r .guest .marks) (keyOf n (pageOf a))) (setRefusal (r .layout .levels) (keysOf (r .guest .marks)) a n) same
+      by-refusal (setMark a n) (withKey (r .guest .marks) (keyOf n (lowPage (r .layout .levels) a))) (setRefusal (r .layout .levels) (keysOf (r .guest .marks)) a n) same
       (omega arith, (omega arith, (omega arith, (omega arith, tt)))) refl
       (λ e.
       let free : number (setRefusal (r .layout .levels) (keysOf (r .guest .marks)) a n) ≡ 0 = ap number (same ∙ e) in
-      marked-left s r m h a n (withKey (r .guest .marks) (keyOf n (pageOf a))) (markAt (configOf r) n (addressIndexes (configOf r) a) ∷ s .book .marks)
+      marked-left s r m h a n (withKey (r .guest .marks) (keyOf n (lowPage (r .layout .levels) a))) (markAt (configOf r) n (addressIndexes (configOf r) a) ∷ s .book .marks)
       (set-word (r .layout .levels) (r .guest .marks) a n (h .word)) (set-rule (r .layout .levels) (r .guest .marks) a n (h .word) few whole free)
       (set-granted (configOf r) (r .guest .marks) (s .book) few (h .word) (h .marks) a n free) (after-fits (configOf r) (setMark a n) s e (h .book)))
 
@@ -258,10 +259,10 @@ module _ (s : State) (r : Record) (m : List ℕ) (h : Inv s r m) (a n : ℕ) whe
   unfolding clearMarkCall tests machineStep bookStep
   clear-mark-follows =
       let same = clear-refused (configOf r) (r .guest .marks) (s .book) few (h .word) (h .marks) (s .machine) a n in
-      by-refusal (clearMark a n) (withoutKey (r .guest .marks) (keyOf n (pageOf a))) (clearRefusal (r .layout .levels) (keysOf (r .guest .marks)) a n) same
+      by-refusal (clearMark a n) (withoutKey (r .guest .marks) (keyOf n (lowPage (r .layout .levels) a))) (clearRefusal (r .layout .levels) (keysOf (r .guest .marks)) a n) same
       (omega arith, (omega arith, (omega arith, tt))) refl
       (λ e.
       let free : number (clearRefusal (r .layout .levels) (keysOf (r .guest .marks)) a n) ≡ 0 = ap number (same ∙ e) in
-      marked-left s r m h a n (withoutKey (r .guest .marks) (keyOf n (pageOf a))) (keep (λ y. not (sameMark (markAt (configOf r) n (addressIndexes (configOf r) a)) y)) (s .book .marks))
+      marked-left s r m h a n (withoutKey (r .guest .marks) (keyOf n (lowPage (r .layout .levels) a))) (keep (λ y. not (sameMark (markAt (configOf r) n (addressIndexes (configOf r) a)) y)) (s .book .marks))
       (clear-word (r .layout .levels) (r .guest .marks) a n (h .word)) (clear-rule (r .layout .levels) (r .guest .marks) a n (h .word) few whole free)
       (clear-granted (configOf r) (r .guest .marks) (s .book) few (h .word) (h .marks) a n whole free) (after-fits (configOf r) (clearMark a n) s e (h .book)))

@@ -10,7 +10,7 @@ use Rattle.spec.specs.Machine.{hostCost, world}
 use Rattle.spec.specs.Call as spec
 use Rattle.spec.specs.Call.{plain, deviceWalk, machineStep}
 use Rattle.spec.specs.Count.{request, storing, bookStep}
-use Rattle.spec.specs.Refusal.{tests, refusal}
+use Rattle.spec.specs.Refusal.{alikeFrom, tests, refusal}
 use Rattle.spec.specs.Run.{step, run, after}
 use Rattle.bits.specs.Bit.{places}
 use Rattle.words.specs.Words.{zeroed}
@@ -24,7 +24,7 @@ use Rattle.host.specs.Walk.{hostWalkOf}
 use Rattle.host.specs.Map.{mapOf}
 use Rattle.walk.specs.Memory.{memoryWorld, walkedOf, noted, framesOf, trailFrom}
 use Rattle.marks.specs.Table as marks
-use Rattle.marks.specs.Key.{keyOf, levelAt, depthOf}
+use Rattle.marks.specs.Key.{lowPage, keyOf, levelAt, depthOf}
 use Rattle.marks.specs.Reading.{marksOf, markOf}
 use Rattle.record.specs.Record.{isTable, poolFits, poolsFit, fitsOf, headRoot, headTables, withMarks}
 use Rattle.shadow.specs.Held.{heldOf, entryFor}
@@ -38,7 +38,7 @@ use Rattle.calls.specs.Calls.{headHeld, headHost, translatedOf, loadCall, store
 
 -- a call of the unit, but for what puts a path into an area
 unfoldable pub besides : ℕ
-unfolding ones levelAt bitSet present writable switch frameOf malformed index indexes pageOf wordOf trace hosted entry next levels walk openRefusal recordFits entryAtOf highOf putEntryOf guestOf levelOf parentOf slotOf headerOf insideOf bareOf link followOf noneOf withTop lookupOf roomOf hostEntry leafOf hostWalkOf mapOf memoryWorld walkedOf framesOf trailFrom noted keyOf depthOf marks.keys marks.inserted marks.tableOf marks.withKey marks.withoutKey marks.setRefusal marks.clearRefusal marks.placeIn marks.placeOf places marksOf markOf isTable poolFits poolsFit fitsOf headRoot headTables withMarks heldOf entryFor fillOf watchesOf watchedFrom watchedOf kindOf isLeaf linkUpOf linksUpOf goesOf clearOneOf clearLeavesOf settleOf sweepOf visitOf scanFrom scanOf tableNamed holderOf dropPrefixOf detachOf releaseTop releaseOf lastIndex directOf servedOf servesOf foundOf filledOf missedOf plainOf translateOf access.putWordOf access.loadOf access.storeOf access.deviceOf headHeld headHost translatedOf loadCall storeCall deviceCall rootCall unmappedOf mapCall markedOf setMarkCall clearMarkCall callOf
+unfolding ones alikeFrom levelAt bitSet present writable switch frameOf malformed index indexes pageOf wordOf trace hosted entry next levels walk openRefusal recordFits entryAtOf highOf putEntryOf guestOf levelOf parentOf slotOf headerOf insideOf bareOf link followOf noneOf withTop lookupOf roomOf hostEntry leafOf hostWalkOf mapOf memoryWorld walkedOf framesOf trailFrom noted lowPage keyOf depthOf marks.keys marks.inserted marks.tableOf marks.withKey marks.withoutKey marks.setRefusal marks.clearRefusal marks.placeIn marks.placeOf places marksOf markOf isTable poolFits poolsFit fitsOf headRoot headTables withMarks heldOf entryFor fillOf watchesOf watchedFrom watchedOf kindOf isLeaf linkUpOf linksUpOf goesOf clearOneOf clearLeavesOf settleOf sweepOf visitOf scanFrom scanOf tableNamed holderOf dropPrefixOf detachOf releaseTop releaseOf lastIndex directOf servedOf servesOf foundOf filledOf missedOf plainOf translateOf access.putWordOf access.loadOf access.storeOf access.deviceOf headHeld headHost translatedOf loadCall storeCall deviceCall rootCall unmappedOf mapCall markedOf setMarkCall clearMarkCall callOf
 besides = 0
 
 -- a whole call
@@ -48,5 +48,5 @@ calling = 0
 
 -- a step of the specification
 unfoldable pub specifying : ℕ
-unfolding bitSet present writable frameOf malformed index indexes pageOf wordOf trace hosted entry next levels walk hostCost world plain deviceWalk spec.access machineStep request storing bookStep tests refusal step run after
+unfolding bitSet present writable frameOf malformed index indexes pageOf wordOf trace hosted entry next levels walk hostCost world plain deviceWalk spec.access machineStep request storing bookStep alikeFrom tests refusal step run after
 specifying = 0

@@ -3,8 +3,8 @@
 -- goes stale in them are real shadow entries. Their runs are computed word by word on a memory of 12 frames; only clearing a frame that
 -- is clear, which would take most of the time, goes by a law (proofs/Clear.antt).
 -- Assumes nothing.
-use Prim.Native.Nat.{ℕ, _*_}
-use mathlib.Core.Bool.{Bool, true, false, cond}
+use Prim.Native.Nat.{ℕ, suc, _*_, _^_}
+use mathlib.Core.Bool.{Bool, true, false, _&&_, cond}
 use mathlib.Core.List.{List, _++_}
 use lib.Dec.{eqb, leb, ltb}
 use lib.Count.{ones}
@@ -13,9 +13,10 @@ use Rattle.spec.specs.declared.Fault.{Fault}
 use Rattle.spec.specs.declared.Fault.the-variants.{Absent, Malformed, Protected, HostAbsent, HostReadOnly}
 use Rattle.spec.specs.declared.Answer.{Answer}
 use Rattle.spec.specs.declared.Answer.the-variants as answer
-use Rattle.spec.specs.Config.{Config, guestBase}
+use Rattle.spec.specs.Config.{Config, guestBase, signBit}
 use Rattle.spec.specs.Entry.{pageOf, wordOf, indexes}
 use Rattle.spec.specs.Plain.{next}
+use Rattle.spec.specs.Refusal.{alikeFrom, wordAligned}
 use Rattle.spec.specs.declared.Call.the-variants.{Root as root, Map as map, Unmap as unmap, SetMark as setMark, ClearMark as clearMark, Load as load, Store as store, Device as device}
 use Rattle.words.specs.After.{After}
 use Rattle.words.specs.Words.{wordIn, setIn}
@@ -25,7 +26,7 @@ use Rattle.host.specs.Map.{mapOf, unmapOf}
 use Rattle.walk.specs.declared.Walked.{Walked}
 use Rattle.walk.specs.declared.Walked.the-variants as walked
 use Rattle.walk.specs.Memory.{walkedOf}
-use Rattle.marks.specs.Key.{keyOf}
+use Rattle.marks.specs.Key.{lowPage, keyOf}
 use Rattle.record.specs.declared.Record.{Record}
 use Rattle.record.specs.Record.{configOf, withMarks}
 use Rattle.shadow.specs.Watch.{watchedOf}
@@ -39,7 +40,7 @@ use Rattle.request.specs.declared.Served.{Served}
 use Rattle.request.specs.Access as access
 use Rattle.request.specs.Access.{serving, stored, writtenBy}
 use Rattle.calls.specs.declared.Reply.{Reply}
-use Rattle.calls.specs.Calls.{hostTop, heldOf, withHeld, withHost, nothing, ended, refused, judged, servedBy, addressOk, deviceOk, translatedOf, markRefusal, marksAfter, callOf}
+use Rattle.calls.specs.Calls.{hostTop, heldOf, rootOf, withHeld, withHost, nothing, ended, refused, judged, servedBy, depthAt, addressOk, deviceOk, translatedOf, markRefusal, markedOf, marksAfter, callOf}
 use Rattle.claims.specs.Plain.{plainWalk}
 use Rattle.wrong_units.specs.Unit.{Calls}
 
@@ -138,6 +139,51 @@ marksFull (load a) r m = callOf (load a) r m
 marksFull (store a v) r m = callOf (store a v) r m
 marksFull (device a v) r m = callOf (device a v) r m
 
+-- ---- addresses of both halves (document 02, 1), misread
+
+-- loads by another test of the address
+unfoldable pub loadsBy : (Config → ℕ → Bool) → Calls
+loadsBy legal (load a) r m =
+    judged r m (cond (legal (configOf r) a && wordAligned a) (servedBy r (access.loadOf (configOf r) (hostTop r) m (heldOf r) (rootOf r) a (depthAt r a))) (refused r 4 m))
+loadsBy legal (root g) r m = callOf (root g) r m
+loadsBy legal (map g f w) r m = callOf (map g f w) r m
+loadsBy legal (unmap g) r m = callOf (unmap g) r m
+loadsBy legal (setMark a n) r m = callOf (setMark a n) r m
+loadsBy legal (clearMark a n) r m = callOf (clearMark a n) r m
+loadsBy legal (store a v) r m = callOf (store a v) r m
+loadsBy legal (device a v) r m = callOf (device a v) r m
+
+-- the limit of document 01
+abbrev pub lowerHalfOnly : Calls
+lowerHalfOnly = loadsBy (λ c a. ltb a (2 ^ suc (signBit c)))
+
+-- the bits above the sign bit are alike, but need not repeat it
+abbrev pub signNotCompared : Calls
+signNotCompared = loadsBy (λ c a. alikeFrom (suc (signBit c)) a)
+
+-- a device's address is tested as a guest-virtual one
+unfoldable pub devicesSigned : Calls
+devicesSigned (device a v) r m = judged r m (cond (addressOk r a) (servedBy r (access.deviceOf (configOf r) (hostTop r) m (heldOf r) a v)) (refused r 4 m))
+devicesSigned (root g) r m = callOf (root g) r m
+devicesSigned (map g f w) r m = callOf (map g f w) r m
+devicesSigned (unmap g) r m = callOf (unmap g) r m
+devicesSigned (setMark a n) r m = callOf (setMark a n) r m
+devicesSigned (clearMark a n) r m = callOf (clearMark a n) r m
+devicesSigned (load a) r m = callOf (load a) r m
+devicesSigned (store a v) r m = callOf (store a v) r m
+
+-- a mark that is set has the page number of all 64 bits in its key
+unfoldable pub marksByAllBits : Calls
+marksByAllBits (setMark a n) r m =
+    judged r m (cond (eqb (markRefusal true r a n) 0) (markedOf r m a n (marksAfter true (r .guest .marks) (keyOf n (pageOf a)))) (refused r (markRefusal true r a n) m))
+marksByAllBits (root g) r m = callOf (root g) r m
+marksByAllBits (map g f w) r m = callOf (map g f w) r m
+marksByAllBits (unmap g) r m = callOf (unmap g) r m
+marksByAllBits (clearMark a n) r m = callOf (clearMark a n) r m
+marksByAllBits (load a) r m = callOf (load a) r m
+marksByAllBits (store a v) r m = callOf (store a v) r m
+marksByAllBits (device a v) r m = callOf (device a v) r m
+
 -- ---- drops, changed. The calls are ours with what drops the paths as an argument
 
 -- how a word is written: configuration, memory, shadow tables, host frame, index, value
@@ -181,7 +227,7 @@ unmapKeeping r m g = judged r m (remapped r (unmapOf (configOf r) (r .pools .hos
 -- a mark is set or cleared, and no path is dropped
 unfoldable pub markKeeping : Bool → Record → List ℕ → ℕ → ℕ → After Reply
 markKeeping b r m a n =
-    judged r m (cond (eqb (markRefusal b r a n) 0) (ended (withMarks r (marksAfter b (r .guest .marks) (keyOf n (pageOf a)))) answer.Ok m) (refused r (markRefusal b r a n) m))
+    judged r m (cond (eqb (markRefusal b r a n) 0) (ended (withMarks r (marksAfter b (r .guest .marks) (keyOf n (lowPage (r .layout .levels) a)))) answer.Ok m) (refused r (markRefusal b r a n) m))
 
 -- nothing is dropped after the first fill, but by a root load
 unfoldable pub neverDrops : Calls
