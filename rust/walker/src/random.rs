@@ -360,7 +360,7 @@ impl Guest {
         let mut list = vec![0; self.sizes.levels as usize];
         list[0] = 300 + number / 3;
         let level = 1 + number % 3;
-        Call::SetMark { address: address_of(page_from(&list, self.sizes.levels)), level }
+        Call::SetMark { address: address_of(page_from(&list, self.sizes.levels), self.sizes.levels), level }
     }
 
     fn next_call(&mut self) -> Call {
@@ -388,11 +388,16 @@ impl Guest {
         if !self.random.one_in(3) {
             self.last_page = self.random.pick(&self.pages);
         }
-        address_of(self.last_page) + 8 * self.word_place()
+        address_of(self.last_page, self.sizes.levels) + 8 * self.word_place()
+    }
+
+    /// The first address of one of the pages.
+    fn page_address(&mut self) -> u64 {
+        address_of(self.random.pick(&self.pages), self.sizes.levels)
     }
 
     fn device_address(&mut self) -> u64 {
-        address_of(self.guest_frame()) + 8 * self.word_place()
+        device_address_of(self.guest_frame()) + 8 * self.word_place()
     }
 
     /// A place in a frame: mostly one at which tables have entries.
@@ -433,7 +438,10 @@ impl Guest {
         let names = self.plan.iter().filter(|(_, host, _)| *host == frame);
         let names: Vec<u64> = names.map(|(guest, _, _)| *guest).collect();
         let name = if names.is_empty() { self.names[0] } else { self.random.pick(&names) };
-        Call::DeviceStore { address: address_of(name) + 8 * index, value: self.entries[&(frame, index)] }
+        Call::DeviceStore {
+            address: device_address_of(name) + 8 * index,
+            value: self.entries[&(frame, index)],
+        }
     }
 
     fn map(&mut self) -> Call {
@@ -476,7 +484,7 @@ impl Guest {
     /// other depths and are cleared soon.
     fn set_mark(&mut self) -> Call {
         let levels = self.sizes.levels as u64;
-        let address = address_of(self.random.pick(&self.pages)) + self.random.below(4096);
+        let address = self.page_address() + self.random.below(4096);
         let level = match self.random.below(10) {
             0..=3 => 1,
             4 | 5 => 2,
@@ -493,7 +501,7 @@ impl Guest {
 
     fn clear_mark(&mut self) -> Call {
         if self.marks.is_empty() || self.random.one_in(10) {
-            let address = address_of(self.random.pick(&self.pages));
+            let address = self.page_address();
             return Call::ClearMark { address, level: 1 + self.random.below(self.sizes.levels as u64 + 1) };
         }
         let place = self.random.below(self.marks.len() as u64) as usize;
@@ -515,24 +523,73 @@ impl Guest {
         let levels = self.sizes.levels;
         let address = self.address();
         let guest = self.guest_frame();
-        let edge = self.random.pick(&[0, 1, 1 << 40, u64::MAX - address_limit(levels)]);
+        let far_guest = self.beyond(frame_limit(levels));
         let bad_level = self.random.pick(&[0, levels as u64 + 2, 255]);
-        match self.random.below(12) {
+        match self.random.below(16) {
             0 => Call::Load { address: address + 1 + self.random.below(7) },
-            1 => Call::Load { address: address_limit(levels) + (edge & !7) },
-            2 => Call::Load { address: address_limit(levels) - 8 },
-            3 => Call::Store { address: address + 4, value: 1 },
-            4 => Call::DeviceStore { address: device_limit(levels) + (edge & !7), value: 1 },
-            5 => Call::DeviceStore { address: device_limit(levels) - 8, value: 1 },
-            6 => Call::SetMark { address, level: bad_level },
-            7 => Call::SetMark { address: address_limit(levels) + edge, level: bad_level.min(1) },
-            8 => Call::Map { guest: frame_limit(levels) + edge, host: 0, writable: true },
-            9 => Call::Map { guest, host: self.odd_host_frame(), writable: true },
-            10 => self.odd_frame_call(frame_limit(levels) + edge),
+            1 | 2 => Call::Load { address: self.illegal_address() },
+            3 => Call::Load { address: self.edge_address() },
+            4 => Call::Store { address: address + 4, value: 1 },
+            5 => Call::Store { address: self.illegal_address(), value: 1 },
+            6 => Call::Store { address: self.edge_address(), value: 1 },
+            7 => Call::DeviceStore { address: self.odd_device_address(), value: 1 },
+            8 => Call::SetMark { address, level: bad_level },
+            9 => {
+                let address = self.illegal_address() + self.random.below(8);
+                Call::SetMark { address, level: bad_level.min(1) }
+            }
+            10 => {
+                let address = self.illegal_address() + self.random.below(8);
+                Call::ClearMark { address, level: bad_level.min(1) }
+            }
+            11 => Call::Map { guest: far_guest, host: 0, writable: true },
+            12 => Call::Map { guest, host: self.odd_host_frame(), writable: true },
+            13 => self.odd_frame_call(far_guest),
             _ => {
                 let number = self.random.below(70);
                 self.far_mark(number)
             }
+        }
+    }
+
+    /// A number at the limit, little above it, far above it, or the last of all.
+    fn beyond(&mut self, limit: u64) -> u64 {
+        self.random.pick(&[limit, limit + 1, limit + (1 << 40), u64::MAX])
+    }
+
+    /// The first or last word of a half.
+    fn edge_address(&mut self) -> u64 {
+        let upper = in_other_half(0, self.sizes.levels);
+        self.random.pick(&[0, !upper - 7, upper, u64::MAX - 7])
+    }
+
+    /// A word's address that is not legal: one bit or all the bits above a legal
+    /// one's indexes are flipped, or the bit that they must equal. So 2^47 and
+    /// 2^48 are among them, and an upper address without its sign.
+    fn illegal_address(&mut self) -> u64 {
+        let sign = sign_bit(self.sizes.levels);
+        let legal = if self.random.one_in(2) { self.edge_address() } else { self.address() };
+        let flipped = match self.random.below(4) {
+            0 => 1 << sign,
+            1 => u64::MAX << (sign + 1),
+            _ => 1 << (sign + 1 + self.random.below(63 - sign as u64) as u32),
+        };
+        legal ^ flipped
+    }
+
+    /// A guest-physical address about the limit, one that is not legal as a
+    /// guest-virtual one, or a legal one of the upper half, which no device has.
+    fn odd_device_address(&mut self) -> u64 {
+        let levels = self.sizes.levels;
+        let limit = device_limit(levels);
+        let address = self.address();
+        match self.random.below(6) {
+            0 => limit - 8,
+            1 => self.beyond(limit) & !7,
+            2 => 1 << sign_bit(levels),
+            3 => self.device_address() + 4,
+            4 => in_other_half(0, levels),
+            _ => address.max(in_other_half(address, levels)),
         }
     }
 

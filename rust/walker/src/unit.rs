@@ -123,10 +123,10 @@ impl Unit {
 
     // Marks.
 
-    /// The refusals that set and clear mark share: "4 (2^48 or more only), 5 if
-    /// the level is not 1 to 5".
+    /// The refusals that set and clear mark share: 4 by the rule of loads and
+    /// stores without the multiple of 8, then "5 if the level is not 1 to 5".
     fn refuse_mark(&self, address: u64, level: u64) -> Option<u32> {
-        if address >= address_limit(self.levels()) {
+        if !is_legal(address, self.levels()) {
             return Some(BAD_ADDRESS);
         }
         if level < 1 || level > self.levels() as u64 + 1 {
@@ -168,7 +168,7 @@ impl Unit {
     // Loads and stores.
 
     fn load(&mut self, address: u64) -> Answer {
-        if address >= address_limit(self.levels()) || address % 8 != 0 {
+        if !is_legal(address, self.levels()) || address % 8 != 0 {
             return Answer::No(BAD_ADDRESS);
         }
         let served = self.serve(address, Access::Load);
@@ -184,7 +184,7 @@ impl Unit {
 
     /// "a store fills first, then writes, then drops"
     fn store(&mut self, address: u64, value: u64) -> Answer {
-        if address >= address_limit(self.levels()) || address % 8 != 0 {
+        if !is_legal(address, self.levels()) || address % 8 != 0 {
             return Answer::No(BAD_ADDRESS);
         }
         let served = self.serve(address, Access::Store);
