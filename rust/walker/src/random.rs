@@ -1,7 +1,8 @@
 //! Random runs from a seed: a guest whose tables stand in memory at opening, the
 //! maps that make them reachable, and calls around a few pages. Frames are
 //! aliased, tables are mapped as pages or map themselves, table frames are
-//! remapped, tables and pages are read-only at times, marks come and go.
+//! remapped, tables and pages are read-only at times, marks come and go. Pages and
+//! marks are of both halves, and some differ in their half alone.
 
 use crate::answer::Call;
 use crate::job::{raw_record, write_record, Record, JOB_FRAMES, JOB_LEVELS};
@@ -98,6 +99,9 @@ pub fn run(seed: u64, sizes: Sizes, calls: usize) -> Run {
     Run { sizes, words: guest.memory(), calls: list }
 }
 
+/// The top bit of an index: the top level's tells the half.
+const TOP_BIT: u64 = 256;
+
 /// A word of the guest area at opening, by host frame and place.
 type Places = BTreeMap<(u64, u64), u64>;
 
@@ -190,7 +194,7 @@ impl Guest {
 
     fn add_to_plan(&mut self, name: u64, host: u64) {
         if self.plan.iter().all(|(other, _, _)| *other != name) {
-            let writable = !self.random.one_in(7);
+            let writable = !self.random.one_in(5);
             self.plan.push((name, host, writable));
         }
     }
@@ -219,14 +223,15 @@ impl Guest {
         self.sizes.first_guest_frame() + self.random.below(self.sizes.guest_frames())
     }
 
+    /// Each with the one that differs in the top bit: at the top level the two are
+    /// of like addresses in the two halves.
     fn choose_indexes(&mut self) {
-        self.indexes = vec![0, 1, 2];
-        for _ in 0..self.random.below(3) {
-            let more = self.random.pick(&[3, 4, 255, 256, 511]);
-            if !self.indexes.contains(&more) {
-                self.indexes.push(more);
-            }
+        let mut lower = vec![0, 1];
+        if self.random.one_in(2) {
+            lower.push(self.random.pick(&[2, 3, 255]));
         }
+        let upper = lower.iter().map(|index| index ^ TOP_BIT);
+        self.indexes = lower.iter().copied().chain(upper).collect();
     }
 
     /// Either proper layers of tables, or a graph in which every frame is a table
@@ -248,10 +253,11 @@ impl Guest {
     }
 
     /// The first frame is the root, the next ones a table of each level, some more
-    /// tables, then pages. A level 1 entry may name a table, and the root itself.
+    /// tables, then pages. A level 1 entry may name a table, and the root itself. In
+    /// a large memory too the tables are few and often named, so that stores meet them.
     fn choose_layers(&mut self) {
         let levels = self.sizes.levels as u64;
-        let tables = levels + self.random.below(self.sizes.guest_frames() - levels - 1);
+        let tables = levels + self.random.below((self.sizes.guest_frames() - levels - 1).min(24));
         let mut layers: Vec<Vec<u64>> = vec![Vec::new(); levels as usize + 1];
         for number in 0..tables {
             let level = if number < levels { levels - number } else { 1 + self.random.below(levels - 1) };
@@ -265,15 +271,17 @@ impl Guest {
             let mut below: Vec<u64> =
                 layers[level - 1].iter().map(|number| self.names[*number as usize]).collect();
             if level == 1 {
-                below.extend(self.second_names.clone());
-                below.push(self.names[self.random.below(tables) as usize]);
+                for _ in 0..=below.len() / 16 {
+                    below.extend(self.second_names.clone());
+                    below.push(self.names[self.random.below(tables) as usize]);
+                }
             }
             for number in layers[level].clone() {
                 self.choose_table(number, &below, level as u64);
             }
         }
         if self.random.one_in(3) {
-            let index = *self.indexes.last().unwrap_or(&0);
+            let index = self.random.pick(&self.indexes);
             let entry = self.names[0] << 12 | 3;
             self.entries.insert((self.sizes.first_guest_frame(), index), entry);
         }
@@ -324,14 +332,19 @@ impl Guest {
         entry
     }
 
-    /// Pages near each other: each new one changes the last few indexes of an old one.
+    /// Pages near each other: each new one changes the last few indexes of an old
+    /// one, or its half alone.
     fn choose_pages(&mut self) {
         let levels = self.sizes.levels as usize;
-        let mut list = vec![0; levels];
-        for _ in 0..6 + self.random.below(5) {
-            let kept = self.random.below(levels as u64) as usize;
-            for place in list.iter_mut().skip(kept) {
-                *place = self.random.pick(&self.indexes);
+        let mut list = vec![self.random.pick(&self.indexes); levels];
+        for number in 0..6 + self.random.below(5) {
+            if number % 3 == 2 {
+                list[0] ^= TOP_BIT;
+            } else {
+                let kept = self.random.below(levels as u64) as usize;
+                for place in list.iter_mut().skip(kept) {
+                    *place = self.random.pick(&self.indexes);
+                }
             }
             self.pages.push(page_from(&list, self.sizes.levels));
         }
@@ -356,11 +369,12 @@ impl Guest {
         list
     }
 
+    /// One of three levels at an index of its own, in the two halves by turns.
     fn far_mark(&mut self, number: u64) -> Call {
-        let mut list = vec![0; self.sizes.levels as usize];
-        list[0] = 300 + number / 3;
-        let level = 1 + number % 3;
-        Call::SetMark { address: address_of(page_from(&list, self.sizes.levels), self.sizes.levels), level }
+        let levels = self.sizes.levels;
+        let place = number / 3;
+        let index = 30 + place / 2 + TOP_BIT * (place % 2);
+        Call::SetMark { address: address_of(page_from(&[index], levels), levels), level: 1 + number % 3 }
     }
 
     fn next_call(&mut self) -> Call {
@@ -492,6 +506,8 @@ impl Guest {
             _ => levels + self.random.below(2),
         };
         if level >= levels {
+            // It keeps no index: any address clears it.
+            let address = self.page_address();
             self.undo.push(Call::ClearMark { address, level });
         } else {
             self.marks.push((address, level));
@@ -506,7 +522,9 @@ impl Guest {
         }
         let place = self.random.below(self.marks.len() as u64) as usize;
         let (address, level) = self.marks.swap_remove(place);
-        Call::ClearMark { address, level }
+        // By any address that begins with the mark's prefix.
+        let others = 4096 * FRAME_WORDS.pow(level as u32);
+        Call::ClearMark { address: address ^ self.random.below(others), level }
     }
 
     fn root(&mut self) -> Call {
@@ -525,7 +543,9 @@ impl Guest {
         let guest = self.guest_frame();
         let far_guest = self.beyond(frame_limit(levels));
         let bad_level = self.random.pick(&[0, levels as u64 + 2, 255]);
-        match self.random.below(16) {
+        // Within a word.
+        let offset = self.random.below(8);
+        match self.random.below(17) {
             0 => Call::Load { address: address + 1 + self.random.below(7) },
             1 | 2 => Call::Load { address: self.illegal_address() },
             3 => Call::Load { address: self.edge_address() },
@@ -534,17 +554,17 @@ impl Guest {
             6 => Call::Store { address: self.edge_address(), value: 1 },
             7 => Call::DeviceStore { address: self.odd_device_address(), value: 1 },
             8 => Call::SetMark { address, level: bad_level },
-            9 => {
-                let address = self.illegal_address() + self.random.below(8);
-                Call::SetMark { address, level: bad_level.min(1) }
+            9 => Call::SetMark { address: self.illegal_address() + offset, level: bad_level.min(1) },
+            10 => Call::ClearMark { address: self.illegal_address() + offset, level: bad_level.min(1) },
+            11 => {
+                let address = self.edge_address() + offset;
+                let level = 1 + self.random.below(3);
+                self.marks.push((address, level));
+                Call::SetMark { address, level }
             }
-            10 => {
-                let address = self.illegal_address() + self.random.below(8);
-                Call::ClearMark { address, level: bad_level.min(1) }
-            }
-            11 => Call::Map { guest: far_guest, host: 0, writable: true },
-            12 => Call::Map { guest, host: self.odd_host_frame(), writable: true },
-            13 => self.odd_frame_call(far_guest),
+            12 => Call::Map { guest: far_guest, host: 0, writable: true },
+            13 => Call::Map { guest, host: self.odd_host_frame(), writable: true },
+            14 => self.odd_frame_call(far_guest),
             _ => {
                 let number = self.random.below(70);
                 self.far_mark(number)
@@ -569,9 +589,10 @@ impl Guest {
     fn illegal_address(&mut self) -> u64 {
         let sign = sign_bit(self.sizes.levels);
         let legal = if self.random.one_in(2) { self.edge_address() } else { self.address() };
-        let flipped = match self.random.below(4) {
+        let flipped = match self.random.below(5) {
             0 => 1 << sign,
-            1 => u64::MAX << (sign + 1),
+            1 => 1 << (sign + 1),
+            2 => u64::MAX << (sign + 1),
             _ => 1 << (sign + 1 + self.random.below(63 - sign as u64) as u32),
         };
         legal ^ flipped
