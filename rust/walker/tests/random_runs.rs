@@ -6,7 +6,7 @@ mod naive;
 use naive::{Naive, Seen};
 use std::collections::{BTreeMap, BTreeSet};
 use walker::answer::{Answer, Call};
-use walker::events::Events;
+use walker::events::{of_halves, Events};
 use walker::numbers::{address_of, page_from};
 use walker::random::{run, Random, Run, Sizes};
 use walker::vectors::lines;
@@ -339,7 +339,18 @@ fn small_runs_with_five_levels() {
 #[test]
 fn long_runs_reach_every_event() {
     let events = check_small_runs(4, 1000..1060, 600);
-    let missed: Vec<String> = sought_events().into_iter().filter(|name| events.count(name) == 0).collect();
+    assert_all_met(sought_events(), &events);
+    assert_all_met(of_halves(4), &events);
+}
+
+#[test]
+fn long_runs_with_five_levels_reach_both_halves() {
+    let events = check_small_runs(5, 1000..1060, 600);
+    assert_all_met(of_halves(5), &events);
+}
+
+fn assert_all_met(names: Vec<String>, events: &Events) {
+    let missed: Vec<String> = names.into_iter().filter(|name| events.count(name) == 0).collect();
     assert!(missed.is_empty(), "{missed:?}");
 }
 
