@@ -3,7 +3,7 @@
 
 use cangrieb::Record;
 use compare::{answer, first_guest_word, memory_before};
-use walker::events::Events;
+use walker::events::{of_halves, Events};
 use walker::numbers::{different_proper_prefixes, indexes};
 use walker::random::{run, Random, Run, Sizes};
 use walker::Unit;
@@ -47,7 +47,7 @@ fn host_tables(walker: &Unit) -> u64 {
 
 /// What the runs of each kind of memory must have had; `overflows` if the shadow tables are few.
 fn events(overflows: bool) -> Vec<String> {
-    let mut names = Vec::new();
+    let mut names = of_halves(4);
     let mut add = |name: String| names.push(name);
     for access in ["Load", "Store"] {
         for way in ["path held", "path not held"] {
