@@ -1,5 +1,5 @@
 //! Random runs: every answer of the proved unit, with its counts, is the second walker's, and so are the guest words.
-//! TIMES sets how many times as many runs there are.
+//! TIMES sets how many times as many runs there are; `-- --nocapture` shows how often each thing happened.
 
 use cangrieb::Record;
 use compare::{answer, first_guest_word, memory_before};
@@ -113,6 +113,7 @@ fn all_same(first_seed: u64, runs: u64, overflows: bool, sizes: fn(&mut Random) 
         all.join(&same(seed, &run(seed, sizes(&mut Random::new(seed.wrapping_add(1))), CALLS)));
     }
     for event in events(overflows) {
+        println!("{:>9} {event}", all.count(&event));
         assert!(all.count(&event) > 0, "no run had: {event}");
     }
 }
