@@ -8,7 +8,8 @@ use native.Mathlib.Omega.{arith}
 use borrow.Author.Tests.{eqb-true, eqb-false, lt-ltb, le-ltb}
 use lib.Dec.{eqb, ltb}
 use lib.Pow.{pow-pos, pow-add, pow-lt, shr-lt, split, high-ones}
-use Rattle.spec.specs.Refusal.{alikeFrom}
+use Rattle.spec.specs.Refusal.{alikeFrom, addressFits}
+use Rattle.entry.specs.Levels.{ofLevels}
 use Rattle.entry.proofs.Entries.{shift-out}
 
 module _ (k a : ℕ) (small : k < 63) (word : a < 2 ^ 64) where
@@ -35,12 +36,14 @@ module _ (k a : ℕ) (small : k < 63) (word : a < 2 ^ 64) where
   room : 2 ^ (1 + k) < 2 ^ 64
   room = pow-lt {j = 64} (omega arith)
 
+  -- all clear: moved up by 2 ^ k, the word stays below twice that
   lower : top ≡ 0 → moved < 2 ^ (1 + k)
   lower e =
       let none : top * 2 ^ k ≡ 0 = ap (λ (x : ℕ). x * 2 ^ k) e ∙ zero-mul (2 ^ k) in
       let kept : moved ≡ a + 2 ^ k = mod-eq-of-lt (omega (arith, split a k, mod-lt a (pow-pos k), double, room)) in
       omega (arith, kept, split a k, mod-lt a (pow-pos k), double)
 
+  -- all set: it passes the end of the words, and begins again at 0
   upper : top ≡ tops - 1 → moved < 2 ^ (1 + k)
   upper e =
       let begins : top * 2 ^ k ≡ 2 ^ 64 - 2 ^ k = ap (λ (x : ℕ). x * 2 ^ k) e ∙ last in
@@ -48,6 +51,7 @@ module _ (k a : ℕ) (small : k < 63) (word : a < 2 ^ 64) where
       let cut : moved ≡ a % 2 ^ k = ap (λ (x : ℕ). x % 2 ^ 64) wraps ∙ omega (arith, mod-lt a (pow-pos k), double, room) in
       omega (arith, cut, mod-lt a (pow-pos k), double)
 
+  -- neither: it is 2 ^ k at least, and does not pass the end
   between : (top ≡ 0 → ⊥) → (top ≡ tops - 1 → ⊥) → 2 ^ (1 + k) ≤ moved
   between n m =
       let below : top < tops = shr-lt (64 - k) k (rw all word) in
@@ -58,7 +62,7 @@ module _ (k a : ℕ) (small : k < 63) (word : a < 2 ^ 64) where
       let kept : moved ≡ a + 2 ^ k = mod-eq-of-lt (omega (arith, split a k, mod-lt a (pow-pos k), most, last, next)) in
       omega (arith, kept, split a k, double, least, one)
 
-  pub alike-moved : eqb (moved / 2 ^ (1 + k)) 0 ≡ alikeFrom k a
+  alike-moved : eqb (moved / 2 ^ (1 + k)) 0 ≡ alikeFrom k a
   unfolding alikeFrom
   alike-moved = shift-out moved (1 + k) ∙ go (eqb top 0) refl (eqb top (tops - 1)) refl
     where
@@ -66,3 +70,9 @@ module _ (k a : ℕ) (small : k < 63) (word : a < 2 ^ 64) where
       go true e t f = lt-ltb moved (2 ^ (1 + k)) (lower (eqb-true top 0 e))
       go false e true f = lt-ltb moved (2 ^ (1 + k)) (upper (eqb-true top (tops - 1) f))
       go false e false f = le-ltb moved (2 ^ (1 + k)) (between (eqb-false top 0 e) (eqb-false top (tops - 1) f))
+
+-- with n levels the sign bit is 11 + 9 * n
+pub fits-moved : (n a : ℕ) → n < 6 → a < 2 ^ 64 → eqb ((a + 2 ^ (11 + 9 * n)) % 2 ^ 64 / 2 ^ (12 + 9 * n)) 0 ≡ addressFits (ofLevels n) a
+fits-moved n a few word =
+    let next : 12 + 9 * n ≡ 1 + (11 + 9 * n) = omega arith in
+    rw next (alike-moved (11 + 9 * n) a (omega arith) word)

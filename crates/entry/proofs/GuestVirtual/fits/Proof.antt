@@ -5,17 +5,16 @@ use native.Mathlib.Nat.{one-mul}
 use native.Mathlib.Omega.{arith}
 use lib.Dec.{lit<}
 use lib.Pow.{shl-exact}
-use Rattle.entry.proofs.Halves.{alike-moved}
+use Rattle.entry.proofs.Halves.{fits-moved}
 use borrow.Author.Needs.{needs}
 use Rattle.entry.proofs.GuestVirtual.fits.Statement.{statement}
 use Rattle.entry.proofs.GuestVirtual.fits.Tie as tie
 
 returns : tie.Need-returns
 returns c =
-    let sign = 11 + 9 * c .before .args .levels in
-    let half : 1 * 2 ^ sign % 2 ^ 64 ≡ 2 ^ sign = shl-exact 1 sign 64 (lit< tt) (omega arith) ∙ one-mul _ in
-    let above : 12 + 9 * c .before .args .levels ≡ 1 + sign = omega arith in
-    rw (c .wrapping-add-u64 .ensures, half, above) (alike-moved sign (c .before .args .self .0) (omega arith) (omega arith))
+    let levels = c .before .args .levels in
+    let half : 1 * 2 ^ (11 + 9 * levels) % 2 ^ 64 ≡ 2 ^ (11 + 9 * levels) = shl-exact 1 (11 + 9 * levels) 64 (lit< tt) (omega arith) ∙ one-mul _ in
+    rw (c .wrapping-add-u64 .ensures, half) (fits-moved levels (c .before .args .self .0) (omega arith) (omega arith))
 
 pub fits-spec : {M : Type 1} → statement M
 fits-spec = tie.close (tie.spec (λ c. search needs) (λ c. search needs) (λ c. search needs) (λ c. search needs) (λ c. search needs) (λ c. search needs) (λ c. search needs) returns)
