@@ -10,9 +10,10 @@ use Rattle.spec.specs.declared.Call.{Call}
 use Rattle.spec.specs.declared.Call.the-variants.{Map as map, SetMark as setMark, Load as load, Store as store}
 use Rattle.spec.specs.Guest.{marksOn}
 use Rattle.spec.specs.Run.{step}
+use Rattle.spec.specs.Computing.{specifying}
 use Rattle.wrong_units.specs.Unit.{afterBy, specified, Demand-3, told, unitBy}
 use Rattle.wrong_units.specs.Wrong.{flatCounts, readOnlyMissing, oneWord, faultsAll, storesNothing, tablesFull, marksFull}
-use Rattle.wrong_units.proofs.Computing.{calling, specifying}
+use Rattle.wrong_units.proofs.Computing.{calling}
 use Rattle.wrong_units.proofs.Mapped.{memory, opens, openedRecord, openedWords, tables, firstRecord, first-map}
 use Rattle.wrong_units.proofs.Filled.{mappedWords, other-maps}
 use Rattle.wrong_units.proofs.Refute.{Comes, refuted, refuted-opened, begin, begins-at}

@@ -9,6 +9,7 @@ use Rattle.spec.specs.Answer.{value, no}
 use Rattle.spec.specs.declared.Call.{Call}
 use Rattle.spec.specs.declared.Call.the-variants.{Map as map, SetMark as setMark, ClearMark as clearMark, Load as load, Store as store, Device as device}
 use Rattle.spec.specs.Run.{step}
+use Rattle.spec.specs.Computing.{specifying}
 use Rattle.layout.specs.declared.HostWalk.the-variants as host
 use Rattle.host.specs.Walk.{hostWalkOf}
 use Rattle.record.specs.declared.Record.{Record}
@@ -16,7 +17,7 @@ use Rattle.record.specs.Record.{configOf}
 use Rattle.calls.specs.Calls.{hostTop, mapCall, callOf}
 use Rattle.wrong_units.specs.Unit.{afterBy, specified, Demand-3, told, unitBy}
 use Rattle.wrong_units.specs.Wrong.{storeWith, deviceWith, putKeeping, mapKeeping, markKeeping, neverDrops, staleMapping, staleSwitch, deviceForgotten, byOwnPage, forgetsAtStore}
-use Rattle.wrong_units.proofs.Computing.{calling, specifying}
+use Rattle.wrong_units.proofs.Computing.{calling}
 use Rattle.wrong_units.proofs.Mapped.{memory, openedRecord, openedWords, tables, firstRecord}
 use Rattle.wrong_units.proofs.Filled.{others, mappedWords, other-maps, marked, marks-set, heldRecord, heldWords}
 use Rattle.wrong_units.proofs.Refute.{Comes, refuted, begin, begins-at, hold, holds-at}

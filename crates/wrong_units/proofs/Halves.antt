@@ -7,9 +7,10 @@ use Rattle.spec.specs.Answer.{ok, fault, no}
 use Rattle.spec.specs.declared.Call.{Call}
 use Rattle.spec.specs.declared.Call.the-variants.{SetMark as setMark, Load as load, Device as device}
 use Rattle.spec.specs.Run.{step}
+use Rattle.spec.specs.Computing.{specifying}
 use Rattle.wrong_units.specs.Unit.{afterBy, specified, Demand-3, unitBy}
 use Rattle.wrong_units.specs.Wrong.{loadsBy, lowerHalfOnly, signNotCompared, devicesSigned, marksByAllBits}
-use Rattle.wrong_units.proofs.Computing.{calling, specifying}
+use Rattle.wrong_units.proofs.Computing.{calling}
 use Rattle.wrong_units.proofs.Mapped.{memory, openedRecord, openedWords}
 use Rattle.wrong_units.proofs.Refute.{refuted-opened}
 
