@@ -4,7 +4,6 @@ use mathlib.Core.Path.{_≡_, refl, sym, ap, ap₂, _∙_, subst}
 use mathlib.Core.Logic.{_⊎_, inl}
 use Prim.Native.Nat.{ℕ, _+_, _-_, _*_, _/_, _^_, _<_, _≤_}
 use native.Mathlib.Omega.{arith}
-use native.Mathlib.Decide.{decLe}
 use borrow.Author.Tests.{ltb-true, ltb-false, ne-eqb}
 use mathlib.Core.Bool.{Bool, true, false, not, _&&_, cond}
 use mathlib.Core.List.{List, [], _∷_}
@@ -29,7 +28,7 @@ use Rattle.spec_laws.proofs.Lists.{all-map, all-any}
 use Rattle.spec_laws.proofs.Keeps.{Valid}
 use Rattle.spec_laws.proofs.Runs.{BookFits}
 use Rattle.entry.specs.Levels.{ofLevels}
-use Rattle.spec_laws.proofs.Indexes.{indexes-length, indexes-take}
+use Rattle.spec_laws.proofs.Indexes.{indexes-length, indexes-above}
 use Rattle.area_laws.proofs.Hosts.{indexes-small}
 use Rattle.layout.proofs.Laws.{InGuestArea}
 use Rattle.walk.proofs.Stands.{Stands}
@@ -122,12 +121,6 @@ module _ (n : ℕ) (t : Marks) (a level : ℕ) (word : t .set < 2 ^ 64) where
         and-right (keyFits n k && not (any (eqb k) new)) (keysFit n new) (sym (members-fit (ofLevels n) without) ∙ whole)
 
 -- ---- the prefix of a mark
-taken : (n l p : ℕ) → indexes (n - l) (p / 2 ^ (9 * l)) ≡ take (n - l) (indexes n p)
-unfolding indexes
-taken n l p = elim (decLe l n) [
-  | yes le ↦ let all : n - l + l ≡ n = omega arith in rw all at (sym (indexes-take (n - l) l p))
-  | no gt ↦ let none : n - l ≡ 0 = omega arith in rw none
-]
 
 -- it leaves the path of no index where it has an index itself
 begins-none : (is p : List ℕ) → 0 < length is → p ≡ [] → not (begins is p) ≡ true
@@ -150,7 +143,7 @@ module _ (s : State) (r : Record) (m : List ℕ) (h : Inv s r m) (a n : ℕ) (t 
 
   same : is ≡ p
   unfolding p is
-  same = taken (r .layout .levels) n (pageOf a)
+  same = indexes-above (r .layout .levels) n (pageOf a)
 
   long : length p ≡ (r .layout .levels) - n
   unfolding is

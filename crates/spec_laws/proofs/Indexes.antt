@@ -6,6 +6,7 @@ use mathlib.Core.List.{List, [], _∷_, _++_}
 use Prim.Native.Nat.{ℕ, zero, suc, _+_, _-_, _*_, _/_, _%_, _^_, _<_}
 use native.Mathlib.Nat.{suc-add, mod-lt, mod-eq-of-lt}
 use native.Mathlib.Omega.{arith}
+use native.Mathlib.Decide.{decLe}
 use borrow.Author.Tests.{eq-eqb, ne-eqb, eqb-true, eqb-false, lt-ltb}
 use lib.Dec.{eqb, ltb}
 use lib.Pow.{pow-pos, shr-shr, shr-lt, mod-pow-add, mod-mod-pow, field, high, low}
@@ -47,6 +48,14 @@ indexes-split (suc k) n p =
 pub indexes-take : (k n p : ℕ) → take k (indexes (k + n) p) ≡ indexes k (p / 2 ^ (9 * n))
 indexes-take k n p =
     ap (take k) (indexes-split k n p) ∙ take-at (indexes k (p / 2 ^ (9 * n))) (indexes n p) k (indexes-length k (p / 2 ^ (9 * n)))
+
+-- of n indexes those above the l lowest, also where l is above n
+pub indexes-above : (n l p : ℕ) → indexes (n - l) (p / 2 ^ (9 * l)) ≡ take (n - l) (indexes n p)
+unfolding indexes
+indexes-above n l p = elim (decLe l n) [
+  | yes le ↦ let all : n - l + l ≡ n = omega arith in rw all at (sym (indexes-take (n - l) l p))
+  | no gt ↦ let none : n - l ≡ 0 = omega arith in rw none
+]
 
 -- the n lowest indexes do not read the bits above them: j of these may be kept
 indexes-cut : (n j p : ℕ) → indexes n (p % 2 ^ (j + 9 * n)) ≡ indexes n p

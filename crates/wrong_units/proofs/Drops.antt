@@ -23,7 +23,7 @@ use Rattle.wrong_units.proofs.Filled.{others, mappedWords, other-maps, 
 use Rattle.wrong_units.proofs.Refute.{Comes, refuted, begin, begins-at, hold, holds-at}
 
 -- a frame that was not mapped has no path to drop
-fresh-map : (r : Record) (m : List ℕ) (g f : ℕ) (w : Bool) (k : ℕ) → hostWalkOf (configOf r) (hostTop r) m g ≡ host.Absent k → mapKeeping r m g f w ≡ callOf (map g f w) r m
+fresh-map : (r : Record) (m : List ℕ) (g f : ℕ) (w : Bool) (k : ℕ) → hostWalkOf (configOf r) (hostTop r) m g ≡ host.Absent k → mapKeeping g f w r m ≡ callOf (map g f w) r m
 unfolding mapKeeping callOf mapCall
 fresh-map r m g f w k e = rw e
 
@@ -31,7 +31,7 @@ first-absent : hostWalkOf (configOf openedRecord) (hostTop openedRecord) openedW
 unfolding calling
 first-absent = refl
 
-first-same : (told (mapKeeping openedRecord openedWords 0 8 true)) .1 ≡ (told (callOf (map 0 8 true) openedRecord openedWords)) .1
+first-same : (told (mapKeeping 0 8 true openedRecord openedWords)) .1 ≡ (told (callOf (map 0 8 true) openedRecord openedWords)) .1
 first-same = ap (λ e. (told e) .1) (fresh-map openedRecord openedWords 0 8 true 1 first-absent)
 
 -- ---- version 2

@@ -9,7 +9,7 @@ use Rattle.spec.specs.declared.Call.the-variants.{SetMark as setMark, Load as l
 use Rattle.spec.specs.Run.{step}
 use Rattle.spec.specs.Computing.{specifying}
 use Rattle.wrong_units.specs.Unit.{afterBy, specified, Demand-3, unitBy}
-use Rattle.wrong_units.specs.Wrong.{loadsBy, lowerHalfOnly, signNotCompared, devicesSigned, marksByAllBits}
+use Rattle.wrong_units.specs.Wrong.{lowerHalfOnly, signNotCompared, devicesSigned, marksByAllBits}
 use Rattle.wrong_units.proofs.Computing.{calling}
 use Rattle.wrong_units.proofs.Mapped.{memory, openedRecord, openedWords}
 use Rattle.wrong_units.proofs.Refute.{refuted-opened}
@@ -17,7 +17,7 @@ use Rattle.wrong_units.proofs.Refute.{refuted-opened}
 -- ---- the old limit: the first address of the upper half is walked
 
 lower-says : ((unitBy lowerHalfOnly) .call (load 0xFFFF800000000000) (openedRecord, openedWords)) .0 ≡ no 4
-unfolding loadsBy calling
+unfolding lowerHalfOnly calling
 lower-says = refl
 
 upper-right : (step (load 0xFFFF800000000000) (specified memory 4 4 [])) .0 ≡ fault 72 0 0 1 1
@@ -31,7 +31,7 @@ lower-half-only-refuted = refuted-opened lowerHalfOnly [] (load 0xFFFF8000000000
 -- ---- bit 47 not compared: 2 ^ 47 is no address
 
 sign-says : ((unitBy signNotCompared) .call (load 0x800000000000) (openedRecord, openedWords)) .0 ≡ fault 72 0 0 1 1
-unfolding loadsBy calling
+unfolding signNotCompared calling
 sign-says = refl
 
 sign-right : (step (load 0x800000000000) (specified memory 4 4 [])) .0 ≡ no 4

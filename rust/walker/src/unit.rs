@@ -170,8 +170,12 @@ impl Unit {
 
     // Loads and stores.
 
+    fn is_word_address(&self, address: u64) -> bool {
+        is_legal(address, self.levels()) && address % 8 == 0
+    }
+
     fn load(&mut self, address: u64) -> Answer {
-        if !is_legal(address, self.levels()) || address % 8 != 0 {
+        if !self.is_word_address(address) {
             return Answer::No(BAD_ADDRESS);
         }
         let served = self.serve(address, Access::Load);
@@ -187,7 +191,7 @@ impl Unit {
 
     /// "a store fills first, then writes, then drops"
     fn store(&mut self, address: u64, value: u64) -> Answer {
-        if !is_legal(address, self.levels()) || address % 8 != 0 {
+        if !self.is_word_address(address) {
             return Answer::No(BAD_ADDRESS);
         }
         let served = self.serve(address, Access::Store);
