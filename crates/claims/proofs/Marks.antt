@@ -33,7 +33,7 @@ use Rattle.area_laws.proofs.Hosts.{indexes-small}
 use Rattle.layout.proofs.Laws.{InGuestArea}
 use Rattle.walk.proofs.Stands.{Stands}
 use Rattle.marks.specs.declared.Marks.{Marks}
-use Rattle.marks.specs.Key.{lowPage, keyOf, keyFits, keysFit}
+use Rattle.marks.specs.Key.{lowPage, keyAt, keyFits, keysFit}
 use Rattle.marks.specs.Table.{room, inserted, tableOf, withKey, withoutKey, placeOf, setRefusal, clearRefusal, number}
 use Rattle.marks.specs.Reading.{markOf, marksOf}
 use Rattle.marks.proofs.Turn.{keys-count}
@@ -78,25 +78,25 @@ members-fit c {ks} {js} d =
 -- ---- the table after a mark is set or cleared
 module _ (n : ℕ) (t : Marks) (a level : ℕ) (word : t .set < 2 ^ 64) where
   k : ℕ
-  k = keyOf level (lowPage n a)
+  k = keyAt n level a
 
-  pub set-word : withKey t (keyOf level (lowPage n a)) .set < 2 ^ 64
+  pub set-word : withKey t (keyAt n level a) .set < 2 ^ 64
   unfolding withKey tableOf
   set-word = go (ltb (ones (t .set)) room) refl
     where
       more : List ℕ
-      more = inserted (keyOf level (lowPage n a)) (keysOf t)
+      more = inserted (keyAt n level a) (keysOf t)
 
       go : (b : Bool) → ltb (ones (t .set)) room ≡ b → (cond b (tableOf more) t) .set < 2 ^ 64
       go true e =
-          let few : length more ≤ 64 = omega (arith, inserted-length (keyOf level (lowPage n a)) (keysOf t), keys-count (t .place) (t .set) word, ltb-true (ones (t .set)) room e) in
+          let few : length more ≤ 64 = omega (arith, inserted-length (keyAt n level a) (keysOf t), keys-count (t .place) (t .set) word, ltb-true (ones (t .set)) room e) in
           let top : 2 ^ length more ≤ 2 ^ 64 = pow-mono few in
           omega (arith, pow-pos (length more))
       go false e = word
 
-  pub clear-word : withoutKey t (keyOf level (lowPage n a)) .set < 2 ^ 64
+  pub clear-word : withoutKey t (keyAt n level a) .set < 2 ^ 64
   unfolding withoutKey
-  clear-word = go (placeOf (t .place) (t .set) (keyOf level (lowPage n a)))
+  clear-word = go (placeOf (t .place) (t .set) (keyAt n level a))
     where
       go : (i : ℕ) → (cond (ltb i room) (record { set = t .set - 2 ^ i; place = t .place }) t) .set < 2 ^ 64
       go i = by (ltb i room)
@@ -106,14 +106,14 @@ module _ (n : ℕ) (t : Marks) (a level : ℕ) (word : t .set < 2 ^ 64) where
           by false = word
 
   module _ (small : n < 7) (whole : keysFit n (keysOf t) ≡ true) where
-    pub set-rule : number (setRefusal n (keysOf t) a level) ≡ 0 → keysFit n (keysOf (withKey t (keyOf level (lowPage n a)))) ≡ true
+    pub set-rule : number (setRefusal n (keysOf t) a level) ≡ 0 → keysFit n (keysOf (withKey t (keyAt n level a))) ≡ true
     unfolding keysFit k
     set-rule e =
         let may = may-set n t a level e in
         let fits = key-fits (ofLevels n) level (lowPage n a) (low-small n a) (omega (arith, level-below n level (may .fits))) (may .fits) in
         ap (keysFit n) (keys-with t k word (may .free)) ∙ members-fit (ofLevels n) (inserted-members k (keysOf t)) ∙ rw (fits, may .new, whole)
 
-    pub clear-rule : number (clearRefusal n (keysOf t) a level) ≡ 0 → keysFit n (keysOf (withoutKey t (keyOf level (lowPage n a)))) ≡ true
+    pub clear-rule : number (clearRefusal n (keysOf t) a level) ≡ 0 → keysFit n (keysOf (withoutKey t (keyAt n level a))) ≡ true
     unfolding keysFit k
     clear-rule e =
         let without = around-members k _ _ (keys-without t k (may-clear n t a level e .held)) in
@@ -240,11 +240,11 @@ module _ (s : State) (r : Record) (m : List ℕ) (h : Inv s r m) (a n : ℕ) whe
   unfolding setMarkCall tests machineStep bookStep
   set-mark-follows =
       let same = set-refused (configOf r) (r .guest .marks) (s .book) few (h .word) (h .marks) (s .machine) a n refl in
-      by-refusal (setMark a n) (withKey (r .guest .marks) (keyOf n (lowPage (r .layout .levels) a))) (setRefusal (r .layout .levels) (keysOf (r .guest .marks)) a n) same
+      by-refusal (setMark a n) (withKey (r .guest .marks) (keyAt (r .layout .levels) n a)) (setRefusal (r .layout .levels) (keysOf (r .guest .marks)) a n) same
       (omega arith, (omega arith, (omega arith, (omega arith, tt)))) refl
       (λ e.
       let free : number (setRefusal (r .layout .levels) (keysOf (r .guest .marks)) a n) ≡ 0 = ap number (same ∙ e) in
-      marked-left s r m h a n (withKey (r .guest .marks) (keyOf n (lowPage (r .layout .levels) a))) (markAt (configOf r) n (addressIndexes (configOf r) a) ∷ s .book .marks)
+      marked-left s r m h a n (withKey (r .guest .marks) (keyAt (r .layout .levels) n a)) (markAt (configOf r) n (addressIndexes (configOf r) a) ∷ s .book .marks)
       (set-word (r .layout .levels) (r .guest .marks) a n (h .word)) (set-rule (r .layout .levels) (r .guest .marks) a n (h .word) few whole free)
       (set-granted (configOf r) (r .guest .marks) (s .book) few (h .word) (h .marks) a n free) (after-fits (configOf r) (setMark a n) s e (h .book)))
 
@@ -252,10 +252,10 @@ module _ (s : State) (r : Record) (m : List ℕ) (h : Inv s r m) (a n : ℕ) whe
   unfolding clearMarkCall tests machineStep bookStep
   clear-mark-follows =
       let same = clear-refused (configOf r) (r .guest .marks) (s .book) few (h .word) (h .marks) (s .machine) a n in
-      by-refusal (clearMark a n) (withoutKey (r .guest .marks) (keyOf n (lowPage (r .layout .levels) a))) (clearRefusal (r .layout .levels) (keysOf (r .guest .marks)) a n) same
+      by-refusal (clearMark a n) (withoutKey (r .guest .marks) (keyAt (r .layout .levels) n a)) (clearRefusal (r .layout .levels) (keysOf (r .guest .marks)) a n) same
       (omega arith, (omega arith, (omega arith, tt))) refl
       (λ e.
       let free : number (clearRefusal (r .layout .levels) (keysOf (r .guest .marks)) a n) ≡ 0 = ap number (same ∙ e) in
-      marked-left s r m h a n (withoutKey (r .guest .marks) (keyOf n (lowPage (r .layout .levels) a))) (keep (λ y. not (sameMark (markAt (configOf r) n (addressIndexes (configOf r) a)) y)) (s .book .marks))
+      marked-left s r m h a n (withoutKey (r .guest .marks) (keyAt (r .layout .levels) n a)) (keep (λ y. not (sameMark (markAt (configOf r) n (addressIndexes (configOf r) a)) y)) (s .book .marks))
       (clear-word (r .layout .levels) (r .guest .marks) a n (h .word)) (clear-rule (r .layout .levels) (r .guest .marks) a n (h .word) few whole free)
       (clear-granted (configOf r) (r .guest .marks) (s .book) few (h .word) (h .marks) a n whole free) (after-fits (configOf r) (clearMark a n) s e (h .book)))

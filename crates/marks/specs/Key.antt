@@ -17,6 +17,10 @@ lowPage n a = pageOf a % 2 ^ (9 * n)
 unfoldable pub keyOf : ℕ → ℕ → ℕ
 keyOf n p = p / 2 ^ (9 * n) * 8 + n
 
+-- and at an address, of that many levels
+abbrev pub keyAt : ℕ → ℕ → ℕ → ℕ
+keyAt levels n a = keyOf n (lowPage levels a)
+
 -- the level of the key k where the page p begins with its indexes, else 0
 unfoldable pub levelAt : ℕ → ℕ → ℕ
 levelAt p k = cond (eqb (p / 2 ^ (9 * (k % 8))) (k / 8)) (k % 8) 0

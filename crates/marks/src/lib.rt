@@ -11,7 +11,7 @@ ghost use Prim.Native.Nat.{_-_, _<_, min, max};
 ghost use Rattle.spec.specs.Prefix.{any};
 ghost use Rattle.spec.specs.Refusal.{levelFits};
 ghost use Rattle.entry.specs.Levels.{ofLevels};
-ghost use Rattle.marks.specs.Key.{lowPage, keyOf, keysFit, ascending};
+ghost use Rattle.marks.specs.Key.{lowPage, keyAt, keysFit, ascending};
 ghost use Rattle.marks.specs.ByLevel.{endOf, endsOf, fitsBy};
 ghost use Rattle.marks.specs.Table.{keys, placeOf, inserted, tableOf, withKey, withoutKey, setRefusal, clearRefusal, number};
 
@@ -49,7 +49,7 @@ fn low_page(levels: u64, address: GuestVirtual) -> u64
 // The key of the mark of that level at an address.
 pub fn key_of(levels: u64, level: u64, address: GuestVirtual) -> u64
     requires { ⌜ level < 8 ⌝ }
-    ensures { λ r. ⌜ r ≡ keyOf level (lowPage levels (address .0)) ⌝ }
+    ensures { λ r. ⌜ r ≡ keyAt levels level (address .0) ⌝ }
 {
     (low_page(levels, address) >> (9 * level)) * 8 + level
 }

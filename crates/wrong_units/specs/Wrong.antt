@@ -26,7 +26,7 @@ use Rattle.host.specs.Map.{mapOf, unmapOf}
 use Rattle.walk.specs.declared.Walked.{Walked}
 use Rattle.walk.specs.declared.Walked.the-variants as walked
 use Rattle.walk.specs.Memory.{walkedOf}
-use Rattle.marks.specs.Key.{lowPage, keyOf}
+use Rattle.marks.specs.Key.{keyOf, keyAt}
 use Rattle.record.specs.declared.Record.{Record}
 use Rattle.record.specs.Record.{configOf, withMarks}
 use Rattle.shadow.specs.Watch.{watchedOf}
@@ -185,7 +185,7 @@ unmapKeeping g r m = judged r m (remapped r (unmapOf (configOf r) (r .pools .hos
 -- a mark is set or cleared, and no path is dropped
 unfoldable pub markKeeping : Bool → ℕ → ℕ → Does
 markKeeping b a n r m =
-    judged r m (cond (eqb (markRefusal b r a n) 0) (ended (withMarks r (marksAfter b (r .guest .marks) (keyOf n (lowPage (r .layout .levels) a)))) answer.Ok m) (refused r (markRefusal b r a n) m))
+    judged r m (cond (eqb (markRefusal b r a n) 0) (ended (withMarks r (marksAfter b (r .guest .marks) (keyAt (r .layout .levels) n a))) answer.Ok m) (refused r (markRefusal b r a n) m))
 
 -- version 2: a remap drops nothing, so that a table's old host frame goes on being read
 unfoldable pub staleMapping : Calls
