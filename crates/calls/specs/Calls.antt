@@ -25,7 +25,7 @@ use Rattle.layout.specs.Layout.{LayoutFits, page}
 use Rattle.host.specs.Walk.{hostWalkOf}
 use Rattle.host.specs.Map.{mapOf, unmapOf}
 use Rattle.marks.specs.declared.Marks.{Marks}
-use Rattle.marks.specs.Key.{keyOf, depthOf}
+use Rattle.marks.specs.Key.{lowPage, keyAt, depthOf}
 use Rattle.marks.specs.Table.{keys, withKey, withoutKey, setRefusal, clearRefusal, number}
 use Rattle.drops.specs.declared.Cut.the-variants.{Names}
 use Rattle.drops.specs.declared.Left.{Left}
@@ -132,7 +132,7 @@ openCall m h s = let t = openOf m h s in openedBy (t .result .unit) (t .result .
 -- ---- load, store, device store
 
 abbrev pub depthAt : Record → ℕ → ℕ
-depthAt r a = depthOf (pageOf a) (keys (r .guest .marks .place) (r .guest .marks .set))
+depthAt r a = depthOf (lowPage (r .layout .levels) a) (keys (r .guest .marks .place) (r .guest .marks .set))
 
 -- the translation of an address
 unfoldable pub translatedOf : Record → List ℕ → Bool → ℕ → After Translated
@@ -213,7 +213,7 @@ marksAfter b t k = cond b (withKey t k) (withoutKey t k)
 
 abbrev pub markCall : Bool → Record → List ℕ → ℕ → ℕ → After Reply
 markCall b r m a n =
-    judged r m (cond (eqb (markRefusal b r a n) 0) (markedOf r m a n (marksAfter b (r .guest .marks) (keyOf n (pageOf a)))) (refused r (markRefusal b r a n) m))
+    judged r m (cond (eqb (markRefusal b r a n) 0) (markedOf r m a n (marksAfter b (r .guest .marks) (keyAt (r .layout .levels) n a))) (refused r (markRefusal b r a n) m))
 
 unfoldable pub setMarkCall : Record → List ℕ → ℕ → ℕ → After Reply
 setMarkCall r m a n = markCall true r m a n

@@ -160,7 +160,7 @@ pub fn load_at(head: Head, place: &[u64; 64], mem: &mut [u64], address: u64) -> 
     if refusal != 0 {
         return request::refused(held, refusal);
     }
-    let d = depth::depth(place, head.set, at);
+    let d = depth::depth(place, head.set, head.layout.levels, at);
     request::load(mem, space_in(head), head.root, held, at, d)
 }
 
@@ -174,7 +174,7 @@ pub fn store_at(head: Head, place: &[u64; 64], mem: &mut [u64], address: u64, va
     if refusal != 0 {
         return request::refused(held, refusal);
     }
-    let d = depth::depth(place, head.set, at);
+    let d = depth::depth(place, head.set, head.layout.levels, at);
     request::store(mem, space_in(head), head.root, held, at, d, value)
 }
 

@@ -18,9 +18,8 @@ use Rattle.spec.specs.Book.{Held, Book, depth, find, dropWord, watched}
 use Rattle.spec.specs.declared.Call.{Call}
 use Rattle.spec.specs.Call.{addressIndexes}
 use Rattle.spec.specs.Count.{serves, one}
-use Rattle.spec.specs.Refusal.{addressFits, wordAligned}
 use Rattle.spec.specs.Run.{State, after, opened}
-use Rattle.spec_laws.proofs.Lists.{all-any, and-left, is-true}
+use Rattle.spec_laws.proofs.Lists.{all-any, is-true}
 use Rattle.entry.proofs.Entries.{word-fits}
 use Rattle.words.specs.Words.{setIn}
 use Rattle.pool.specs.Outside.{SameOutside}
@@ -94,12 +93,12 @@ module _ (s : State) (r : Record) (m : List ℕ) (inv : Inv s r m) (a : ℕ) whe
   path = found.path s r m inv a
 
   -- the book's held path is one that the unit finds
-  reaches : (st : Bool) → addressOk r a ≡ true → HeldOrPlain c (s .book) st a → Reaches r st a m
+  reaches : (st : Bool) → HeldOrPlain c (s .book) st a → Reaches r st a m
   unfolding HeldOrPlain
-  reaches st ok h = go (leb deep (c .levels)) refl h
+  reaches st h = go (leb deep (c .levels)) refl h
     where
       at : depthAt r a ≡ deep
-      at = depth-book c (r .guest .marks) (s .book) (let z = found.rules s r m inv .sizes .deep in omega arith) (inv .word) (inv .marks) a (is-true (addressFits c a) (and-left (addressFits c a) (wordAligned a) (subst T (sym ok) tt)))
+      at = depth-book c (r .guest .marks) (s .book) (let z = found.rules s r m inv .sizes .deep in omega arith) (inv .word) (inv .marks) a
 
       by : deep ≤ c .levels → (o : Option Held) → find path (s .book .held) ≡ o → T (serves st deep o) → Reaches r st a m
       by low none e k = absurd k
@@ -135,15 +134,15 @@ module _ (s : State) (r : Record) (m : List ℕ) (inv : Inv s r m) (a : ℕ) whe
       → loadCall r n a ≡ ended r (loadCall r m a .result .answer) n
   unfolding touchedOf
   words-counted-load h n e counted touched =
-      load-fits n e ∙ go (addressOk r a) refl ∙ sym (ap (λ (x : After Reply). ended r (x .result .answer) n) (load-fits m refl))
+      load-fits n e ∙ go (addressOk r a) ∙ sym (ap (λ (x : After Reply). ended r (x .result .answer) n) (load-fits m refl))
     where
       said : List ℕ → After Reply
       said k = loadedBy r a (translatedOf r k false a) (translatedOf r k false a .result .walked)
 
-      go : (b : Bool) → addressOk r a ≡ b → cond b (said n) (refused r 4 n) ≡ ended r (cond b (said m) (refused r 4 m) .result .answer) n
-      go false q = refl
-      go true q =
-          let l = alike r false a m n (reaches false q h) counted in
+      go : (b : Bool) → cond b (said n) (refused r 4 n) ≡ ended r (cond b (said m) (refused r 4 m) .result .answer) n
+      go false = refl
+      go true =
+          let l = alike r false a m n (reaches false h) counted in
           ap (λ (o : After Translated). loadedBy r a o (o .result .walked)) (l .altered)
           ∙ load-says n (l .walked) (subst (λ (o : After Translated). SameWords m n (touchedBy a (o .result .walked))) (l .before) touched)
           ∙ sym (ap (λ (o : After Translated). ended r (loadedBy r a o (o .result .walked) .result .answer) n) (l .before))
@@ -153,13 +152,13 @@ module _ (s : State) (r : Record) (m : List ℕ) (inv : Inv s r m) (a : ℕ) whe
   counts : (st : Bool) → HeldOrPlain c (s .book) st a → (by : After Translated → Walked → After Reply)
       → ((x : Walked) → Reads (length (countedOf r m st a)) x → References (length (countedOf r m st a)) (by (read.left r st a x m) x .result .answer))
       → References (length (countedOf r m st a)) (cond (addressOk r a) (by (translatedOf r m st a) (translatedOf r m st a .result .walked)) (refused r 4 m) .result .answer)
-  counts st h by said = go (addressOk r a) refl
+  counts st h by said = go (addressOk r a)
     where
-      go : (b : Bool) → addressOk r a ≡ b
+      go : (b : Bool)
           → References (length (countedOf r m st a)) (cond b (by (translatedOf r m st a) (translatedOf r m st a .result .walked)) (refused r 4 m) .result .answer)
-      go false q = tt
-      go true q =
-          let l = alike r st a m m (reaches st q h) (all-any _ (countedOf r m st a) (λ x. refl)) in
+      go false = tt
+      go true =
+          let l = alike r st a m m (reaches st h) (all-any _ (countedOf r m st a) (λ x. refl)) in
           subst (λ (o : After Translated). References (length (countedOf r m st a)) (by o (o .result .walked) .result .answer)) (sym (l .before)) (said (l .walked) (l .count))
 
   pub load-counted : HeldOrPlain c (s .book) false a → References (length (countedOf r m false a)) (loadCall r m a .result .answer)
@@ -295,7 +294,7 @@ module _ (s : State) (r : Record) (m : List ℕ) (inv : Inv s r m) (a : ℕ) whe
             let z : answer.Refused 4 ≡ answer.Done k e = sym (ap (λ (x : After Reply). x .result .answer) (store-fits m refl ∙ ap (λ b. cond b (said m) (refused r 4 m)) q)) ∙ done in
             let x : _≡_ {A = ℕ} 0 1 = cc in absurd (omega arith)
         go true q =
-            let l = alike r true a m n (reaches true q h) counted in
+            let l = alike r true a m n (reaches true h) counted in
             by (l .walked) (l .before) (l .altered) (subst (λ (o : After Translated). ArrivedIn c (o .result .walked)) (l .before) arrives)
             (store-fits m refl ∙ ap (λ b. cond b (said m) (refused r 4 m)) q ∙ ap (λ (o : After Translated). storedBy r a v o (o .result .walked)) (l .before))
             (store-fits n long ∙ ap (λ b. cond b (said n) (refused r 4 n)) q ∙ ap (λ (o : After Translated). storedBy r a v o (o .result .walked)) (l .altered))

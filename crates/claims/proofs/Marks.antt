@@ -4,7 +4,6 @@ use mathlib.Core.Path.{_≡_, refl, sym, ap, ap₂, _∙_, subst}
 use mathlib.Core.Logic.{_⊎_, inl}
 use Prim.Native.Nat.{ℕ, _+_, _-_, _*_, _/_, _^_, _<_, _≤_}
 use native.Mathlib.Omega.{arith}
-use native.Mathlib.Decide.{decLe}
 use borrow.Author.Tests.{ltb-true, ltb-false, ne-eqb}
 use mathlib.Core.Bool.{Bool, true, false, not, _&&_, cond}
 use mathlib.Core.List.{List, [], _∷_}
@@ -29,12 +28,12 @@ use Rattle.spec_laws.proofs.Lists.{all-map, all-any}
 use Rattle.spec_laws.proofs.Keeps.{Valid}
 use Rattle.spec_laws.proofs.Runs.{BookFits}
 use Rattle.entry.specs.Levels.{ofLevels}
-use Rattle.spec_laws.proofs.Indexes.{indexes-length, indexes-take}
+use Rattle.spec_laws.proofs.Indexes.{indexes-length, indexes-above}
 use Rattle.area_laws.proofs.Hosts.{indexes-small}
 use Rattle.layout.proofs.Laws.{InGuestArea}
 use Rattle.walk.proofs.Stands.{Stands}
 use Rattle.marks.specs.declared.Marks.{Marks}
-use Rattle.marks.specs.Key.{keyOf, keyFits, keysFit}
+use Rattle.marks.specs.Key.{lowPage, keyAt, keyFits, keysFit}
 use Rattle.marks.specs.Table.{room, inserted, tableOf, withKey, withoutKey, placeOf, setRefusal, clearRefusal, number}
 use Rattle.marks.specs.Reading.{markOf, marksOf}
 use Rattle.marks.proofs.Turn.{keys-count}
@@ -44,7 +43,8 @@ use Rattle.marks.proofs.Order.{SameMembers, members-fold, members-map, members-
 use Rattle.marks.proofs.Tables.{keys-with, keys-without, inserted-members, around-members}
 use Rattle.marks.proofs.Reading as reading
 use Rattle.marks.proofs.Reading.{key-fits}
-use Rattle.marks.proofs.Book.{keysOf, page-small, marks-fit, may-set, may-clear, set-refused, clear-refused, set-granted, clear-granted}
+use Rattle.marks.proofs.Pages.{low-small}
+use Rattle.marks.proofs.Book.{keysOf, marks-fit, may-set, may-clear, set-refused, clear-refused, set-granted, clear-granted}
 use Rattle.record.specs.declared.Record.{Record}
 use Rattle.entry.specs.declared.HostPhysical.{HostPhysical}
 use Rattle.layout.specs.Layout.{page}
@@ -78,25 +78,25 @@ members-fit c {ks} {js} d =
 -- ---- the table after a mark is set or cleared
 module _ (n : ℕ) (t : Marks) (a level : ℕ) (word : t .set < 2 ^ 64) where
   k : ℕ
-  k = keyOf level (pageOf a)
+  k = keyAt n level a
 
-  pub set-word : withKey t (keyOf level (pageOf a)) .set < 2 ^ 64
+  pub set-word : withKey t (keyAt n level a) .set < 2 ^ 64
   unfolding withKey tableOf
   set-word = go (ltb (ones (t .set)) room) refl
     where
       more : List ℕ
-      more = inserted (keyOf level (pageOf a)) (keysOf t)
+      more = inserted (keyAt n level a) (keysOf t)
 
       go : (b : Bool) → ltb (ones (t .set)) room ≡ b → (cond b (tableOf more) t) .set < 2 ^ 64
       go true e =
-          let few : length more ≤ 64 = omega (arith, inserted-length (keyOf level (pageOf a)) (keysOf t), keys-count (t .place) (t .set) word, ltb-true (ones (t .set)) room e) in
+          let few : length more ≤ 64 = omega (arith, inserted-length (keyAt n level a) (keysOf t), keys-count (t .place) (t .set) word, ltb-true (ones (t .set)) room e) in
           let top : 2 ^ length more ≤ 2 ^ 64 = pow-mono few in
           omega (arith, pow-pos (length more))
       go false e = word
 
-  pub clear-word : withoutKey t (keyOf level (pageOf a)) .set < 2 ^ 64
+  pub clear-word : withoutKey t (keyAt n level a) .set < 2 ^ 64
   unfolding withoutKey
-  clear-word = go (placeOf (t .place) (t .set) (keyOf level (pageOf a)))
+  clear-word = go (placeOf (t .place) (t .set) (keyAt n level a))
     where
       go : (i : ℕ) → (cond (ltb i room) (record { set = t .set - 2 ^ i; place = t .place }) t) .set < 2 ^ 64
       go i = by (ltb i room)
@@ -106,14 +106,14 @@ module _ (n : ℕ) (t : Marks) (a level : ℕ) (word : t .set < 2 ^ 64) where
           by false = word
 
   module _ (small : n < 7) (whole : keysFit n (keysOf t) ≡ true) where
-    pub set-rule : number (setRefusal n (keysOf t) a level) ≡ 0 → keysFit n (keysOf (withKey t (keyOf level (pageOf a)))) ≡ true
+    pub set-rule : number (setRefusal n (keysOf t) a level) ≡ 0 → keysFit n (keysOf (withKey t (keyAt n level a))) ≡ true
     unfolding keysFit k
     set-rule e =
         let may = may-set n t a level e in
-        let fits = key-fits (ofLevels n) level (pageOf a) (page-small (ofLevels n) a (may .address)) (omega (arith, level-below n level (may .fits))) (may .fits) in
+        let fits = key-fits (ofLevels n) level (lowPage n a) (low-small n a) (omega (arith, level-below n level (may .fits))) (may .fits) in
         ap (keysFit n) (keys-with t k word (may .free)) ∙ members-fit (ofLevels n) (inserted-members k (keysOf t)) ∙ rw (fits, may .new, whole)
 
-    pub clear-rule : number (clearRefusal n (keysOf t) a level) ≡ 0 → keysFit n (keysOf (withoutKey t (keyOf level (pageOf a)))) ≡ true
+    pub clear-rule : number (clearRefusal n (keysOf t) a level) ≡ 0 → keysFit n (keysOf (withoutKey t (keyAt n level a))) ≡ true
     unfolding keysFit k
     clear-rule e =
         let without = around-members k _ _ (keys-without t k (may-clear n t a level e .held)) in
@@ -121,12 +121,6 @@ module _ (n : ℕ) (t : Marks) (a level : ℕ) (word : t .set < 2 ^ 64) where
         and-right (keyFits n k && not (any (eqb k) new)) (keysFit n new) (sym (members-fit (ofLevels n) without) ∙ whole)
 
 -- ---- the prefix of a mark
-taken : (n l p : ℕ) → indexes (n - l) (p / 2 ^ (9 * l)) ≡ take (n - l) (indexes n p)
-unfolding indexes
-taken n l p = elim (decLe l n) [
-  | yes le ↦ let all : n - l + l ≡ n = omega arith in rw all at (sym (indexes-take (n - l) l p))
-  | no gt ↦ let none : n - l ≡ 0 = omega arith in rw none
-]
 
 -- it leaves the path of no index where it has an index itself
 begins-none : (is p : List ℕ) → 0 < length is → p ≡ [] → not (begins is p) ≡ true
@@ -149,7 +143,7 @@ module _ (s : State) (r : Record) (m : List ℕ) (h : Inv s r m) (a n : ℕ) (t 
 
   same : is ≡ p
   unfolding p is
-  same = taken (r .layout .levels) n (pageOf a)
+  same = indexes-above (r .layout .levels) n (pageOf a)
 
   long : length p ≡ (r .layout .levels) - n
   unfolding is
@@ -246,11 +240,11 @@ module _ (s : State) (r : Record) (m : List ℕ) (h : Inv s r m) (a n : ℕ) whe
   unfolding setMarkCall tests machineStep bookStep
   set-mark-follows =
       let same = set-refused (configOf r) (r .guest .marks) (s .book) few (h .word) (h .marks) (s .machine) a n refl in
-      by-refusal (setMark a n) (withKey (r .guest .marks) (keyOf n (pageOf a))) (setRefusal (r .layout .levels) (keysOf (r .guest .marks)) a n) same
+      by-refusal (setMark a n) (withKey (r .guest .marks) (keyAt (r .layout .levels) n a)) (setRefusal (r .layout .levels) (keysOf (r .guest .marks)) a n) same
       (omega arith, (omega arith, (omega arith, (omega arith, tt)))) refl
       (λ e.
       let free : number (setRefusal (r .layout .levels) (keysOf (r .guest .marks)) a n) ≡ 0 = ap number (same ∙ e) in
-      marked-left s r m h a n (withKey (r .guest .marks) (keyOf n (pageOf a))) (markAt (configOf r) n (addressIndexes (configOf r) a) ∷ s .book .marks)
+      marked-left s r m h a n (withKey (r .guest .marks) (keyAt (r .layout .levels) n a)) (markAt (configOf r) n (addressIndexes (configOf r) a) ∷ s .book .marks)
       (set-word (r .layout .levels) (r .guest .marks) a n (h .word)) (set-rule (r .layout .levels) (r .guest .marks) a n (h .word) few whole free)
       (set-granted (configOf r) (r .guest .marks) (s .book) few (h .word) (h .marks) a n free) (after-fits (configOf r) (setMark a n) s e (h .book)))
 
@@ -258,10 +252,10 @@ module _ (s : State) (r : Record) (m : List ℕ) (h : Inv s r m) (a n : ℕ) whe
   unfolding clearMarkCall tests machineStep bookStep
   clear-mark-follows =
       let same = clear-refused (configOf r) (r .guest .marks) (s .book) few (h .word) (h .marks) (s .machine) a n in
-      by-refusal (clearMark a n) (withoutKey (r .guest .marks) (keyOf n (pageOf a))) (clearRefusal (r .layout .levels) (keysOf (r .guest .marks)) a n) same
+      by-refusal (clearMark a n) (withoutKey (r .guest .marks) (keyAt (r .layout .levels) n a)) (clearRefusal (r .layout .levels) (keysOf (r .guest .marks)) a n) same
       (omega arith, (omega arith, (omega arith, tt))) refl
       (λ e.
       let free : number (clearRefusal (r .layout .levels) (keysOf (r .guest .marks)) a n) ≡ 0 = ap number (same ∙ e) in
-      marked-left s r m h a n (withoutKey (r .guest .marks) (keyOf n (pageOf a))) (keep (λ y. not (sameMark (markAt (configOf r) n (addressIndexes (configOf r) a)) y)) (s .book .marks))
+      marked-left s r m h a n (withoutKey (r .guest .marks) (keyAt (r .layout .levels) n a)) (keep (λ y. not (sameMark (markAt (configOf r) n (addressIndexes (configOf r) a)) y)) (s .book .marks))
       (clear-word (r .layout .levels) (r .guest .marks) a n (h .word)) (clear-rule (r .layout .levels) (r .guest .marks) a n (h .word) few whole free)
       (clear-granted (configOf r) (r .guest .marks) (s .book) few (h .word) (h .marks) a n whole free) (after-fits (configOf r) (clearMark a n) s e (h .book)))

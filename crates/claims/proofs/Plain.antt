@@ -36,7 +36,7 @@ use Rattle.claims.specs.Run.{guestArea, runOf}
 use Rattle.claims.proofs.Invariant.{Inv, at}
 use Rattle.spec_laws.proofs.Indexes.{indexes-all}
 use Rattle.claims.proofs.Found.{rules, memory-stands, root-small}
-use Rattle.claims.proofs.Requests.{page-in, fits-of, load-step, store-step}
+use Rattle.claims.proofs.Requests.{page-in, load-step, store-step}
 use Rattle.claims.proofs.Demands.{follows, after-run}
 use Rattle.words.specs.After.{After}
 use Rattle.calls.specs.declared.Reply.{Reply}
@@ -57,7 +57,7 @@ module _ (s : State) (r : Record) (m : List ℕ) (inv : Inv s r m) where
 
   module _ (a : ℕ) (ok : addressOk r a ≡ true) where
     pub deep : depthAt r a ≡ depth (s .book .marks) (addressIndexes c a)
-    deep = depth-book c (r .guest .marks) (s .book) (let z = rules s r m inv .sizes .deep in omega arith) (inv .word) (inv .marks) a (fits-of s r m inv a ok)
+    deep = depth-book c (r .guest .marks) (s .book) (let z = rules s r m inv .sizes .deep in omega arith) (inv .word) (inv .marks) a
 
     -- the book's count before a word is stored
     abbrev cost : Bool → Counted

@@ -6,7 +6,7 @@ use native.Mathlib.Nat.{zero-add, add-comm}
 use mathlib.Core.Bool.{Bool, true, false, cond}
 use mathlib.Core.List.{List, [], _∷_}
 use mathlib.Core.Option.{none, some}
-use lib.Dec.{T, ltb, ltb→lt}
+use lib.Dec.{T, ltb→lt}
 use lib.Pow.{shr-lt}
 use Rattle.spec.specs.declared.Fault.{Fault}
 use Rattle.spec.specs.declared.Fault.the-variants.{HostReadOnly}
@@ -24,9 +24,9 @@ use Rattle.spec.specs.declared.Call.{Call}
 use Rattle.spec.specs.declared.Call.the-variants.{Load as load, Store as store, Device as device}
 use Rattle.spec.specs.Call.{addressIndexes, plain, deviceWalk, access, machineStep}
 use Rattle.spec.specs.Count.{Counted, one, hostExit, request, storing, unshadowed, bookStep}
-use Rattle.spec.specs.Refusal.{firstFailed, addressFits, deviceFits, wordAligned, tests, refusal}
+use Rattle.spec.specs.Refusal.{firstFailed, deviceFits, wordAligned, tests, refusal}
 use Rattle.spec.specs.Run.{State, lineOf, answered, step}
-use Rattle.spec_laws.proofs.Lists.{and-left, is-true}
+use Rattle.spec_laws.proofs.Lists.{and-left}
 use Rattle.spec_laws.proofs.Keeps.{shadow-asked}
 use Rattle.spec_laws.proofs.Asks.{asks-trace, AnswerIn, FaultFits, Guest, asks-bind, hosted-asks}
 use Rattle.words.specs.Words as words
@@ -84,10 +84,6 @@ module _ (s : State) (r : Record) (m : List ℕ) (inv : Inv s r m) where
   page-in st a p e =
       shadow-asked c mach st (addressIndexes c a) (found.memory-stands s r m inv .inside) (found.root-small s r m inv) (indexes-all (c .levels) (pageOf a)) .grants p e
 
-  -- the address of a request that passed its test fits
-  pub fits-of : (a : ℕ) → addressOk r a ≡ true → addressFits c a ≡ true
-  fits-of a ok = is-true (addressFits c a) (and-left (addressFits c a) (wordAligned a) (subst T (sym ok) tt))
-
   -- what memory a translation leaves stands for the machine still
   after-stands : (st : Bool) (a : ℕ) (k : Counted) (o : After Translated) (t : Translates s r m st a k o) → Stands c mach ht (t .memory)
   unfolding headHeld headTables
@@ -114,7 +110,7 @@ module _ (s : State) (r : Record) (m : List ℕ) (inv : Inv s r m) where
         k = costs false
 
         t : Translates s r m false a (costs false) (translatedOf r m false a)
-        t = translates s r m inv false a (fits-of a ok)
+        t = translates s r m inv false a
 
         left : Result Fault Place → After Translated
         left y = yields (translation (t .held) (k .exits) (plainWalked y (k .references))) (t .memory)
@@ -154,7 +150,7 @@ module _ (s : State) (r : Record) (m : List ℕ) (inv : Inv s r m) where
           k = costs true
 
           t : Translates s r m true a (costs true) (translatedOf r m true a)
-          t = translates s r m inv true a (fits-of a ok)
+          t = translates s r m inv true a
 
           left : Result Fault Place → After Translated
           left y = yields (translation (t .held) (k .exits) (plainWalked y (k .references))) (t .memory)

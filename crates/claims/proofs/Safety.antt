@@ -49,7 +49,7 @@ use Rattle.walk.specs.declared.Walked.{Walked}
 use Rattle.walk.specs.declared.Walked.the-variants as walked
 use Rattle.walk.specs.Memory.{walkedOf}
 use Rattle.marks.specs.declared.Marks.{Marks}
-use Rattle.marks.specs.Key.{keyOf}
+use Rattle.marks.specs.Key.{keyAt}
 use Rattle.marks.specs.Table.{number, withKey, withoutKey, setTests, setRefusal, clearTests, clearRefusal}
 use Rattle.record.specs.declared.Record.{Record}
 use Rattle.record.specs.Record.{configOf, configBy, fitsOf, guestFrame, headOf, headRoot, headTables, withHead, withMarks}
@@ -471,13 +471,13 @@ module _ (r : Record) (m : List ℕ) where
   unfolding setMarkCall setRefusal
   set-kept a n =
       let l : (Numbered 4 × (Numbered 5 × (Numbered 6 × (Numbered 7 × Unit {0})))) = ((omega arith, omega arith), ((omega arith, omega arith), ((omega arith, omega arith), ((omega arith, omega arith), tt)))) in
-      marked-kept (number (setRefusal (r .layout .levels) (keysOf r) a n)) a n (withKey (r .guest .marks) (keyOf n (pageOf a))) (number-in Numbered (setTests (r .layout .levels) (keysOf r) a n) l)
+      marked-kept (number (setRefusal (r .layout .levels) (keysOf r) a n)) a n (withKey (r .guest .marks) (keyAt (r .layout .levels) n a)) (number-in Numbered (setTests (r .layout .levels) (keysOf r) a n) l)
 
   clear-kept : (a n : ℕ) → Kept r m (clearMarkCall r m a n)
   unfolding clearMarkCall clearRefusal
   clear-kept a n =
       let l : (Numbered 4 × (Numbered 5 × (Numbered 6 × Unit {0}))) = ((omega arith, omega arith), ((omega arith, omega arith), ((omega arith, omega arith), tt))) in
-      marked-kept (number (clearRefusal (r .layout .levels) (keysOf r) a n)) a n (withoutKey (r .guest .marks) (keyOf n (pageOf a))) (number-in Numbered (clearTests (r .layout .levels) (keysOf r) a n) l)
+      marked-kept (number (clearRefusal (r .layout .levels) (keysOf r) a n)) a n (withoutKey (r .guest .marks) (keyAt (r .layout .levels) n a)) (number-in Numbered (clearTests (r .layout .levels) (keysOf r) a n) l)
 
 -- ---- Demand 1. Any call, whatever its numbers, the record and the memory are, comes to an answer, a fault or a numbered refusal,
 -- and the memory keeps its length. A fault leaves every guest word. A refusal leaves everything, but that 11, for damaged tables,

@@ -21,7 +21,6 @@ use Rattle.spec.specs.Machine.{Machine, world}
 use Rattle.spec.specs.Book.{Held, find, fill, holding, shadowTables}
 use Rattle.spec.specs.Call.{addressIndexes, plain}
 use Rattle.spec.specs.Count.{Counted, serves, heldBy, hostExit, shadowed, unshadowed, request}
-use Rattle.spec.specs.Refusal.{addressFits}
 use Rattle.spec.specs.Run.{State}
 use Rattle.spec.specs.Prefix.{All}
 use Rattle.spec_laws.proofs.Lists.{all-map, is-true, is-false}
@@ -528,11 +527,11 @@ module _ (s : State) (r : Record) (m : List ℕ) (inv : Inv s r m) (st : Bool) (
         next = same-inv;
       })
 
-  -- the translation of an address that fits
-  pub translates : addressFits c a ≡ true → Translates s r m st a (request c mach (s .book) st a deep) (translatedOf r m st a)
+  -- the translation of any address
+  pub translates : Translates s r m st a (request c mach (s .book) st a deep) (translatedOf r m st a)
   unfolding translatedOf translateOf
-  translates fit =
-      let d : depthAt r a ≡ deep = depth-book c (r .guest .marks) (s .book) (omega (arith, found.rules s r m inv .sizes .deep)) (inv .word) (inv .marks) a fit in
+  translates =
+      let d : depthAt r a ≡ deep = depth-book c (r .guest .marks) (s .book) (omega (arith, found.rules s r m inv .sizes .deep)) (inv .word) (inv .marks) a in
       subst (λ x. Translates s r m st a (request c mach (s .book) st a deep) (translateOf c ht m hold (r .guest .root .0) st a x)) (sym d) (go (ltb (c .levels) deep) refl)
     where
       go : (b : Bool) → ltb (c .levels) deep ≡ b

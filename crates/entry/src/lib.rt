@@ -21,15 +21,17 @@ pub struct GuestPhysical(pub u64);
 pub struct HostPhysical(pub u64);
 
 impl GuestVirtual {
-    // Is the address one that tables of that many levels translate?
+    // Is the address legal for tables of that many levels? Half of all addresses lie below 0: moved up by their number, which wraps,
+    // both halves together are the numbers that have no more bits than offset and indexes.
     pub fn fits(self, levels: u64) -> bool
         requires { ⌜ levels < 6 ⌝ }
         ensures { λ r. ⌜ r ≡ addressFits (ofLevels levels) (self .0) ⌝ }
     {
-        self.0 >> (12 + 9 * levels) == 0
+        let moved = std::num::wrapping_add_u64(self.0, 1u64 << (11 + 9 * levels));
+        moved >> (12 + 9 * levels) == 0
     }
 
-    // The page number: the address without its offset.
+    // The page number: the address without its offset. Its bits above the indexes repeat the sign; no index takes them.
     pub fn page(self) -> u64
         ensures { λ r. ⌜ r ≡ pageOf (self .0) ⌝ }
     {

@@ -4,14 +4,7 @@ use mathlib.Core.Path.{_≡_, refl}
 use mathlib.Core.List.{List, [], _∷_}
 use Prim.Native.Nat.{ℕ}
 use lib.ListN.{replicate}
-use Rattle.spec.specs.Entry.{bitSet, present, writable, frameOf, malformed, index, indexes, pageOf, wordOf}
-use Rattle.spec.specs.Walk.{trace}
-use Rattle.spec.specs.Plain.{hosted, entry, next, levels, walk}
-use Rattle.spec.specs.Machine.{hostCost, world}
-use Rattle.spec.specs.Call.{plain, deviceWalk, access, machineStep}
-use Rattle.spec.specs.Count.{request, storing, bookStep}
-use Rattle.spec.specs.Refusal.{tests, refusal, openRefusal}
-use Rattle.spec.specs.Run.{step, opening}
+use Rattle.spec.specs.Computing.{specifying}
 use Rattle.job_lines.specs.Text.{decimal, hexadecimal}
 use Rattle.job_records.specs.Records.{jobOf}
 use Rattle.job_claims.specs.Job.{recordsFrom, saidAll, bytesFrom, outputOf}
@@ -24,5 +17,5 @@ output = 49 ∷ 32 ∷ 111 ∷ 107 ∷ 10 ∷ 50 ∷ 32 ∷ 111 ∷ 107 ∷ 10 �
 
 -- open 4 4; map 0 8 1; root 0; device store 0, 0x1003; load 0; load 4
 pub example : outputOf input [] (replicate 8192 0) ≡ output
-unfolding recordsFrom saidAll bytesFrom jobOf decimal hexadecimal plain deviceWalk access machineStep request storing bookStep bitSet present writable frameOf malformed index indexes pageOf wordOf hostCost world hosted entry next levels walk tests refusal openRefusal step opening trace
+unfolding recordsFrom saidAll bytesFrom jobOf decimal hexadecimal specifying
 example = refl

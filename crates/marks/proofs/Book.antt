@@ -4,15 +4,13 @@ use mathlib.Core.Path.{_≡_, refl, sym, ap, _∙_}
 use mathlib.Core.Bool.{Bool, true, false, not, cond}
 use mathlib.Core.List.{List, [], _∷_, map, List·Permᴰ·cons, List·Permᴰ·trans, Permᴰ·symm}
 use mathlib.Core.Option.{some}
-use Prim.Native.Nat.{ℕ, _+_, _*_, _^_, _<_, _≤_}
+use Prim.Native.Nat.{ℕ, _^_, _<_, _≤_}
 use native.Mathlib.Omega.{arith}
 use borrow.Author.Tests.{ltb-true, le-leb, not-true}
 use lib.Dec.{eqb, ltb}
 use lib.Count.{ones, ones-le}
-use lib.Pow.{shr-lt}
 use lib.ListN.{length, length-map}
 use Rattle.spec.specs.Config.{Config}
-use Rattle.spec.specs.Entry.{pageOf}
 use Rattle.spec.specs.Prefix.{any, keep}
 use Rattle.spec.specs.Book.{Mark, Book, markAt, sameMark, isSet, depth}
 use Rattle.spec.specs.Machine.{Machine}
@@ -22,9 +20,10 @@ use Rattle.spec.specs.Refusal.{firstFailed, addressFits, levelFits, markFits, m
 use Rattle.entry.specs.Levels.{ofLevels}
 use Rattle.spec.specs.Prefix.{All}
 use Rattle.marks.specs.declared.Marks.{Marks}
-use Rattle.marks.specs.Key.{keyOf, depthOf, keyFits, keysFit, ascending}
+use Rattle.marks.specs.Key.{lowPage, keyAt, depthOf, keyFits, keysFit, ascending}
 use Rattle.marks.specs.Table.{room, keys, withKey, withoutKey, setTests, setRefusal, clearTests, clearRefusal, number}
 use Rattle.marks.specs.Reading.{markOf, marksOf}
+use Rattle.marks.proofs.Pages.{low-small, low-indexes}
 use Rattle.marks.proofs.Turn.{keys-end, keys-count}
 use Rattle.marks.proofs.Ascending.{and-right, level-below}
 use Rattle.marks.proofs.Reading.{depth-keys, fits-keys, set-keys, mark-key, key-positive, key-fits}
@@ -35,18 +34,12 @@ use Rattle.marks.proofs.Tables.{keys-with, keys-without, inserted-membe
 abbrev pub keysOf : Marks → List ℕ
 keysOf t = keys (t .place) (t .set)
 
-pub page-small : (c : Config) (a : ℕ) → addressFits c a ≡ true → pageOf a < 2 ^ (9 * c .levels)
-unfolding pageOf
-page-small c a e =
-    let s : 12 + 9 * c .levels ≡ 9 * c .levels + 12 = omega arith in
-    shr-lt (9 * c .levels) 12 (rw s at (ltb-true a (2 ^ (12 + 9 * c .levels)) e))
-
 -- ---- any table, damaged ones too
 
-pub depth-marks : (c : Config) (t : Marks) (a : ℕ) → addressFits c a ≡ true
-    → depthOf (pageOf a) (keysOf t) ≡ depth (marksOf (c .levels) t) (addressIndexes c a)
+pub depth-marks : (c : Config) (t : Marks) (a : ℕ) → depthOf (lowPage (c .levels) a) (keysOf t) ≡ depth (marksOf (c .levels) t) (addressIndexes c a)
 unfolding marksOf
-depth-marks c t a e = depth-keys (c .levels) (pageOf a) (keysOf t) (page-small c a e)
+depth-marks c t a =
+    depth-keys (c .levels) (lowPage (c .levels) a) (keysOf t) (low-small (c .levels) a) ∙ ap (depth (map (markOf (c .levels)) (keysOf t))) (low-indexes c a)
 
 pub marks-count : (n : ℕ) (t : Marks) → t .set < 2 ^ 64 → length (marksOf n t) ≡ ones (t .set)
 unfolding marksOf
@@ -81,61 +74,59 @@ all-held (x ∷ xs) p e = go (x .0) e (all-held xs (p .1))
 module _ (n : ℕ) (t : Marks) (a level : ℕ) where
   -- a mark that may be set: the code has 0
   pub record MaySet : Type 0 where
-    pub address : addressFits (ofLevels n) a ≡ true
     pub fits : levelFits (ofLevels n) level ≡ true
-    pub new : any (eqb (keyOf level (pageOf a))) (keysOf t) ≡ false
+    pub new : any (eqb (keyAt n level a)) (keysOf t) ≡ false
     pub free : length (keysOf t) < room
 
   pub may-set : number (setRefusal n (keysOf t) a level) ≡ 0 → MaySet
   unfolding setRefusal
   may-set e =
       let h = all-held (setTests n (keysOf t) a level) (omega arith, (omega arith, (omega arith, (omega arith, tt)))) e in
-      record { address = h .0; fits = h .1 .0; new = not-true _ (h .1 .1 .0); free = ltb-true _ room (h .1 .1 .1 .0) }
+      record { fits = h .1 .0; new = not-true _ (h .1 .1 .0); free = ltb-true _ room (h .1 .1 .1 .0) }
 
   -- a mark that may be cleared
   pub record MayClear : Type 0 where
-    pub address : addressFits (ofLevels n) a ≡ true
     pub fits : levelFits (ofLevels n) level ≡ true
-    pub held : any (eqb (keyOf level (pageOf a))) (keysOf t) ≡ true
+    pub held : any (eqb (keyAt n level a)) (keysOf t) ≡ true
 
   pub may-clear : number (clearRefusal n (keysOf t) a level) ≡ 0 → MayClear
   unfolding clearRefusal
   may-clear e =
       let h = all-held (clearTests n (keysOf t) a level) (omega arith, (omega arith, (omega arith, tt))) e in
-      record { address = h .0; fits = h .1 .0; held = h .1 .1 .0 }
+      record { fits = h .1 .0; held = h .1 .1 .0 }
 
 -- ---- a table that holds the book's marks
 module _ (c : Config) (t : Marks) (b : Book) (small : c .levels < 7) (word : t .set < 2 ^ 64) (agree : SameMembers (marksOf (c .levels) t) (b .marks)) where
-  pub depth-book : (a : ℕ) → addressFits c a ≡ true → depthOf (pageOf a) (keysOf t) ≡ depth (b .marks) (addressIndexes c a)
-  depth-book a e = depth-marks c t a e ∙ members-depth (addressIndexes c a) agree
+  pub depth-book : (a : ℕ) → depthOf (lowPage (c .levels) a) (keysOf t) ≡ depth (b .marks) (addressIndexes c a)
+  depth-book a = depth-marks c t a ∙ members-depth (addressIndexes c a) agree
 
-  -- of an address and a level that fit
-  module _ (a n : ℕ) (address : addressFits c a ≡ true) (level : levelFits c n ≡ true) where
-    fits : keyFits (c .levels) (keyOf n (pageOf a)) ≡ true
-    fits = key-fits c n (pageOf a) (page-small c a address) (below-8 (c .levels) n small level) level
+  -- of any address, and a level that fits
+  module _ (a n : ℕ) (level : levelFits c n ≡ true) where
+    fits : keyFits (c .levels) (keyAt (c .levels) n a) ≡ true
+    fits = key-fits c n (lowPage (c .levels) a) (low-small (c .levels) a) (below-8 (c .levels) n small level) level
 
-    its-mark : markOf (c .levels) (keyOf n (pageOf a)) ≡ markAt c n (addressIndexes c a)
-    its-mark = mark-key c n (pageOf a) (page-small c a address) (below-8 (c .levels) n small level)
+    its-mark : markOf (c .levels) (keyAt (c .levels) n a) ≡ markAt c n (addressIndexes c a)
+    its-mark = mark-key c n (lowPage (c .levels) a) (low-small (c .levels) a) (below-8 (c .levels) n small level) ∙ ap (markAt c n) (low-indexes c a)
 
-    pub set-book : any (eqb (keyOf n (pageOf a))) (keysOf t) ≡ isSet (markAt c n (addressIndexes c a)) (b .marks)
+    pub set-book : any (eqb (keyAt (c .levels) n a)) (keysOf t) ≡ isSet (markAt c n (addressIndexes c a)) (b .marks)
     unfolding marksOf
     set-book =
-        sym (set-keys (c .levels) (keyOf n (pageOf a)) (keysOf t) fits)
+        sym (set-keys (c .levels) (keyAt (c .levels) n a) (keysOf t) fits)
         ∙ ap (λ (m : Mark). isSet m (map (markOf (c .levels)) (keysOf t))) its-mark
         ∙ members-any (sameMark (markAt c n (addressIndexes c a))) agree
 
-    book-with : length (keysOf t) < room → SameMembers (marksOf (c .levels) (withKey t (keyOf n (pageOf a)))) (markAt c n (addressIndexes c a) ∷ b .marks)
+    book-with : length (keysOf t) < room → SameMembers (marksOf (c .levels) (withKey t (keyAt (c .levels) n a))) (markAt c n (addressIndexes c a) ∷ b .marks)
     unfolding marksOf
     book-with free =
-        let k = keyOf n (pageOf a) in
+        let k = keyAt (c .levels) n a in
         let more = members-map (markOf (c .levels)) (inserted-members k (keysOf t)) in
         rw (keys-with t k word free) (List·Permᴰ·trans more (List·Permᴰ·cons its-mark agree))
 
-    book-without : keysFit (c .levels) (keysOf t) ≡ true → any (eqb (keyOf n (pageOf a))) (keysOf t) ≡ true
-        → SameMembers (marksOf (c .levels) (withoutKey t (keyOf n (pageOf a)))) (keep (λ y. not (sameMark (markAt c n (addressIndexes c a)) y)) (b .marks))
+    book-without : keysFit (c .levels) (keysOf t) ≡ true → any (eqb (keyAt (c .levels) n a)) (keysOf t) ≡ true
+        → SameMembers (marksOf (c .levels) (withoutKey t (keyAt (c .levels) n a))) (keep (λ y. not (sameMark (markAt c n (addressIndexes c a)) y)) (b .marks))
     unfolding marksOf
     book-without whole held =
-        let k = keyOf n (pageOf a) in
+        let k = keyAt (c .levels) n a in
         let marks = map (markOf (c .levels)) (keysOf t) in
         let alone = sym (members-alike agree) ∙ and-right (allOf (markFits c) marks) (noTwoAlike marks) (fits-keys c (keysOf t) ∙ whole) in
         let less = members-map (markOf (c .levels)) (around-members k _ _ (keys-without t k held)) in
@@ -144,16 +135,16 @@ module _ (c : Config) (t : Marks) (b : Book) (small : c .levels < 7) (word : t .
 
   -- refusals that turn on whether the mark is set, once address and level fit
   agree-after : (a n : ℕ) (later : Bool → List (Bool × ℕ))
-      → firstFailed ((addressFits c a, 4) ∷ (levelFits c n, 5) ∷ later (any (eqb (keyOf n (pageOf a))) (keysOf t)))
+      → firstFailed ((addressFits c a, 4) ∷ (levelFits c n, 5) ∷ later (any (eqb (keyAt (c .levels) n a)) (keysOf t)))
       ≡ firstFailed ((addressFits c a, 4) ∷ (levelFits c n, 5) ∷ later (isSet (markAt c n (addressIndexes c a)) (b .marks)))
   agree-after a n later = go (addressFits c a) refl (levelFits c n) refl
     where
       go : (f : Bool) → addressFits c a ≡ f → (g : Bool) → levelFits c n ≡ g
-          → firstFailed ((f, 4) ∷ (g, 5) ∷ later (any (eqb (keyOf n (pageOf a))) (keysOf t)))
+          → firstFailed ((f, 4) ∷ (g, 5) ∷ later (any (eqb (keyAt (c .levels) n a)) (keysOf t)))
           ≡ firstFailed ((f, 4) ∷ (g, 5) ∷ later (isSet (markAt c n (addressIndexes c a)) (b .marks)))
       go false e g k = refl
       go true e false k = refl
-      go true e true k = ap (λ (s : Bool). firstFailed (later s)) (set-book a n e k)
+      go true e true k = ap (λ (s : Bool). firstFailed (later s)) (set-book a n k)
 
   pub set-refused : (m : Machine) (a n : ℕ) → c .markRoom ≡ room → setRefusal (c .levels) (keysOf t) a n ≡ refusal c (setMark a n) m b
   unfolding setRefusal refusal tests
@@ -167,13 +158,13 @@ module _ (c : Config) (t : Marks) (b : Book) (small : c .levels < 7) (word : t .
 
   -- the table after a mark is set
   pub set-granted : (a n : ℕ) → number (setRefusal (c .levels) (keysOf t) a n) ≡ 0
-      → SameMembers (marksOf (c .levels) (withKey t (keyOf n (pageOf a)))) (markAt c n (addressIndexes c a) ∷ b .marks)
-  set-granted a n e = let m = may-set (c .levels) t a n e in book-with a n (m .address) (m .fits) (m .free)
+      → SameMembers (marksOf (c .levels) (withKey t (keyAt (c .levels) n a))) (markAt c n (addressIndexes c a) ∷ b .marks)
+  set-granted a n e = let m = may-set (c .levels) t a n e in book-with a n (m .fits) (m .free)
 
   -- and after one is cleared, where the table broke no rule
   pub clear-granted : (a n : ℕ) → keysFit (c .levels) (keysOf t) ≡ true → number (clearRefusal (c .levels) (keysOf t) a n) ≡ 0
-      → SameMembers (marksOf (c .levels) (withoutKey t (keyOf n (pageOf a)))) (keep (λ y. not (sameMark (markAt c n (addressIndexes c a)) y)) (b .marks))
-  clear-granted a n whole e = let m = may-clear (c .levels) t a n e in book-without a n (m .address) (m .fits) whole (m .held)
+      → SameMembers (marksOf (c .levels) (withoutKey t (keyAt (c .levels) n a))) (keep (λ y. not (sameMark (markAt c n (addressIndexes c a)) y)) (b .marks))
+  clear-granted a n whole e = let m = may-clear (c .levels) t a n e in book-without a n (m .fits) whole (m .held)
 
 -- ---- the keys of every table made here ascend: of the table of no mark, and after each set and clear
 pub none-ascend : (n : ℕ) (t : Marks) → t .set ≡ 0 → ascending n 0 (keysOf t) ≡ true
@@ -182,14 +173,14 @@ none-ascend n t e = ap (ascending n 0) (keys-end (t .place) (t .set) e)
 
 module _ (n : ℕ) (t : Marks) (a level : ℕ) (ascend : ascending n 0 (keysOf t) ≡ true) where
   pub set-ascend : n < 7 → t .set < 2 ^ 64 → number (setRefusal n (keysOf t) a level) ≡ 0
-      → ascending n 0 (keysOf (withKey t (keyOf level (pageOf a)))) ≡ true
+      → ascending n 0 (keysOf (withKey t (keyAt n level a))) ≡ true
   set-ascend small word e =
-      let k = keyOf level (pageOf a) in
+      let k = keyAt n level a in
       let m = may-set n t a level e in
-      let fits = key-fits (ofLevels n) level (pageOf a) (page-small (ofLevels n) a (m .address)) (below-8 n level small (m .fits)) (m .fits) in
+      let fits = key-fits (ofLevels n) level (lowPage n a) (low-small n a) (below-8 n level small (m .fits)) (m .fits) in
       rw (keys-with t k word (m .free)) (ascending-with n 0 k (keysOf t) ascend (key-positive n k fits) fits (m .new))
 
-  pub clear-ascend : number (clearRefusal n (keysOf t) a level) ≡ 0 → ascending n 0 (keysOf (withoutKey t (keyOf level (pageOf a)))) ≡ true
+  pub clear-ascend : number (clearRefusal n (keysOf t) a level) ≡ 0 → ascending n 0 (keysOf (withoutKey t (keyAt n level a))) ≡ true
   clear-ascend e =
-      let k = keyOf level (pageOf a) in
+      let k = keyAt n level a in
       ascending-without n k _ _ (keys-without t k (may-clear n t a level e .held)) ascend

@@ -1,3 +1,4 @@
+pub mod Pages
 pub mod Turn
 pub mod Search
 pub mod Insert

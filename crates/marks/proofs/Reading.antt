@@ -9,13 +9,13 @@ use native.Mathlib.Decide.{decLe}
 use borrow.Author.Tests.{eq-eqb, ne-eqb, eqb-true, eqb-false, lt-ltb, ltb-true, ltb-false, leb-true}
 use lib.Dec.{eqb, leb, ltb}
 use lib.Pow.{pow-mono, shr-lt}
-use lib.ListN.{length, take}
+use lib.ListN.{length}
 use Rattle.spec.specs.Config.{Config}
 use Rattle.spec.specs.Entry.{indexes}
 use Rattle.spec.specs.Prefix.{begins, same, any}
 use Rattle.spec.specs.Book.{markAt, sameMark, isSet, depth}
 use Rattle.spec.specs.Refusal.{allOf, markFits, levelFits, noTwoAlike}
-use Rattle.spec_laws.proofs.Indexes.{indexes-length, indexes-small, indexes-take, indexes-same, begins-longer, same-longer, begins-indexes}
+use Rattle.spec_laws.proofs.Indexes.{indexes-length, indexes-small, indexes-above, indexes-same, begins-longer, same-longer, begins-indexes}
 use Rattle.marks.specs.Key.{keyOf, levelAt, depthOf, keyFits, keysFit}
 use Rattle.marks.specs.Reading.{kept, markOf}
 use Rattle.marks.proofs.Ascending.{and-left, and-right}
@@ -146,19 +146,10 @@ module _ (c : Config) (l p : ℕ) (b : p < 2 ^ (9 * c .levels)) (h : l < 8) wher
   unfolding keyOf
   rest-of = omega arith
 
-  taken : indexes (c .levels - l) (p / 2 ^ (9 * l)) ≡ take (c .levels - l) (indexes (c .levels) p)
-  unfolding indexes
-  taken =
-      let n = c .levels in
-      elim (decLe l n) [
-        | yes le ↦ let all : n - l + l ≡ n = omega arith in rw all at (sym (indexes-take (n - l) l p))
-        | no gt ↦ let none : n - l ≡ 0 = omega arith in rw none
-      ]
-
   pub mark-key : markOf (c .levels) (keyOf l p) ≡ markAt c l (indexes (c .levels) p)
   unfolding markOf
   mark-key =
-      rw (level-of, rest-of, lt-ltb (p / 2 ^ (9 * l)) (2 ^ (9 * (c .levels - l))) (shifted (c .levels) l p b), taken)
+      rw (level-of, rest-of, lt-ltb (p / 2 ^ (9 * l)) (2 ^ (9 * (c .levels - l))) (shifted (c .levels) l p b), indexes-above (c .levels) l p)
 
   pub key-fits : levelFits c l ≡ true → keyFits (c .levels) (keyOf l p) ≡ true
   unfolding keyFits

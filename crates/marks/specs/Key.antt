@@ -1,15 +1,25 @@
 -- A mark in one word, its key: the level in the low three bits, above them the indexes that it keeps, as one number.
--- So an address begins with them where its page number, shifted by the levels below, equals that number.
+-- So an address begins with them where its page number, shifted by the levels below, equals that number. The bits of an address
+-- above its indexes, all set in the upper half, are in no key.
 -- Assumes nothing.
 use Prim.Native.Nat.{ℕ, suc, _+_, _-_, _*_, _/_, _%_, _^_, max}
 use mathlib.Core.Bool.{Bool, true, not, _&&_, cond}
 use mathlib.Core.List.{List, [], _∷_}
 use lib.Dec.{eqb, leb, ltb}
+use Rattle.spec.specs.Entry.{pageOf}
 use Rattle.spec.specs.Prefix.{any}
+
+-- the page number in the low bits of an address: those that its n indexes take
+unfoldable pub lowPage : ℕ → ℕ → ℕ
+lowPage n a = pageOf a % 2 ^ (9 * n)
 
 -- the key of the mark of level n at the page p
 unfoldable pub keyOf : ℕ → ℕ → ℕ
 keyOf n p = p / 2 ^ (9 * n) * 8 + n
+
+-- and at an address, of that many levels
+abbrev pub keyAt : ℕ → ℕ → ℕ → ℕ
+keyAt levels n a = keyOf n (lowPage levels a)
 
 -- the level of the key k where the page p begins with its indexes, else 0
 unfoldable pub levelAt : ℕ → ℕ → ℕ

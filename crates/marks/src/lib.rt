@@ -8,11 +8,10 @@ ghost use mathlib.Core.List.{[]};
 ghost use lib.Count.{ones};
 ghost use lib.Dec.{eqb, ltb};
 ghost use Prim.Native.Nat.{_-_, _<_, min, max};
-ghost use Rattle.spec.specs.Entry.{pageOf};
 ghost use Rattle.spec.specs.Prefix.{any};
 ghost use Rattle.spec.specs.Refusal.{levelFits};
 ghost use Rattle.entry.specs.Levels.{ofLevels};
-ghost use Rattle.marks.specs.Key.{keyOf, keysFit, ascending};
+ghost use Rattle.marks.specs.Key.{lowPage, keyAt, keysFit, ascending};
 ghost use Rattle.marks.specs.ByLevel.{endOf, endsOf, fitsBy};
 ghost use Rattle.marks.specs.Table.{keys, placeOf, inserted, tableOf, withKey, withoutKey, setRefusal, clearRefusal, number};
 
@@ -36,12 +35,23 @@ fn smaller(a: u64, b: u64) -> u64
     if a < b { a } else { b }
 }
 
-// The key of the mark of that level at an address.
-pub fn key_of(level: u64, address: GuestVirtual) -> u64
-    requires { ⌜ level < 8 ⌝ }
-    ensures { λ r. ⌜ r ≡ keyOf level (pageOf (address .0)) ⌝ }
+// The page number in the low bits of an address, those that its indexes take.
+fn low_page(levels: u64, address: GuestVirtual) -> u64
+    ensures { λ r. ⌜ r ≡ lowPage levels (address .0) ⌝ }
 {
-    (address.page() >> (9 * level)) * 8 + level
+    if levels < 6 {
+        return address.page() % bits::power(9 * levels);
+    }
+    // Six indexes take every bit that an address has above its offset.
+    address.page()
+}
+
+// The key of the mark of that level at an address.
+pub fn key_of(levels: u64, level: u64, address: GuestVirtual) -> u64
+    requires { ⌜ level < 8 ⌝ }
+    ensures { λ r. ⌜ r ≡ keyAt levels level (address .0) ⌝ }
+{
+    (low_page(levels, address) >> (9 * level)) * 8 + level
 }
 
 // The first set place that holds the key; 64 where none does.
@@ -208,7 +218,7 @@ pub fn set_refusal(
     if !level_fits(levels, level) {
         return 5;
     }
-    if holds(place, set, key_of(level, address)) {
+    if holds(place, set, key_of(levels, level, address)) {
         return 6;
     }
     if bits::count(set) < 64 {
@@ -234,7 +244,7 @@ pub fn clear_refusal(
     if !level_fits(levels, level) {
         return 5;
     }
-    if holds(place, set, key_of(level, address)) {
+    if holds(place, set, key_of(levels, level, address)) {
         return 0;
     }
     6

@@ -6,10 +6,9 @@ use layout::Layout;
 use marks::Marks;
 use pool::Pool;
 ghost use mathlib.Core.Path.{_≡_};
-ghost use Rattle.spec.specs.Entry.{pageOf};
 ghost use Rattle.spec.specs.Refusal.{wordsFit, areasFit, topFits};
 ghost use Rattle.layout.specs.Layout.{LayoutFits, config};
-ghost use Rattle.marks.specs.Key.{depthOf};
+ghost use Rattle.marks.specs.Key.{lowPage, depthOf};
 ghost use Rattle.marks.specs.Table.{keys};
 ghost use Rattle.record.specs.Record.{layoutOf, heldTop, isTable, poolFits, sizesFit, tablesFit, recordBy, headOf, fitsOf, zeros, headRoot, headTables, withHead, withMarks};
 
@@ -244,9 +243,14 @@ impl Record {
 
     // The depth of an address.
     pub fn depth(self, address: GuestVirtual) -> Deep
-        ensures { λ r. ⌜ r ≡ record { unit = self; depth = depthOf (pageOf (address .0)) (keys (self .guest .marks .place) (self .guest .marks .set)) } ⌝ }
+        ensures { λ r. ⌜ r ≡ record { unit = self; depth = depthOf (lowPage (self .layout .levels) (address .0)) (keys (self .guest .marks .place) (self .guest .marks .set)) } ⌝ }
     {
-        let depth = depth::depth(&self.guest.marks.place, self.guest.marks.set, address);
+        let depth = depth::depth(
+            &self.guest.marks.place,
+            self.guest.marks.set,
+            self.layout.levels,
+            address,
+        );
         Deep {
             unit: self,
             depth: depth,

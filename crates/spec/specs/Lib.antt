@@ -10,4 +10,5 @@ pub mod Call
 pub mod Count
 pub mod Refusal
 pub mod Run
+pub mod Computing
 pub mod Guest

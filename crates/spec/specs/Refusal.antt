@@ -1,14 +1,14 @@
 -- The refusals, each the number of the first test that fails. Document 01, "Each operation and its no".
 -- Assumes nothing.
-use Prim.Native.Nat.{ℕ, suc, _+_, _-_, _*_, _/_, _%_, _^_}
+use Prim.Native.Nat.{ℕ, suc, _+_, _-_, _/_, _%_, _^_}
 use mathlib.Core.Bool.{Bool, true, not, _&&_, _||_, cond}
 use mathlib.Core.List.{List, [], _∷_}
 use mathlib.Core.Option.{Option, none, some}
 use lib.Dec.{eqb, leb, ltb}
 use lib.ListN.{length}
-use Rattle.spec.specs.Config.{Config, guestBase, addressBits, frameBits}
-use Rattle.spec.specs.Machine.{Machine, Mapping, with, isMapped, hostTables}
-use Rattle.spec.specs.Book.{Mark, Book, markAt, sameMark, isSet}
+use Rattle.spec.specs.Config.{Config, guestBase, signBit, frameBits}
+use Rattle.spec.specs.Machine.{Machine, with, isMapped, hostTables}
+use Rattle.spec.specs.Book.{Mark, Book, markAt, isSet}
 use Rattle.spec.specs.declared.Call.{Call}
 use Rattle.spec.specs.declared.Call.the-variants.{Root as root, Map as map, Unmap as unmap, SetMark as setMark, ClearMark as clearMark, Load as load, Store as store, Device as device}
 use Rattle.spec.specs.Call.{addressIndexes}
@@ -83,10 +83,16 @@ recordFits r len =
 
 -- ---- later calls; those that no covered run meets, 3 and 11, are not here
 
--- refused with 4 unless the address has at most 48 bits, a device's too, and is a multiple of 8; a mark's needs only the first
-abbrev pub addressFits : Config → ℕ → Bool
-addressFits c a = ltb a (2 ^ addressBits c)
+-- are the bits of a word from bit k up all clear, or all set?
+unfoldable pub alikeFrom : ℕ → ℕ → Bool
+alikeFrom k a = eqb (a / 2 ^ k) 0 || eqb (a / 2 ^ k) (2 ^ (64 - k) - 1)
 
+-- refused with 4 unless the address is legal and a multiple of 8; a mark's must only be legal. A guest-virtual address is legal in the
+-- lower half and in the upper, where every bit above its indexes repeats the sign bit (document 02, 1)
+abbrev pub addressFits : Config → ℕ → Bool
+addressFits c a = alikeFrom (signBit c) a
+
+-- a device's address is guest-physical: it has no sign, and is legal where its page is a guest frame's number
 abbrev pub deviceFits : Config → ℕ → Bool
 deviceFits c a = ltb a (2 ^ (12 + frameBits c))
 

@@ -6,9 +6,10 @@ use mathlib.Core.List.{List, [], _∷_, _++_}
 use Prim.Native.Nat.{ℕ, zero, suc, _+_, _-_, _*_, _/_, _%_, _^_, _<_}
 use native.Mathlib.Nat.{suc-add, mod-lt, mod-eq-of-lt}
 use native.Mathlib.Omega.{arith}
+use native.Mathlib.Decide.{decLe}
 use borrow.Author.Tests.{eq-eqb, ne-eqb, eqb-true, eqb-false, lt-ltb}
 use lib.Dec.{eqb, ltb}
-use lib.Pow.{pow-pos, shr-shr, shr-lt, mod-pow-add, high, low}
+use lib.Pow.{pow-pos, shr-shr, shr-lt, mod-pow-add, mod-mod-pow, field, high, low}
 use lib.ListN.{length, take}
 use lib.Seq.{take-at}
 use Rattle.spec.specs.Entry.{index, indexes}
@@ -47,6 +48,26 @@ indexes-split (suc k) n p =
 pub indexes-take : (k n p : ℕ) → take k (indexes (k + n) p) ≡ indexes k (p / 2 ^ (9 * n))
 indexes-take k n p =
     ap (take k) (indexes-split k n p) ∙ take-at (indexes k (p / 2 ^ (9 * n))) (indexes n p) k (indexes-length k (p / 2 ^ (9 * n)))
+
+-- of n indexes those above the l lowest, also where l is above n
+pub indexes-above : (n l p : ℕ) → indexes (n - l) (p / 2 ^ (9 * l)) ≡ take (n - l) (indexes n p)
+unfolding indexes
+indexes-above n l p = elim (decLe l n) [
+  | yes le ↦ let all : n - l + l ≡ n = omega arith in rw all at (sym (indexes-take (n - l) l p))
+  | no gt ↦ let none : n - l ≡ 0 = omega arith in rw none
+]
+
+-- the n lowest indexes do not read the bits above them: j of these may be kept
+indexes-cut : (n j p : ℕ) → indexes n (p % 2 ^ (j + 9 * n)) ≡ indexes n p
+unfolding indexes index
+indexes-cut zero j p = refl
+indexes-cut (suc n) j p =
+    let more : j + 9 * suc n ≡ j + 9 + 9 * n = omega arith in
+    let first = ap (λ (i : ℕ). i % 512) (field p (j + 9) (9 * n)) ∙ mod-mod-pow (p / 2 ^ (9 * n)) j 9 in
+    rw more (ap₂ (λ (i : ℕ) (is : List ℕ). i ∷ is) first (indexes-cut n (j + 9) p))
+
+pub indexes-low : (n p : ℕ) → indexes n (p % 2 ^ (9 * n)) ≡ indexes n p
+indexes-low n p = let z : 9 * n ≡ 0 + 9 * n = omega arith in rw z (indexes-cut n 0 p)
 
 pub eqb-sym : (a b : ℕ) → eqb a b ≡ eqb b a
 eqb-sym a b = go (eqb a b) refl

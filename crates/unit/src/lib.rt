@@ -226,7 +226,11 @@ fn mark_call(unit: Record, mem: &mut [u64], address: u64, level: u64, setting: b
     if refusal != 0 {
         return refused(unit, refusal);
     }
-    let marks = marks_after(unit.guest.marks, marks::key_of(level, at), setting);
+    let marks = marks_after(
+        unit.guest.marks,
+        marks::key_of(unit.layout.levels, level, at),
+        setting,
+    );
     marked(unit, mem, at, level, marks)
 }
 

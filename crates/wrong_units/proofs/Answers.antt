@@ -10,12 +10,13 @@ use Rattle.spec.specs.declared.Call.{Call}
 use Rattle.spec.specs.declared.Call.the-variants.{Map as map, SetMark as setMark, Load as load, Store as store}
 use Rattle.spec.specs.Guest.{marksOn}
 use Rattle.spec.specs.Run.{step}
+use Rattle.spec.specs.Computing.{specifying}
 use Rattle.wrong_units.specs.Unit.{afterBy, specified, Demand-3, told, unitBy}
 use Rattle.wrong_units.specs.Wrong.{flatCounts, readOnlyMissing, oneWord, faultsAll, storesNothing, tablesFull, marksFull}
-use Rattle.wrong_units.proofs.Computing.{calling, specifying}
+use Rattle.wrong_units.proofs.Computing.{calling}
 use Rattle.wrong_units.proofs.Mapped.{memory, opens, openedRecord, openedWords, tables, firstRecord, first-map}
 use Rattle.wrong_units.proofs.Filled.{mappedWords, other-maps}
-use Rattle.wrong_units.proofs.Refute.{Comes, refuted, begin, begins-at}
+use Rattle.wrong_units.proofs.Refute.{Comes, refuted, refuted-opened, begin, begins-at}
 
 abbrev pub plain : List Call
 plain = setMark 0 5 ∷ []
@@ -132,5 +133,4 @@ unfolding specifying
 last-right = refl
 
 pub marks-full-refuted : Demand-3 (unitBy marksFull) → ⊥
-unfolding afterBy
-marks-full-refuted = refuted marksFull [] (marksOn 4) (setMark (2 ^ 39) 1) (openedRecord, openedWords) (no 7) ok (ap (λ e. (told e) .1) opens) marks-full-says last-right tt
+marks-full-refuted = refuted-opened marksFull (marksOn 4) (setMark (2 ^ 39) 1) (no 7) ok marks-full-says last-right tt

@@ -1,17 +1,11 @@
--- Names for what has to be opened to compute: one of them on an `unfolding` line opens all the definitions that it names.
+-- Names for what has to be opened to compute a call of the unit: one of them on an `unfolding` line opens all the definitions that it
+-- names. `specifying` does so for a step of the specification.
 -- Assumes nothing.
 use Prim.Native.Nat.{ℕ}
 use lib.Count.{ones}
-use Rattle.spec.specs.Entry.{bitSet, present, writable, switch, frameOf, malformed, index, indexes, pageOf, wordOf}
-use Rattle.spec.specs.Refusal.{openRefusal, recordFits}
-use Rattle.spec.specs.Walk.{trace}
-use Rattle.spec.specs.Plain.{hosted, entry, next, levels, walk}
-use Rattle.spec.specs.Machine.{hostCost, world}
-use Rattle.spec.specs.Call as spec
-use Rattle.spec.specs.Call.{plain, deviceWalk, machineStep}
-use Rattle.spec.specs.Count.{request, storing, bookStep}
-use Rattle.spec.specs.Refusal.{tests, refusal}
-use Rattle.spec.specs.Run.{step, run, after}
+use Rattle.spec.specs.Entry.{switch}
+use Rattle.spec.specs.Refusal.{recordFits}
+use Rattle.spec.specs.Computing.{specifying}
 use Rattle.bits.specs.Bit.{places}
 use Rattle.words.specs.Words.{zeroed}
 use Rattle.pool.specs.Header.{entryAtOf, highOf, putEntryOf, guestOf, levelOf, parentOf, slotOf, headerOf, insideOf, bareOf}
@@ -24,7 +18,7 @@ use Rattle.host.specs.Walk.{hostWalkOf}
 use Rattle.host.specs.Map.{mapOf}
 use Rattle.walk.specs.Memory.{memoryWorld, walkedOf, noted, framesOf, trailFrom}
 use Rattle.marks.specs.Table as marks
-use Rattle.marks.specs.Key.{keyOf, levelAt, depthOf}
+use Rattle.marks.specs.Key.{lowPage, keyOf, levelAt, depthOf}
 use Rattle.marks.specs.Reading.{marksOf, markOf}
 use Rattle.record.specs.Record.{isTable, poolFits, poolsFit, fitsOf, headRoot, headTables, withMarks}
 use Rattle.shadow.specs.Held.{heldOf, entryFor}
@@ -38,15 +32,10 @@ use Rattle.calls.specs.Calls.{headHeld, headHost, translatedOf, loadCall, store
 
 -- a call of the unit, but for what puts a path into an area
 unfoldable pub besides : ℕ
-unfolding ones levelAt bitSet present writable switch frameOf malformed index indexes pageOf wordOf trace hosted entry next levels walk openRefusal recordFits entryAtOf highOf putEntryOf guestOf levelOf parentOf slotOf headerOf insideOf bareOf link followOf noneOf withTop lookupOf roomOf hostEntry leafOf hostWalkOf mapOf memoryWorld walkedOf framesOf trailFrom noted keyOf depthOf marks.keys marks.inserted marks.tableOf marks.withKey marks.withoutKey marks.setRefusal marks.clearRefusal marks.placeIn marks.placeOf places marksOf markOf isTable poolFits poolsFit fitsOf headRoot headTables withMarks heldOf entryFor fillOf watchesOf watchedFrom watchedOf kindOf isLeaf linkUpOf linksUpOf goesOf clearOneOf clearLeavesOf settleOf sweepOf visitOf scanFrom scanOf tableNamed holderOf dropPrefixOf detachOf releaseTop releaseOf lastIndex directOf servedOf servesOf foundOf filledOf missedOf plainOf translateOf access.putWordOf access.loadOf access.storeOf access.deviceOf headHeld headHost translatedOf loadCall storeCall deviceCall rootCall unmappedOf mapCall markedOf setMarkCall clearMarkCall callOf
+unfolding specifying ones levelAt switch recordFits entryAtOf highOf putEntryOf guestOf levelOf parentOf slotOf headerOf insideOf bareOf link followOf noneOf withTop lookupOf roomOf hostEntry leafOf hostWalkOf mapOf memoryWorld walkedOf framesOf trailFrom noted lowPage keyOf depthOf marks.keys marks.inserted marks.tableOf marks.withKey marks.withoutKey marks.setRefusal marks.clearRefusal marks.placeIn marks.placeOf places marksOf markOf isTable poolFits poolsFit fitsOf headRoot headTables withMarks heldOf entryFor fillOf watchesOf watchedFrom watchedOf kindOf isLeaf linkUpOf linksUpOf goesOf clearOneOf clearLeavesOf settleOf sweepOf visitOf scanFrom scanOf tableNamed holderOf dropPrefixOf detachOf releaseTop releaseOf lastIndex directOf servedOf servesOf foundOf filledOf missedOf plainOf translateOf access.putWordOf access.loadOf access.storeOf access.deviceOf headHeld headHost translatedOf loadCall storeCall deviceCall rootCall unmappedOf mapCall markedOf setMarkCall clearMarkCall callOf
 besides = 0
 
 -- a whole call
 unfoldable pub calling : ℕ
 unfolding besides zeroed freshOf freedOf takeOf newTableOf newTopOf enterOf attachOf descendOf downOf placeOf insertOf
 calling = 0
-
--- a step of the specification
-unfoldable pub specifying : ℕ
-unfolding bitSet present writable frameOf malformed index indexes pageOf wordOf trace hosted entry next levels walk hostCost world plain deviceWalk spec.access machineStep request storing bookStep tests refusal step run after
-specifying = 0

@@ -9,6 +9,7 @@ use Rattle.spec.specs.Answer.{value, no}
 use Rattle.spec.specs.declared.Call.{Call}
 use Rattle.spec.specs.declared.Call.the-variants.{Map as map, SetMark as setMark, ClearMark as clearMark, Load as load, Store as store, Device as device}
 use Rattle.spec.specs.Run.{step}
+use Rattle.spec.specs.Computing.{specifying}
 use Rattle.layout.specs.declared.HostWalk.the-variants as host
 use Rattle.host.specs.Walk.{hostWalkOf}
 use Rattle.record.specs.declared.Record.{Record}
@@ -16,13 +17,13 @@ use Rattle.record.specs.Record.{configOf}
 use Rattle.calls.specs.Calls.{hostTop, mapCall, callOf}
 use Rattle.wrong_units.specs.Unit.{afterBy, specified, Demand-3, told, unitBy}
 use Rattle.wrong_units.specs.Wrong.{storeWith, deviceWith, putKeeping, mapKeeping, markKeeping, neverDrops, staleMapping, staleSwitch, deviceForgotten, byOwnPage, forgetsAtStore}
-use Rattle.wrong_units.proofs.Computing.{calling, specifying}
+use Rattle.wrong_units.proofs.Computing.{calling}
 use Rattle.wrong_units.proofs.Mapped.{memory, openedRecord, openedWords, tables, firstRecord}
 use Rattle.wrong_units.proofs.Filled.{others, mappedWords, other-maps, marked, marks-set, heldRecord, heldWords}
 use Rattle.wrong_units.proofs.Refute.{Comes, refuted, begin, begins-at, hold, holds-at}
 
 -- a frame that was not mapped has no path to drop
-fresh-map : (r : Record) (m : List ℕ) (g f : ℕ) (w : Bool) (k : ℕ) → hostWalkOf (configOf r) (hostTop r) m g ≡ host.Absent k → mapKeeping r m g f w ≡ callOf (map g f w) r m
+fresh-map : (r : Record) (m : List ℕ) (g f : ℕ) (w : Bool) (k : ℕ) → hostWalkOf (configOf r) (hostTop r) m g ≡ host.Absent k → mapKeeping g f w r m ≡ callOf (map g f w) r m
 unfolding mapKeeping callOf mapCall
 fresh-map r m g f w k e = rw e
 
@@ -30,7 +31,7 @@ first-absent : hostWalkOf (configOf openedRecord) (hostTop openedRecord) openedW
 unfolding calling
 first-absent = refl
 
-first-same : (told (mapKeeping openedRecord openedWords 0 8 true)) .1 ≡ (told (callOf (map 0 8 true) openedRecord openedWords)) .1
+first-same : (told (mapKeeping 0 8 true openedRecord openedWords)) .1 ≡ (told (callOf (map 0 8 true) openedRecord openedWords)) .1
 first-same = ap (λ e. (told e) .1) (fresh-map openedRecord openedWords 0 8 true 1 first-absent)
 
 -- ---- version 2

@@ -15,6 +15,7 @@ use Rattle.spec.specs.declared.Answer.the-variants as answer
 use Rattle.spec.specs.Answer.{line, value, fault}
 use Rattle.spec.specs.declared.Call.the-variants.{Root as root, Map as map, Unmap as unmap, SetMark as setMark, ClearMark as clearMark, Load as load, Store as store, Device as device}
 use Rattle.spec.specs.Refusal.{allOf}
+use Rattle.spec.specs.Computing.{specifying}
 use Rattle.spec_laws.proofs.Lists.{and-left, and-right}
 use Rattle.words.specs.After.{After}
 use Rattle.words.specs.Words.{wordIn}
@@ -30,7 +31,7 @@ use Rattle.claims.proofs.Plain.{as-walked}
 use Rattle.wrong_units.specs.Unit.{afterBy, specified, Demand-3, WordsCounted, unitBy}
 use Rattle.wrong_units.specs.Wrong.{rewalked, walksInFull}
 use Rattle.wrong_units.proofs.Ours.{AsOurs, as-ours-demand-3}
-use Rattle.wrong_units.proofs.Computing.{calling, specifying}
+use Rattle.wrong_units.proofs.Computing.{calling}
 use Rattle.wrong_units.proofs.Mapped.{memory, grants}
 use Rattle.wrong_units.proofs.Filled.{other-maps, marks-set, heldRecord, heldWords}
 use Rattle.wrong_units.proofs.Refute.{Comes, begin, begins-at, hold, holds-at, differ}

@@ -5,6 +5,7 @@ pub mod Mapped
 pub mod Filled
 pub mod Refute
 pub mod Answers
+pub mod Halves
 pub mod Drops
 pub mod Walks
 pub mod InFull

@@ -99,7 +99,7 @@ store-as-ours c h a v o (walked.Arrived t w n) = refl
 store-as-ours c h a v o (walked.Faulted x n) = refl
 store-as-ours c h a v o walked.Damaged = refl
 
-pub store-with-ours : (r : Record) (m : List ℕ) (a v : ℕ) → storeWith putWordOf r m a v ≡ callOf (store a v) r m
+pub store-with-ours : (r : Record) (m : List ℕ) (a v : ℕ) → storeWith putWordOf a v r m ≡ callOf (store a v) r m
 unfolding storeWith callOf storeCall storeOf translatedOf
 store-with-ours r m a v =
     let o = translatedOf r m true a in
@@ -110,7 +110,7 @@ device-as-ours c m h a v (walked.Arrived t w n) = refl
 device-as-ours c m h a v (walked.Faulted x n) = refl
 device-as-ours c m h a v walked.Damaged = refl
 
-pub device-with-ours : (r : Record) (m : List ℕ) (a v : ℕ) → deviceWith putWordOf r m a v ≡ callOf (device a v) r m
+pub device-with-ours : (r : Record) (m : List ℕ) (a v : ℕ) → deviceWith putWordOf a v r m ≡ callOf (device a v) r m
 unfolding deviceWith callOf deviceCall deviceOf
 device-with-ours r m a v =
     ap (λ s. judged r m (cond (deviceOk r a) (servedBy r s) (refused r 4 m)))

@@ -84,6 +84,13 @@ refuted f xs ys x s wrong right c w r t d =
     (sym (ap (λ e. ((unitBy f) .call x e) .0) (goes-on f xs ys s (afterBy (unitBy f) ys s) c refl) ∙ w)
     ∙ demand-last (unitBy f) d memory 4 4 (xs ++ ys) x grants ∙ r)
 
+-- right after the opening
+pub refuted-opened : (f : Calls) (ys : List Call) (x : Call) (wrong right : Line)
+    → ((unitBy f) .call x (afterBy (unitBy f) ys (openedRecord, openedWords))) .0 ≡ wrong → (step x (specified memory 4 4 ys)) .0 ≡ right
+    → T (not (equal (code wrong) (code right))) → Demand-3 (unitBy f) → ⊥
+unfolding afterBy
+refuted-opened f ys x wrong right = refuted f [] ys x (openedRecord, openedWords) wrong right (ap (λ e. (told e) .1) opens)
+
 -- a unit whose load there is not refused and does not yield the word u that the plain walk over its memory comes to, in host frame t
 pub not-as-walked : (f : Calls) (xs ys : List Call) (a u : ℕ) (s : Record × List ℕ) (t : HostPhysical) (w : Bool) (k : ℕ) (x : Answer) → Comes f xs s
     → let e : Record × List ℕ = afterBy (unitBy f) ys s in

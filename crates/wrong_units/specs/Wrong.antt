@@ -3,8 +3,8 @@
 -- goes stale in them are real shadow entries. Their runs are computed word by word on a memory of 12 frames; only clearing a frame that
 -- is clear, which would take most of the time, goes by a law (proofs/Clear.antt).
 -- Assumes nothing.
-use Prim.Native.Nat.{ℕ, _*_}
-use mathlib.Core.Bool.{Bool, true, false, cond}
+use Prim.Native.Nat.{ℕ, suc, _*_, _^_}
+use mathlib.Core.Bool.{Bool, true, false, _&&_, cond}
 use mathlib.Core.List.{List, _++_}
 use lib.Dec.{eqb, leb, ltb}
 use lib.Count.{ones}
@@ -13,10 +13,11 @@ use Rattle.spec.specs.declared.Fault.{Fault}
 use Rattle.spec.specs.declared.Fault.the-variants.{Absent, Malformed, Protected, HostAbsent, HostReadOnly}
 use Rattle.spec.specs.declared.Answer.{Answer}
 use Rattle.spec.specs.declared.Answer.the-variants as answer
-use Rattle.spec.specs.Config.{Config, guestBase}
+use Rattle.spec.specs.Config.{Config, guestBase, signBit}
 use Rattle.spec.specs.Entry.{pageOf, wordOf, indexes}
 use Rattle.spec.specs.Plain.{next}
-use Rattle.spec.specs.declared.Call.the-variants.{Root as root, Map as map, Unmap as unmap, SetMark as setMark, ClearMark as clearMark, Load as load, Store as store, Device as device}
+use Rattle.spec.specs.Refusal.{alikeFrom, wordAligned}
+use Rattle.spec.specs.declared.Call.the-variants.{Map as map, SetMark as setMark, Load as load, Store as store, Device as device}
 use Rattle.words.specs.After.{After}
 use Rattle.words.specs.Words.{wordIn, setIn}
 use Rattle.pool.specs.declared.Pool.{Pool}
@@ -25,7 +26,7 @@ use Rattle.host.specs.Map.{mapOf, unmapOf}
 use Rattle.walk.specs.declared.Walked.{Walked}
 use Rattle.walk.specs.declared.Walked.the-variants as walked
 use Rattle.walk.specs.Memory.{walkedOf}
-use Rattle.marks.specs.Key.{keyOf}
+use Rattle.marks.specs.Key.{keyOf, keyAt}
 use Rattle.record.specs.declared.Record.{Record}
 use Rattle.record.specs.Record.{configOf, withMarks}
 use Rattle.shadow.specs.Watch.{watchedOf}
@@ -39,9 +40,10 @@ use Rattle.request.specs.declared.Served.{Served}
 use Rattle.request.specs.Access as access
 use Rattle.request.specs.Access.{serving, stored, writtenBy}
 use Rattle.calls.specs.declared.Reply.{Reply}
-use Rattle.calls.specs.Calls.{hostTop, heldOf, withHeld, withHost, nothing, ended, refused, judged, servedBy, addressOk, deviceOk, translatedOf, markRefusal, marksAfter, callOf}
+use Rattle.calls.specs.Calls.{hostTop, heldOf, rootOf, withHeld, withHost, nothing, ended, refused, judged, servedBy, depthAt, addressOk, deviceOk, translatedOf, markRefusal, markedOf, marksAfter, callOf}
 use Rattle.claims.specs.Plain.{plainWalk}
 use Rattle.wrong_units.specs.Unit.{Calls}
+use Rattle.wrong_units.specs.Changed.{Does, onLoads, onStores, onDevices, onMaps, onUnmaps, onSets, onClears}
 
 -- ---- what is said of a call, changed
 
@@ -90,53 +92,55 @@ unfoldable pub oneWord : Calls
 oneWord x r m = saying (always (wordIn m (guestBase (configOf r)) 0)) (callOf x r m)
 
 -- every request meets a fault and changes nothing
+abbrev pub faults : Does
+faults r m = judged r m (ended r (answer.Faulted (Absent (r .layout .levels)) 5 1) m)
+
 unfoldable pub faultsAll : Calls
-faultsAll (load a) r m = judged r m (ended r (answer.Faulted (Absent (r .layout .levels)) 5 1) m)
-faultsAll (store a v) r m = judged r m (ended r (answer.Faulted (Absent (r .layout .levels)) 5 1) m)
-faultsAll (device a v) r m = judged r m (ended r (answer.Faulted (Absent (r .layout .levels)) 5 1) m)
-faultsAll (root g) r m = callOf (root g) r m
-faultsAll (map g f w) r m = callOf (map g f w) r m
-faultsAll (unmap g) r m = callOf (unmap g) r m
-faultsAll (setMark a n) r m = callOf (setMark a n) r m
-faultsAll (clearMark a n) r m = callOf (clearMark a n) r m
+faultsAll = onLoads (λ a. faults) (onStores (λ a v. faults) (onDevices (λ a v. faults) callOf))
 
 -- a store is answered as by ours, but the guest words stay as they were
 abbrev pub unwritten : Record → List ℕ → After Reply → After Reply
 unwritten r m e = let words : ℕ = 512 * guestBase (configOf r) in ended (e .result .unit) (e .result .answer) (take words (e .memory) ++ drop words m)
 
 unfoldable pub storesNothing : Calls
-storesNothing (store a v) r m = unwritten r m (callOf (store a v) r m)
-storesNothing (device a v) r m = unwritten r m (callOf (device a v) r m)
-storesNothing (root g) r m = callOf (root g) r m
-storesNothing (map g f w) r m = callOf (map g f w) r m
-storesNothing (unmap g) r m = callOf (unmap g) r m
-storesNothing (setMark a n) r m = callOf (setMark a n) r m
-storesNothing (clearMark a n) r m = callOf (clearMark a n) r m
-storesNothing (load a) r m = callOf (load a) r m
+storesNothing = onStores (λ a v r m. unwritten r m (callOf (store a v) r m)) (onDevices (λ a v r m. unwritten r m (callOf (device a v) r m)) callOf)
 
 -- ---- refusals that come too early
 
 -- 10 once all host tables are in use, though the frame may need no other
 unfoldable pub tablesFull : Calls
-tablesFull (map g f w) r m = elim (leb (r .layout .hosts) (r .pools .host .used)) [ true ↦ refused r 10 m | false ↦ callOf (map g f w) r m ]
-tablesFull (root g) r m = callOf (root g) r m
-tablesFull (unmap g) r m = callOf (unmap g) r m
-tablesFull (setMark a n) r m = callOf (setMark a n) r m
-tablesFull (clearMark a n) r m = callOf (clearMark a n) r m
-tablesFull (load a) r m = callOf (load a) r m
-tablesFull (store a v) r m = callOf (store a v) r m
-tablesFull (device a v) r m = callOf (device a v) r m
+tablesFull = onMaps (λ g f w r m. elim (leb (r .layout .hosts) (r .pools .host .used)) [ true ↦ refused r 10 m | false ↦ callOf (map g f w) r m ]) callOf
 
 -- 7 once four marks are set
 unfoldable pub marksFull : Calls
-marksFull (setMark a n) r m = elim (ltb (ones (r .guest .marks .set)) 4) [ true ↦ callOf (setMark a n) r m | false ↦ refused r 7 m ]
-marksFull (root g) r m = callOf (root g) r m
-marksFull (map g f w) r m = callOf (map g f w) r m
-marksFull (unmap g) r m = callOf (unmap g) r m
-marksFull (clearMark a n) r m = callOf (clearMark a n) r m
-marksFull (load a) r m = callOf (load a) r m
-marksFull (store a v) r m = callOf (store a v) r m
-marksFull (device a v) r m = callOf (device a v) r m
+marksFull = onSets (λ a n r m. elim (ltb (ones (r .guest .marks .set)) 4) [ true ↦ callOf (setMark a n) r m | false ↦ refused r 7 m ]) callOf
+
+-- ---- addresses of both halves (document 02, 1), misread
+
+-- a load by another test of its address
+abbrev pub loadIf : (Config → ℕ → Bool) → ℕ → Does
+loadIf legal a r m =
+    judged r m (cond (legal (configOf r) a && wordAligned a) (servedBy r (access.loadOf (configOf r) (hostTop r) m (heldOf r) (rootOf r) a (depthAt r a))) (refused r 4 m))
+
+-- the limit of document 01
+unfoldable pub lowerHalfOnly : Calls
+lowerHalfOnly = onLoads (loadIf (λ c a. ltb a (2 ^ suc (signBit c)))) callOf
+
+-- the bits above the sign bit are alike, but need not repeat it
+unfoldable pub signNotCompared : Calls
+signNotCompared = onLoads (loadIf (λ c a. alikeFrom (suc (signBit c)) a)) callOf
+
+-- a device's address is tested as a guest-virtual one
+unfoldable pub devicesSigned : Calls
+devicesSigned = onDevices (λ a v r m. judged r m (cond (addressOk r a) (servedBy r (access.deviceOf (configOf r) (hostTop r) m (heldOf r) a v)) (refused r 4 m))) callOf
+
+-- a mark that is set has the page number of all 64 bits in its key
+abbrev pub setByAllBits : ℕ → ℕ → Does
+setByAllBits a n r m =
+    judged r m (cond (eqb (markRefusal true r a n) 0) (markedOf r m a n (marksAfter true (r .guest .marks) (keyOf n (pageOf a)))) (refused r (markRefusal true r a n) m))
+
+unfoldable pub marksByAllBits : Calls
+marksByAllBits = onSets setByAllBits callOf
 
 -- ---- drops, changed. The calls are ours with what drops the paths as an argument
 
@@ -150,8 +154,8 @@ storeAs put c h a v o (walked.Arrived t w n) =
 storeAs put c h a v o (walked.Faulted x n) = serving (o .result .held) (answer.Faulted x n (o .result .exits)) (o .memory)
 storeAs put c h a v o walked.Damaged = access.refused h 11 (o .memory)
 
-unfoldable pub storeWith : Puts → Record → List ℕ → ℕ → ℕ → After Reply
-storeWith put r m a v =
+unfoldable pub storeWith : Puts → ℕ → ℕ → Does
+storeWith put a v r m =
     let o : After Translated = translatedOf r m true a in
     judged r m (cond (addressOk r a) (servedBy r (storeAs put (configOf r) (heldOf r) a v o (o .result .walked))) (refused r 4 m))
 
@@ -160,8 +164,8 @@ deviceAs put c m h a v (walked.Arrived t w n) = writtenBy h h n 0 (put c m (h .p
 deviceAs put c m h a v (walked.Faulted x n) = serving h (answer.Faulted x n (exitBy (walked.Faulted x n))) m
 deviceAs put c m h a v walked.Damaged = access.refused h 11 m
 
-unfoldable pub deviceWith : Puts → Record → List ℕ → ℕ → ℕ → After Reply
-deviceWith put r m a v =
+unfoldable pub deviceWith : Puts → ℕ → ℕ → Does
+deviceWith put a v r m =
     judged r m (cond (deviceOk r a) (servedBy r (deviceAs put (configOf r) m (heldOf r) a v (walkedOf (configOf r) (hostTop r) m 0 (next true true (pageOf a) true)))) (refused r 4 m))
 
 -- the word is written and a watched frame is an exit, but no path is dropped
@@ -172,60 +176,32 @@ putKeeping c m p t i v = stored p (cond (watchedOf c m (p .fresh) t) 1 0) true (
 abbrev pub remapped : Record → After Change → After Reply
 remapped r t = cond (eqb (t .result .refusal) 0) (ended (withHost r (t .result .pool)) answer.Ok (t .memory)) (refused r (t .result .refusal) (t .memory))
 
-unfoldable pub mapKeeping : Record → List ℕ → ℕ → ℕ → Bool → After Reply
-mapKeeping r m g f w = judged r m (remapped r (mapOf (configOf r) (r .pools .host) m g f w))
+unfoldable pub mapKeeping : ℕ → ℕ → Bool → Does
+mapKeeping g f w r m = judged r m (remapped r (mapOf (configOf r) (r .pools .host) m g f w))
 
-unfoldable pub unmapKeeping : Record → List ℕ → ℕ → After Reply
-unmapKeeping r m g = judged r m (remapped r (unmapOf (configOf r) (r .pools .host) m g))
+unfoldable pub unmapKeeping : ℕ → Does
+unmapKeeping g r m = judged r m (remapped r (unmapOf (configOf r) (r .pools .host) m g))
 
 -- a mark is set or cleared, and no path is dropped
-unfoldable pub markKeeping : Bool → Record → List ℕ → ℕ → ℕ → After Reply
-markKeeping b r m a n =
-    judged r m (cond (eqb (markRefusal b r a n) 0) (ended (withMarks r (marksAfter b (r .guest .marks) (keyOf n (pageOf a)))) answer.Ok m) (refused r (markRefusal b r a n) m))
-
--- nothing is dropped after the first fill, but by a root load
-unfoldable pub neverDrops : Calls
-neverDrops (root g) r m = callOf (root g) r m
-neverDrops (map g f w) r m = mapKeeping r m g f w
-neverDrops (unmap g) r m = unmapKeeping r m g
-neverDrops (setMark a n) r m = markKeeping true r m a n
-neverDrops (clearMark a n) r m = markKeeping false r m a n
-neverDrops (load a) r m = callOf (load a) r m
-neverDrops (store a v) r m = storeWith putKeeping r m a v
-neverDrops (device a v) r m = deviceWith putKeeping r m a v
+unfoldable pub markKeeping : Bool → ℕ → ℕ → Does
+markKeeping b a n r m =
+    judged r m (cond (eqb (markRefusal b r a n) 0) (ended (withMarks r (marksAfter b (r .guest .marks) (keyAt (r .layout .levels) n a))) answer.Ok m) (refused r (markRefusal b r a n) m))
 
 -- version 2: a remap drops nothing, so that a table's old host frame goes on being read
 unfoldable pub staleMapping : Calls
-staleMapping (map g f w) r m = mapKeeping r m g f w
-staleMapping (unmap g) r m = unmapKeeping r m g
-staleMapping (root g) r m = callOf (root g) r m
-staleMapping (setMark a n) r m = callOf (setMark a n) r m
-staleMapping (clearMark a n) r m = callOf (clearMark a n) r m
-staleMapping (load a) r m = callOf (load a) r m
-staleMapping (store a v) r m = callOf (store a v) r m
-staleMapping (device a v) r m = callOf (device a v) r m
+staleMapping = onMaps mapKeeping (onUnmaps unmapKeeping callOf)
 
 -- version 3: a mark drops nothing, so that a switch entry is left where the address is no longer switched there
 unfoldable pub staleSwitch : Calls
-staleSwitch (setMark a n) r m = markKeeping true r m a n
-staleSwitch (clearMark a n) r m = markKeeping false r m a n
-staleSwitch (root g) r m = callOf (root g) r m
-staleSwitch (map g f w) r m = callOf (map g f w) r m
-staleSwitch (unmap g) r m = callOf (unmap g) r m
-staleSwitch (load a) r m = callOf (load a) r m
-staleSwitch (store a v) r m = callOf (store a v) r m
-staleSwitch (device a v) r m = callOf (device a v) r m
+staleSwitch = onSets (markKeeping true) (onClears (markKeeping false) callOf)
 
 -- a device's store drops nothing
 unfoldable pub deviceForgotten : Calls
-deviceForgotten (device a v) r m = deviceWith putKeeping r m a v
-deviceForgotten (root g) r m = callOf (root g) r m
-deviceForgotten (map g f w) r m = callOf (map g f w) r m
-deviceForgotten (unmap g) r m = callOf (unmap g) r m
-deviceForgotten (setMark a n) r m = callOf (setMark a n) r m
-deviceForgotten (clearMark a n) r m = callOf (clearMark a n) r m
-deviceForgotten (load a) r m = callOf (load a) r m
-deviceForgotten (store a v) r m = callOf (store a v) r m
+deviceForgotten = onDevices (deviceWith putKeeping) callOf
+
+-- nothing is dropped after the first fill, but by a root load
+unfoldable pub neverDrops : Calls
+neverDrops = onMaps mapKeeping (onUnmaps unmapKeeping (onSets (markKeeping true) (onClears (markKeeping false) (onStores (storeWith putKeeping) (onDevices (deviceWith putKeeping) callOf)))))
 
 -- what a drop left, beside the answer
 abbrev pub leaving : Record → Answer → After Left → After Reply
@@ -240,30 +216,22 @@ ownPage a r m (answer.Faulted x n e) = ended r (answer.Faulted x n e) m
 ownPage a r m (answer.Refused n) = ended r (answer.Refused n) m
 
 -- a store drops by its own guest-virtual page alone
-unfoldable pub byOwnPage : Calls
-byOwnPage (store a v) r m =
-    let e : After Reply = storeWith putKeeping r m a v in
+abbrev pub storeByOwnPage : ℕ → ℕ → Does
+storeByOwnPage a v r m =
+    let e : After Reply = storeWith putKeeping a v r m in
     ownPage a (e .result .unit) (e .memory) (e .result .answer)
-byOwnPage (root g) r m = callOf (root g) r m
-byOwnPage (map g f w) r m = callOf (map g f w) r m
-byOwnPage (unmap g) r m = callOf (unmap g) r m
-byOwnPage (setMark a n) r m = callOf (setMark a n) r m
-byOwnPage (clearMark a n) r m = callOf (clearMark a n) r m
-byOwnPage (load a) r m = callOf (load a) r m
-byOwnPage (device a v) r m = callOf (device a v) r m
+
+unfoldable pub byOwnPage : Calls
+byOwnPage = onStores storeByOwnPage callOf
 
 -- a store drops all that is held
-unfoldable pub forgetsAtStore : Calls
-forgetsAtStore (store a v) r m =
+abbrev pub storeForgetting : ℕ → ℕ → Does
+storeForgetting a v r m =
     let e : After Reply = callOf (store a v) r m in
     ended (withHeld (e .result .unit) nothing) (e .result .answer) (e .memory)
-forgetsAtStore (root g) r m = callOf (root g) r m
-forgetsAtStore (map g f w) r m = callOf (map g f w) r m
-forgetsAtStore (unmap g) r m = callOf (unmap g) r m
-forgetsAtStore (setMark a n) r m = callOf (setMark a n) r m
-forgetsAtStore (clearMark a n) r m = callOf (clearMark a n) r m
-forgetsAtStore (load a) r m = callOf (load a) r m
-forgetsAtStore (device a v) r m = callOf (device a v) r m
+
+unfoldable pub forgetsAtStore : Calls
+forgetsAtStore = onStores storeForgetting callOf
 
 -- ---- words that are not counted
 
@@ -282,11 +250,4 @@ rewalked m a w (answer.Refused n) = answer.Refused n
 
 -- each load walks both sets of tables in full, and reports the counts of the held path
 unfoldable pub walksInFull : Calls
-walksInFull (load a) r m = saying (rewalked m a (plainWalk r m false a)) (callOf (load a) r m)
-walksInFull (root g) r m = callOf (root g) r m
-walksInFull (map g f w) r m = callOf (map g f w) r m
-walksInFull (unmap g) r m = callOf (unmap g) r m
-walksInFull (setMark a n) r m = callOf (setMark a n) r m
-walksInFull (clearMark a n) r m = callOf (clearMark a n) r m
-walksInFull (store a v) r m = callOf (store a v) r m
-walksInFull (device a v) r m = callOf (device a v) r m
+walksInFull = onLoads (λ a r m. saying (rewalked m a (plainWalk r m false a)) (callOf (load a) r m)) callOf

@@ -84,6 +84,8 @@ _Static_assert(sizeof(struct cangrieb_answer) == 7 * sizeof(uint64_t), "an answe
    guest frame; 3 the memory's length or the record; 4 the address; 5 the mark's level; 6 the mark is set already, or is not
    set; 7 64 marks are set; 8 the guest frame; 9 the host frame; 10 no host table is free; 12 not mapped; 11 a damaged
    host or shadow table.
+   For 4: a guest-virtual address is legal when its bits 48 to 63 all equal bit 47; a device's address, which is
+   guest-physical, is below 2^48. Loads and stores are at multiples of 8; a mark's address need not be.
    A refusal leaves the head and the places as given; that of an opening sets them to 0. */
 
 /* Opens a memory (1, 2): clears its host and shadow frames, keeps its guest words; nothing is mapped, the root is 0, no mark is

@@ -148,6 +148,9 @@ pub enum Answer {
 }
 
 /// Why a call was refused: its number, from 1 to 12.
+///
+/// For 4: a guest-virtual address is legal when its bits 48 to 63 all equal bit 47; a device's address, which is
+/// guest-physical, is below 2^48. Loads and stores are at multiples of 8; a mark's address need not be.
 #[derive(Clone, Copy, Debug, PartialEq, Eq)]
 pub struct Refusal(pub u64);
 
@@ -157,7 +160,7 @@ impl fmt::Display for Refusal {
             1 => "the words are no multiple of 512, or the frames are 0 or more than 65,536",
             2 => "fewer than 4 host or shadow frames, or no guest frame is left",
             3 => "the memory has another length, or the record breaks a rule",
-            4 => "the address does not fit",
+            4 => "the address is not legal, or no multiple of 8",
             5 => "the mark's level is not 1 to 5",
             6 => "the mark is set already, or is not set",
             7 => "64 marks are set",

@@ -1,4 +1,4 @@
-//! Document 01's sixteen-frame guest through the archive, and the edges of the interface.
+//! Document 01's sixteen-frame guest through the archive, with addresses of both halves, and the edges of the interface.
 
 use cangrieb::{raw, Answer, Fault, Head, Record, Refusal};
 
@@ -18,6 +18,9 @@ fn guest() -> (Record, Vec<u64>) {
     assert_eq!(unit.root(&mut memory, 0), Answer::Ok);
     (unit, memory)
 }
+
+/// The first address of the upper half: its top index is 256.
+const UPPER: u64 = 0xFFFF_8000_0000_0000;
 
 fn value(word: u64, references: u64, exits: u64) -> Answer {
     Answer::Value { word, references, exits }
@@ -39,9 +42,46 @@ fn loads() {
     assert_eq!(unit.load(&mut memory, 8), value(0xC0FFEE, 4, 0));
     assert_eq!(unit.load(&mut memory, 0x2000), fault(Fault::HostAbsent { frame: 8 }, 24, 1));
     assert_eq!(unit.load(&mut memory, 0x3000), fault(Fault::Absent { level: 1 }, 20, 1));
-    assert_eq!(unit.load(&mut memory, 0xFFFF_FFFF_FFF8), fault(Fault::Absent { level: 4 }, 5, 1));
-    assert_eq!(unit.load(&mut memory, 1 << 48), refused(4));
     assert_eq!(unit.store(&mut memory, 0x1000, 1), fault(Fault::Protected { level: 1 }, 20, 1));
+    // The ends of the halves, where the root has no entry, and what lies between them.
+    for address in [0x7FFF_FFFF_FFF8, UPPER, 0xFFFF_FFFF_FFFF_FFF8] {
+        assert_eq!(unit.load(&mut memory, address), fault(Fault::Absent { level: 4 }, 5, 1));
+    }
+    for address in [1 << 47, 0xFFFF_FFFF_FFF8, 1 << 48, UPPER - 8] {
+        assert_eq!(unit.load(&mut memory, address), refused(4));
+        assert_eq!(unit.store(&mut memory, address, 1), refused(4));
+    }
+}
+
+/// Entry 256 of the root is as its entry 0, so that a page of the upper half is the lower one's with the same indexes below.
+#[test]
+fn the_upper_half() {
+    let (mut unit, mut memory) = guest();
+    memory[12 * 512 + 1] = 0xC0FFEE;
+    assert_eq!(unit.device_store(&mut memory, 256 * 8, 0x1003), Answer::Done { references: 4, exits: 0 });
+    assert_eq!(unit.load(&mut memory, UPPER + 8), value(0xC0FFEE, 4, 1));
+    assert_eq!(unit.load(&mut memory, UPPER + 8), value(0xC0FFEE, 4, 0));
+    // A mark that keeps index 256 holds in the upper half alone.
+    assert_eq!(unit.set_mark(&mut memory, UPPER + 3, 3), Answer::Ok);
+    assert_eq!(unit.load(&mut memory, UPPER + 8), value(0xC0FFEE, 16, 1));
+    assert_eq!(unit.load(&mut memory, 8), value(0xC0FFEE, 4, 1));
+    assert_eq!(unit.clear_mark(&mut memory, 3, 3), refused(6));
+    assert_eq!(unit.clear_mark(&mut memory, UPPER + 0x7F_FFFF_FFFF, 3), Answer::Ok);
+    // One that keeps no index holds in both.
+    assert_eq!(unit.set_mark(&mut memory, UPPER, 5), Answer::Ok);
+    assert_eq!(unit.set_mark(&mut memory, 0, 5), refused(6));
+    assert_eq!(unit.store(&mut memory, UPPER + 8, 7), Answer::Done { references: 24, exits: 0 });
+    assert_eq!(unit.load(&mut memory, 8), value(7, 24, 0));
+}
+
+/// Of the last device address no mapped frame has the first index; an address of the upper half is none of a device.
+#[test]
+fn device_addresses() {
+    let (mut unit, mut memory) = guest();
+    let last = Fault::HostAbsent { frame: (1 << 36) - 1 };
+    assert_eq!(unit.device_store(&mut memory, 0xFFFF_FFFF_FFF8, 1), fault(last, 1, 1));
+    assert_eq!(unit.device_store(&mut memory, 1 << 48, 1), refused(4));
+    assert_eq!(unit.device_store(&mut memory, UPPER, 1), refused(4));
 }
 
 #[test]
@@ -144,9 +184,11 @@ fn refused_calls() {
     assert_eq!(unit.load(&mut memory, 0), value(0, 4, 1));
     let before = memory.clone();
     // Neither the address nor the guest frame is one.
-    let calls = unsafe { every_call(&unit, memory.as_mut_ptr(), memory.len(), 1 << 48, 1 << 36) };
-    assert_eq!(calls.map(|(_, said)| said), [4, 4, 4, 8, 8, 8, 4, 4].map(|number| (4, number)));
-    assert!(calls.iter().all(|(after, _)| *after == unit));
+    for address in [1 << 48, UPPER - 8] {
+        let calls = unsafe { every_call(&unit, memory.as_mut_ptr(), memory.len(), address, 1 << 36) };
+        assert_eq!(calls.map(|(_, said)| said), [4, 4, 4, 8, 8, 8, 4, 4].map(|number| (4, number)));
+        assert!(calls.iter().all(|(after, _)| *after == unit));
+    }
     let mut after = unit;
     assert_eq!(after.set_mark(&mut memory, 0, 6), refused(5));
     assert_eq!(after.set_mark(&mut memory, 0x20_0000, 1), refused(6));

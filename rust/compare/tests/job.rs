@@ -42,7 +42,8 @@ fn open() -> Vec<u8> {
 }
 
 /// Two jobs whose lines were worked out by hand: every line of document 01 on its sixteen-frame guest, each from a new opening, with
-/// pages that hold their host frame and word (0xc01 is frame 12, word 1); and every refusal that a job can meet.
+/// pages that hold their host frame and word (0xc01 is frame 12, word 1), its load of 0xFFFFFFFFFFF8 refused as request 1 of
+/// document 02 has it; and every refusal that a job can meet.
 #[test]
 fn jobs_with_known_lines() {
     let jobs: [(&[u8], &str); 2] = [
@@ -82,11 +83,12 @@ fn random_record(random: &mut Random) -> Vec<u8> {
     raw_record(length, if random.one_in(100) { random.word() as u16 } else { kind }, &body)
 }
 
+/// Mostly 0, at times 255, so that some addresses are of the upper half.
 fn random_byte(random: &mut Random) -> u8 {
-    if random.one_in(4) {
-        random.word() as u8
-    } else {
-        0
+    match random.below(8) {
+        0 | 1 => random.word() as u8,
+        2 => 255,
+        _ => 0,
     }
 }
 

@@ -1,9 +1,9 @@
 //! Random runs: every answer of the proved unit, with its counts, is the second walker's, and so are the guest words.
-//! TIMES sets how many times as many runs there are.
+//! TIMES sets how many times as many runs there are; `-- --nocapture` shows how often each thing happened.
 
 use cangrieb::Record;
 use compare::{answer, first_guest_word, memory_before};
-use walker::events::Events;
+use walker::events::{of_halves, Events};
 use walker::numbers::{different_proper_prefixes, indexes};
 use walker::random::{run, Random, Run, Sizes};
 use walker::Unit;
@@ -47,7 +47,7 @@ fn host_tables(walker: &Unit) -> u64 {
 
 /// What the runs of each kind of memory must have had; `overflows` if the shadow tables are few.
 fn events(overflows: bool) -> Vec<String> {
-    let mut names = Vec::new();
+    let mut names = of_halves(4);
     let mut add = |name: String| names.push(name);
     for access in ["Load", "Store"] {
         for way in ["path held", "path not held"] {
@@ -113,6 +113,7 @@ fn all_same(first_seed: u64, runs: u64, overflows: bool, sizes: fn(&mut Random) 
         all.join(&same(seed, &run(seed, sizes(&mut Random::new(seed.wrapping_add(1))), CALLS)));
     }
     for event in events(overflows) {
+        println!("{:>9} {event}", all.count(&event));
         assert!(all.count(&event) > 0, "no run had: {event}");
     }
 }

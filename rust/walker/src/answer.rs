@@ -6,7 +6,9 @@ pub const BAD_MEMORY: u32 = 1;
 pub const BAD_SPLIT: u32 = 2;
 /// "3 for any kind but 1 before a granted open"
 pub const NOT_OPEN: u32 = 3;
-/// "4 if the address is 2^48 or more or no multiple of 8"
+/// For loads and stores 4 if the address is not legal ("when bits 48 to 63 all
+/// equal bit 47") "or no multiple of 8", for marks the first only; for device
+/// stores "4 if the address is 2^48 or more or no multiple of 8".
 pub const BAD_ADDRESS: u32 = 4;
 /// "5 if the level is not 1 to 5"
 pub const BAD_LEVEL: u32 = 5;

@@ -14,9 +14,26 @@ const INDEX_BITS: u32 = 9;
 /// "bits 12 to 51 frame number"
 const FRAME_FIELD_BITS: u32 = 40;
 
-/// "A guest-virtual address has 48 bits": the first number that is none.
-pub fn address_limit(levels: u32) -> u64 {
-    1 << (INDEX_BITS * levels + OFFSET_BITS)
+/// The top bit of the top level's index: bit 47, with five levels bit 56.
+pub fn sign_bit(levels: u32) -> u32 {
+    INDEX_BITS * levels + OFFSET_BITS - 1
+}
+
+/// "An address is legal when bits 48 to 63 all equal bit 47."
+pub fn is_legal(address: u64, levels: u32) -> bool {
+    let sign = sign_bit(levels);
+    (sign + 1..64).all(|place| bit(address, place) == bit(address, sign))
+}
+
+/// Which half a legal address is in: "Their kernel lives in the upper half".
+pub fn in_upper_half(address: u64, levels: u32) -> bool {
+    bit(address, sign_bit(levels))
+}
+
+/// The address in the other half that has the same indexes but for the top bit of
+/// the top one. It is legal exactly if the address given is.
+pub fn in_other_half(address: u64, levels: u32) -> u64 {
+    address ^ u64::MAX << sign_bit(levels)
 }
 
 /// "A guest frame number is below 2^36": as many indexes as there are levels,
@@ -25,11 +42,14 @@ pub fn frame_limit(levels: u32) -> u64 {
     1 << (INDEX_BITS * levels).min(FRAME_FIELD_BITS)
 }
 
-/// The first number that is no guest-physical address.
+/// "Device addresses keep the old limit": the first number that is no
+/// guest-physical address.
 pub fn device_limit(levels: u32) -> u64 {
     frame_limit(levels) << OFFSET_BITS
 }
 
+/// The page or frame number of an address. Of a guest-virtual address it has the
+/// bits above the top index too, which no index takes.
 pub fn frame_of(address: u64) -> u64 {
     address >> OFFSET_BITS
 }
@@ -55,9 +75,20 @@ pub fn page_from(first: &[u64], levels: u32) -> u64 {
     first.iter().fold(0, |page, index| (page << INDEX_BITS) | index) << (INDEX_BITS * below)
 }
 
-/// The first address of a page.
-pub fn address_of(page: u64) -> u64 {
-    page << OFFSET_BITS
+/// The first guest-virtual address of a page, made legal by its bits above the
+/// top index.
+pub fn address_of(page: u64, levels: u32) -> u64 {
+    let address = page << OFFSET_BITS;
+    if in_upper_half(address, levels) {
+        address | u64::MAX << sign_bit(levels)
+    } else {
+        address
+    }
+}
+
+/// The first guest-physical address of a frame.
+pub fn device_address_of(frame: u64) -> u64 {
+    frame << OFFSET_BITS
 }
 
 /// The number of different proper prefixes of some lists of indexes: what host

@@ -1,7 +1,8 @@
 //! Random runs from a seed: a guest whose tables stand in memory at opening, the
 //! maps that make them reachable, and calls around a few pages. Frames are
 //! aliased, tables are mapped as pages or map themselves, table frames are
-//! remapped, tables and pages are read-only at times, marks come and go.
+//! remapped, tables and pages are read-only at times, marks come and go. Pages and
+//! marks are of both halves, and some differ in their half alone.
 
 use crate::answer::Call;
 use crate::job::{raw_record, write_record, Record, JOB_FRAMES, JOB_LEVELS};
@@ -98,6 +99,9 @@ pub fn run(seed: u64, sizes: Sizes, calls: usize) -> Run {
     Run { sizes, words: guest.memory(), calls: list }
 }
 
+/// The top bit of an index: the top level's tells the half.
+const TOP_BIT: u64 = 256;
+
 /// A word of the guest area at opening, by host frame and place.
 type Places = BTreeMap<(u64, u64), u64>;
 
@@ -190,7 +194,7 @@ impl Guest {
 
     fn add_to_plan(&mut self, name: u64, host: u64) {
         if self.plan.iter().all(|(other, _, _)| *other != name) {
-            let writable = !self.random.one_in(7);
+            let writable = !self.random.one_in(5);
             self.plan.push((name, host, writable));
         }
     }
@@ -219,14 +223,15 @@ impl Guest {
         self.sizes.first_guest_frame() + self.random.below(self.sizes.guest_frames())
     }
 
+    /// Each with the one that differs in the top bit: at the top level the two are
+    /// of like addresses in the two halves.
     fn choose_indexes(&mut self) {
-        self.indexes = vec![0, 1, 2];
-        for _ in 0..self.random.below(3) {
-            let more = self.random.pick(&[3, 4, 255, 256, 511]);
-            if !self.indexes.contains(&more) {
-                self.indexes.push(more);
-            }
+        let mut lower = vec![0, 1];
+        if self.random.one_in(2) {
+            lower.push(self.random.pick(&[2, 3, 255]));
         }
+        let upper = lower.iter().map(|index| index ^ TOP_BIT);
+        self.indexes = lower.iter().copied().chain(upper).collect();
     }
 
     /// Either proper layers of tables, or a graph in which every frame is a table
@@ -248,10 +253,11 @@ impl Guest {
     }
 
     /// The first frame is the root, the next ones a table of each level, some more
-    /// tables, then pages. A level 1 entry may name a table, and the root itself.
+    /// tables, then pages. A level 1 entry may name a table, and the root itself. In
+    /// a large memory too the tables are few and often named, so that stores meet them.
     fn choose_layers(&mut self) {
         let levels = self.sizes.levels as u64;
-        let tables = levels + self.random.below(self.sizes.guest_frames() - levels - 1);
+        let tables = levels + self.random.below((self.sizes.guest_frames() - levels - 1).min(24));
         let mut layers: Vec<Vec<u64>> = vec![Vec::new(); levels as usize + 1];
         for number in 0..tables {
             let level = if number < levels { levels - number } else { 1 + self.random.below(levels - 1) };
@@ -265,15 +271,17 @@ impl Guest {
             let mut below: Vec<u64> =
                 layers[level - 1].iter().map(|number| self.names[*number as usize]).collect();
             if level == 1 {
-                below.extend(self.second_names.clone());
-                below.push(self.names[self.random.below(tables) as usize]);
+                for _ in 0..=below.len() / 16 {
+                    below.extend(self.second_names.clone());
+                    below.push(self.names[self.random.below(tables) as usize]);
+                }
             }
             for number in layers[level].clone() {
                 self.choose_table(number, &below, level as u64);
             }
         }
         if self.random.one_in(3) {
-            let index = *self.indexes.last().unwrap_or(&0);
+            let index = self.random.pick(&self.indexes);
             let entry = self.names[0] << 12 | 3;
             self.entries.insert((self.sizes.first_guest_frame(), index), entry);
         }
@@ -324,14 +332,19 @@ impl Guest {
         entry
     }
 
-    /// Pages near each other: each new one changes the last few indexes of an old one.
+    /// Pages near each other: each new one changes the last few indexes of an old
+    /// one, or its half alone.
     fn choose_pages(&mut self) {
         let levels = self.sizes.levels as usize;
-        let mut list = vec![0; levels];
-        for _ in 0..6 + self.random.below(5) {
-            let kept = self.random.below(levels as u64) as usize;
-            for place in list.iter_mut().skip(kept) {
-                *place = self.random.pick(&self.indexes);
+        let mut list = vec![self.random.pick(&self.indexes); levels];
+        for number in 0..6 + self.random.below(5) {
+            if number % 3 == 2 {
+                list[0] ^= TOP_BIT;
+            } else {
+                let kept = self.random.below(levels as u64) as usize;
+                for place in list.iter_mut().skip(kept) {
+                    *place = self.random.pick(&self.indexes);
+                }
             }
             self.pages.push(page_from(&list, self.sizes.levels));
         }
@@ -356,11 +369,12 @@ impl Guest {
         list
     }
 
+    /// One of three levels at an index of its own, in the two halves by turns.
     fn far_mark(&mut self, number: u64) -> Call {
-        let mut list = vec![0; self.sizes.levels as usize];
-        list[0] = 300 + number / 3;
-        let level = 1 + number % 3;
-        Call::SetMark { address: address_of(page_from(&list, self.sizes.levels)), level }
+        let levels = self.sizes.levels;
+        let place = number / 3;
+        let index = 30 + place / 2 + TOP_BIT * (place % 2);
+        Call::SetMark { address: address_of(page_from(&[index], levels), levels), level: 1 + number % 3 }
     }
 
     fn next_call(&mut self) -> Call {
@@ -388,11 +402,16 @@ impl Guest {
         if !self.random.one_in(3) {
             self.last_page = self.random.pick(&self.pages);
         }
-        address_of(self.last_page) + 8 * self.word_place()
+        address_of(self.last_page, self.sizes.levels) + 8 * self.word_place()
+    }
+
+    /// The first address of one of the pages.
+    fn page_address(&mut self) -> u64 {
+        address_of(self.random.pick(&self.pages), self.sizes.levels)
     }
 
     fn device_address(&mut self) -> u64 {
-        address_of(self.guest_frame()) + 8 * self.word_place()
+        device_address_of(self.guest_frame()) + 8 * self.word_place()
     }
 
     /// A place in a frame: mostly one at which tables have entries.
@@ -433,7 +452,10 @@ impl Guest {
         let names = self.plan.iter().filter(|(_, host, _)| *host == frame);
         let names: Vec<u64> = names.map(|(guest, _, _)| *guest).collect();
         let name = if names.is_empty() { self.names[0] } else { self.random.pick(&names) };
-        Call::DeviceStore { address: address_of(name) + 8 * index, value: self.entries[&(frame, index)] }
+        Call::DeviceStore {
+            address: device_address_of(name) + 8 * index,
+            value: self.entries[&(frame, index)],
+        }
     }
 
     fn map(&mut self) -> Call {
@@ -476,7 +498,7 @@ impl Guest {
     /// other depths and are cleared soon.
     fn set_mark(&mut self) -> Call {
         let levels = self.sizes.levels as u64;
-        let address = address_of(self.random.pick(&self.pages)) + self.random.below(4096);
+        let address = self.page_address() + self.random.below(4096);
         let level = match self.random.below(10) {
             0..=3 => 1,
             4 | 5 => 2,
@@ -484,6 +506,8 @@ impl Guest {
             _ => levels + self.random.below(2),
         };
         if level >= levels {
+            // It keeps no index: any address clears it.
+            let address = self.page_address();
             self.undo.push(Call::ClearMark { address, level });
         } else {
             self.marks.push((address, level));
@@ -493,12 +517,14 @@ impl Guest {
 
     fn clear_mark(&mut self) -> Call {
         if self.marks.is_empty() || self.random.one_in(10) {
-            let address = address_of(self.random.pick(&self.pages));
+            let address = self.page_address();
             return Call::ClearMark { address, level: 1 + self.random.below(self.sizes.levels as u64 + 1) };
         }
         let place = self.random.below(self.marks.len() as u64) as usize;
         let (address, level) = self.marks.swap_remove(place);
-        Call::ClearMark { address, level }
+        // By any address that begins with the mark's prefix.
+        let others = 4096 * FRAME_WORDS.pow(level as u32);
+        Call::ClearMark { address: address ^ self.random.below(others), level }
     }
 
     fn root(&mut self) -> Call {
@@ -515,24 +541,76 @@ impl Guest {
         let levels = self.sizes.levels;
         let address = self.address();
         let guest = self.guest_frame();
-        let edge = self.random.pick(&[0, 1, 1 << 40, u64::MAX - address_limit(levels)]);
+        let far_guest = self.beyond(frame_limit(levels));
         let bad_level = self.random.pick(&[0, levels as u64 + 2, 255]);
-        match self.random.below(12) {
+        // Within a word.
+        let offset = self.random.below(8);
+        match self.random.below(17) {
             0 => Call::Load { address: address + 1 + self.random.below(7) },
-            1 => Call::Load { address: address_limit(levels) + (edge & !7) },
-            2 => Call::Load { address: address_limit(levels) - 8 },
-            3 => Call::Store { address: address + 4, value: 1 },
-            4 => Call::DeviceStore { address: device_limit(levels) + (edge & !7), value: 1 },
-            5 => Call::DeviceStore { address: device_limit(levels) - 8, value: 1 },
-            6 => Call::SetMark { address, level: bad_level },
-            7 => Call::SetMark { address: address_limit(levels) + edge, level: bad_level.min(1) },
-            8 => Call::Map { guest: frame_limit(levels) + edge, host: 0, writable: true },
-            9 => Call::Map { guest, host: self.odd_host_frame(), writable: true },
-            10 => self.odd_frame_call(frame_limit(levels) + edge),
+            1 | 2 => Call::Load { address: self.illegal_address() },
+            3 => Call::Load { address: self.edge_address() },
+            4 => Call::Store { address: address + 4, value: 1 },
+            5 => Call::Store { address: self.illegal_address(), value: 1 },
+            6 => Call::Store { address: self.edge_address(), value: 1 },
+            7 => Call::DeviceStore { address: self.odd_device_address(), value: 1 },
+            8 => Call::SetMark { address, level: bad_level },
+            9 => Call::SetMark { address: self.illegal_address() + offset, level: bad_level.min(1) },
+            10 => Call::ClearMark { address: self.illegal_address() + offset, level: bad_level.min(1) },
+            11 => {
+                let address = self.edge_address() + offset;
+                let level = 1 + self.random.below(3);
+                self.marks.push((address, level));
+                Call::SetMark { address, level }
+            }
+            12 => Call::Map { guest: far_guest, host: 0, writable: true },
+            13 => Call::Map { guest, host: self.odd_host_frame(), writable: true },
+            14 => self.odd_frame_call(far_guest),
             _ => {
                 let number = self.random.below(70);
                 self.far_mark(number)
             }
+        }
+    }
+
+    /// A number at the limit, little above it, far above it, or the last of all.
+    fn beyond(&mut self, limit: u64) -> u64 {
+        self.random.pick(&[limit, limit + 1, limit + (1 << 40), u64::MAX])
+    }
+
+    /// The first or last word of a half.
+    fn edge_address(&mut self) -> u64 {
+        let upper = in_other_half(0, self.sizes.levels);
+        self.random.pick(&[0, !upper - 7, upper, u64::MAX - 7])
+    }
+
+    /// A word's address that is not legal: one bit or all the bits above a legal
+    /// one's indexes are flipped, or the bit that they must equal. So 2^47 and
+    /// 2^48 are among them, and an upper address without its sign.
+    fn illegal_address(&mut self) -> u64 {
+        let sign = sign_bit(self.sizes.levels);
+        let legal = if self.random.one_in(2) { self.edge_address() } else { self.address() };
+        let flipped = match self.random.below(5) {
+            0 => 1 << sign,
+            1 => 1 << (sign + 1),
+            2 => u64::MAX << (sign + 1),
+            _ => 1 << (sign + 1 + self.random.below(63 - sign as u64) as u32),
+        };
+        legal ^ flipped
+    }
+
+    /// A guest-physical address about the limit, one that is not legal as a
+    /// guest-virtual one, or a legal one of the upper half, which no device has.
+    fn odd_device_address(&mut self) -> u64 {
+        let levels = self.sizes.levels;
+        let limit = device_limit(levels);
+        let address = self.address();
+        match self.random.below(6) {
+            0 => limit - 8,
+            1 => self.beyond(limit) & !7,
+            2 => 1 << sign_bit(levels),
+            3 => self.device_address() + 4,
+            4 => in_other_half(0, levels),
+            _ => address.max(in_other_half(address, levels)),
         }
     }
 

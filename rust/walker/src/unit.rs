@@ -76,6 +76,7 @@ impl Unit {
             Call::DeviceStore { address, value } => self.device_store(address, value),
         };
         self.note_answer(call, &answer);
+        self.note_address(call, &answer);
         answer
     }
 
@@ -123,10 +124,10 @@ impl Unit {
 
     // Marks.
 
-    /// The refusals that set and clear mark share: "4 (2^48 or more only), 5 if
-    /// the level is not 1 to 5".
+    /// The refusals that set and clear mark share: 4 by the rule of loads and
+    /// stores without the multiple of 8, then "5 if the level is not 1 to 5".
     fn refuse_mark(&self, address: u64, level: u64) -> Option<u32> {
-        if address >= address_limit(self.levels()) {
+        if !is_legal(address, self.levels()) {
             return Some(BAD_ADDRESS);
         }
         if level < 1 || level > self.levels() as u64 + 1 {
@@ -148,6 +149,7 @@ impl Unit {
         }
         let dropped = self.book.drop_by_prefix(&mark.prefix);
         self.book.marks.insert(mark);
+        self.events.add(format!("mark of level {level} set, {}", self.half(address)));
         self.events.add_many(format!("paths dropped by setting a mark of level {level}"), dropped);
         Answer::Ok
     }
@@ -161,14 +163,19 @@ impl Unit {
             return Answer::No(MARK_AS_IS);
         }
         let dropped = self.book.drop_by_prefix(&mark.prefix);
+        self.events.add(format!("mark of level {level} cleared, {}", self.half(address)));
         self.events.add_many(format!("paths dropped by clearing a mark of level {level}"), dropped);
         Answer::Ok
     }
 
     // Loads and stores.
 
+    fn is_word_address(&self, address: u64) -> bool {
+        is_legal(address, self.levels()) && address % 8 == 0
+    }
+
     fn load(&mut self, address: u64) -> Answer {
-        if address >= address_limit(self.levels()) || address % 8 != 0 {
+        if !self.is_word_address(address) {
             return Answer::No(BAD_ADDRESS);
         }
         let served = self.serve(address, Access::Load);
@@ -184,7 +191,7 @@ impl Unit {
 
     /// "a store fills first, then writes, then drops"
     fn store(&mut self, address: u64, value: u64) -> Answer {
-        if address >= address_limit(self.levels()) || address % 8 != 0 {
+        if !self.is_word_address(address) {
             return Answer::No(BAD_ADDRESS);
         }
         let served = self.serve(address, Access::Store);
@@ -290,6 +297,76 @@ impl Unit {
             }
             Answer::Done { exits, .. } => self.events.add(format!("store done, {exits} exits")),
             _ => {}
+        }
+    }
+
+    /// The half of a guest-virtual address that was walked, or why an address was refused.
+    fn note_address(&mut self, call: &Call, answer: &Answer) {
+        let (name, address) = match *call {
+            Call::Load { address } => ("Load", address),
+            Call::Store { address, .. } => ("Store", address),
+            Call::SetMark { address, .. } => ("SetMark", address),
+            Call::ClearMark { address, .. } => ("ClearMark", address),
+            Call::DeviceStore { address, .. } => return self.note_device_address(address, answer),
+            Call::Root { .. } | Call::Map { .. } | Call::Unmap { .. } => return,
+        };
+        match answer {
+            Answer::No(BAD_ADDRESS) => self.note_refused_address(name, address),
+            Answer::No(_) | Answer::Ok => {}
+            _ => self.note_half(name, address, answer),
+        }
+    }
+
+    fn half(&self, address: u64) -> &'static str {
+        if in_upper_half(address, self.levels()) {
+            "upper half"
+        } else {
+            "lower half"
+        }
+    }
+
+    /// A load or store that was not refused.
+    fn note_half(&mut self, name: &str, address: u64, answer: &Answer) {
+        let half = self.half(address);
+        let depth = self.book.depth(address);
+        match answer {
+            Answer::Fault { fault, .. } => self.events.add(format!("fault {}, {half}", fault.letter())),
+            _ => self.events.add(format!("granted {name} at depth {depth}, {half}")),
+        }
+        let other = in_other_half(address, self.levels());
+        self.events.add_if(self.book.depth(other) != depth, "depth unlike the other half's");
+        let is_held = |path: Option<Vec<u64>>| path.is_some_and(|path| self.book.held.contains_key(&path));
+        let both_held = is_held(self.book.path(address, depth)) && is_held(self.book.path(other, depth));
+        self.events.add_if(both_held && depth < self.levels(), "like paths of both halves held");
+    }
+
+    /// An address of a load, store or mark that was refused with 4.
+    fn note_refused_address(&mut self, name: &str, address: u64) {
+        let levels = self.levels();
+        if is_legal(address, levels) {
+            return self.events.add(format!("refusal 4 of {name}, no multiple of 8"));
+        }
+        self.events.add(format!("refusal 4 of {name}, between the halves"));
+        // One bit alone may keep it from being legal.
+        for place in sign_bit(levels)..64 {
+            let flipped = address ^ 1 << place;
+            let name = format!("refusal 4, {} but for bit {place}", self.half(flipped));
+            self.events.add_if(is_legal(flipped, levels), &name);
+        }
+    }
+
+    /// A device address, which the rule of guest-virtual ones must not judge.
+    fn note_device_address(&mut self, address: u64, answer: &Answer) {
+        let legal = is_legal(address, self.levels());
+        match answer {
+            Answer::No(_) if address < device_limit(self.levels()) => {
+                self.events.add("refusal 4 of DeviceStore, no multiple of 8")
+            }
+            Answer::No(_) => {
+                self.events.add("refusal 4 of DeviceStore, at or above the limit");
+                self.events.add_if(legal, "refusal 4 of DeviceStore, legal for a load");
+            }
+            _ => self.events.add_if(!legal, "device store, not legal for a load"),
         }
     }
 

@@ -1,4 +1,5 @@
-//! Document 01's own examples and each refusal, by the numbers printed there.
+//! Document 01's own examples and each refusal, by the numbers printed there, with
+//! request 1 of document 02.
 
 use walker::answer::{Answer, Call, Fault};
 use walker::machine::Access;
@@ -143,11 +144,92 @@ fn five_tables_do_not_fit_four() {
     assert_eq!(load(&mut unit, 0), value(0, 4, 1));
 }
 
+// Request 1: "2^48 is still refused, 0xFFFF800000000000 is now walked, and document
+// 01's case 0xFFFFFFFFFFF8 is now refused. Device addresses keep the old limit."
+
+/// The first address of the upper half: its indexes are 256, 0, 0, 0.
+const UPPER: u64 = 0xFFFF_8000_0000_0000;
+
 #[test]
-fn the_ends_of_the_address_space() {
+fn the_ends_of_the_halves() {
+    // Top indexes 255, 256 and 511, whose entries are 0: the root's host walk reads
+    // four words, and the entry is the fifth.
+    for address in [0x7FFF_FFFF_FFF8, UPPER, 0xFFFF_FFFF_FFFF_FFF8] {
+        let mut unit = sixteen_frame_guest();
+        assert_eq!(load(&mut unit, address), fault(Fault::Absent { level: 4 }, 5, 1));
+    }
     let mut unit = sixteen_frame_guest();
-    assert_eq!(load(&mut unit, 0xFFFF_FFFF_FFF8), fault(Fault::Absent { level: 4 }, 5, 1));
-    assert_eq!(load(&mut unit, 1 << 48), Answer::No(4));
+    for address in [0xFFFF_FFFF_FFF8, 1 << 47, 1 << 48, UPPER - 8] {
+        assert_eq!(load(&mut unit, address), Answer::No(4));
+    }
+}
+
+/// The guest with entry 256 of frame 0 as its entry 0: each page of the upper half
+/// that differs in the top index alone is the lower one's.
+fn guest_with_an_upper_half() -> Unit {
+    let mut unit = sixteen_frame_guest();
+    assert_eq!(unit.call(&Call::DeviceStore { address: 256 * 8, value: 0x1003 }), done(4, 0));
+    unit
+}
+
+#[test]
+fn a_mark_of_the_upper_half_holds_there_alone() {
+    let mut unit = guest_with_an_upper_half();
+    // The mark keeps index 256. Depth 3 is 1 + 15 words, depth 0 is 4. The paths
+    // 256 and 0, 0, 0, 0 have four proper prefixes together, which fit S.
+    assert_eq!(set_mark(&mut unit, UPPER + 0x1003, 3), Answer::Ok);
+    assert_eq!(load(&mut unit, UPPER), value(0, 16, 1));
+    assert_eq!(load(&mut unit, 0), value(0, 4, 1));
+    assert_eq!(load(&mut unit, UPPER), value(0, 16, 0));
+    assert_eq!(load(&mut unit, 0), value(0, 4, 0));
+    // The mark at index 0 is another one; any address of index 256 clears this one,
+    // and drops the path 256 alone.
+    assert_eq!(clear_mark(&mut unit, 0x1003, 3), Answer::No(6));
+    assert_eq!(clear_mark(&mut unit, UPPER + 0x7F_FFFF_FFFF, 3), Answer::Ok);
+    assert_eq!(clear_mark(&mut unit, UPPER, 3), Answer::No(6));
+    assert_eq!(load(&mut unit, 0), value(0, 4, 0));
+    // Now 256, 0, 0, 0: with 0, 0, 0, 0 seven tables, so that each load drops the other.
+    assert_eq!(load(&mut unit, UPPER), value(0, 4, 1));
+    assert_eq!(load(&mut unit, 0), value(0, 4, 1));
+}
+
+#[test]
+fn marks_4_and_5_are_of_both_halves() {
+    for (level, references, exits) in [(4, 20, 1), (5, 24, 0)] {
+        let mut unit = guest_with_an_upper_half();
+        assert_eq!(set_mark(&mut unit, UPPER, level), Answer::Ok);
+        assert_eq!(set_mark(&mut unit, 0, level), Answer::No(6));
+        // At depth 4 the path of every address is the empty one, filled by the first load.
+        assert_eq!(load(&mut unit, 0), value(0, references, exits));
+        assert_eq!(load(&mut unit, UPPER), value(0, references, 0));
+        assert_eq!(clear_mark(&mut unit, 0x7FFF_FFFF_FFFF, level), Answer::Ok);
+        assert_eq!(clear_mark(&mut unit, UPPER, level), Answer::No(6));
+    }
+}
+
+#[test]
+fn a_store_in_the_upper_half_drops_in_the_lower() {
+    let mut unit = guest_with_an_upper_half();
+    set_mark(&mut unit, UPPER, 3);
+    assert_eq!(load(&mut unit, 0), value(0, 4, 1));
+    // Page 4 is the table of level 1. Its path is not held, and the path of 0 watches it.
+    assert_eq!(store(&mut unit, UPPER + 0x4000, 0x7003), done(16, 2));
+    assert_eq!(load(&mut unit, 0), value(0, 4, 1));
+    assert_eq!(page(&unit, 0), 15);
+    assert_eq!(load(&mut unit, UPPER + 0x4000), value(0x7003, 16, 0));
+}
+
+#[test]
+fn device_addresses_keep_the_old_limit() {
+    let mut unit = sixteen_frame_guest();
+    let device = |unit: &mut Unit, address| unit.call(&Call::DeviceStore { address, value: 1 });
+    // Top indexes 511 and 256, which no mapped frame has: H at the first word.
+    let absent = |frame| fault(Fault::HostAbsent { frame }, 1, 1);
+    assert_eq!(device(&mut unit, 0xFFFF_FFFF_FFF8), absent(0xF_FFFF_FFFF));
+    assert_eq!(device(&mut unit, 1 << 47), absent(1 << 35));
+    for address in [1 << 48, UPPER, 0xFFFF_FFFF_FFFF_FFF8] {
+        assert_eq!(device(&mut unit, address), Answer::No(4));
+    }
 }
 
 // Openings.
@@ -179,10 +261,17 @@ fn open_keeps_guest_words() {
 #[test]
 fn refusal_4_of_requests() {
     let mut unit = sixteen_frame_guest();
-    for address in [1, 4, 0x1007, 1 << 48, (1 << 48) + 8, u64::MAX, u64::MAX - 7] {
+    for address in [1, 4, 0x1007, 1 << 48, (1 << 48) + 8, u64::MAX, UPPER - 8, UPPER + 4] {
         assert_eq!(load(&mut unit, address), Answer::No(4));
         assert_eq!(store(&mut unit, address, 1), Answer::No(4));
         assert_eq!(unit.call(&Call::DeviceStore { address, value: 1 }), Answer::No(4));
+    }
+    // One of bits 47 to 63 unlike the others, in each half.
+    for place in 47..64 {
+        for address in [0, 0x7FFF_FFFF_FFF8, UPPER, 0xFFFF_FFFF_FFFF_FFF8] {
+            assert_eq!(load(&mut unit, address ^ 1 << place), Answer::No(4));
+            assert_eq!(store(&mut unit, address ^ 1 << place, 1), Answer::No(4));
+        }
     }
     assert!(unit.book().held.is_empty());
 }
@@ -190,8 +279,10 @@ fn refusal_4_of_requests() {
 #[test]
 fn refusals_of_marks() {
     let mut unit = sixteen_frame_guest();
-    assert_eq!(set_mark(&mut unit, 1 << 48, 9), Answer::No(4));
-    assert_eq!(clear_mark(&mut unit, 1 << 48, 9), Answer::No(4));
+    for address in [1 << 47, 0xFFFF_FFFF_FFF8, 1 << 48, UPPER - 1] {
+        assert_eq!(set_mark(&mut unit, address, 9), Answer::No(4));
+        assert_eq!(clear_mark(&mut unit, address, 9), Answer::No(4));
+    }
     for level in [0, 6, 255, u64::MAX] {
         assert_eq!(set_mark(&mut unit, 0, level), Answer::No(5));
         assert_eq!(clear_mark(&mut unit, 0, level), Answer::No(5));
@@ -201,6 +292,7 @@ fn refusals_of_marks() {
     assert_eq!(set_mark(&mut unit, 0x1FFFFF, 1), Answer::Ok);
     assert_eq!(set_mark(&mut unit, 0, 1), Answer::No(6));
     assert_eq!(set_mark(&mut unit, 0x200000, 1), Answer::Ok);
+    assert_eq!(set_mark(&mut unit, UPPER + 0x1FFFFF, 1), Answer::Ok);
     // Levels 4 and 5 keep no index.
     assert_eq!(set_mark(&mut unit, 0, 4), Answer::Ok);
     assert_eq!(set_mark(&mut unit, 1 << 40, 4), Answer::No(6));
@@ -449,10 +541,20 @@ fn five_levels() {
     assert_eq!(unit.call(&Call::Root { frame: 1 << 40 }), Answer::No(8));
     assert_eq!(unit.call(&Call::Root { frame: (1 << 40) - 1 }), Answer::Ok);
     assert_eq!(load(&mut unit, 0), fault(Fault::HostAbsent { frame: (1 << 40) - 1 }, 1, 1));
-    assert_eq!(load(&mut unit, 1 << 57), Answer::No(4));
     assert_eq!(unit.call(&Call::DeviceStore { address: 1 << 52, value: 0 }), Answer::No(4));
-    // Bits 48 to 51 are frame bits.
+    // "57-bit addresses legal by bit 56". Entries 255, 256 and 511 of the root are 0:
+    // five words of its host walk, then the entry. Bit 47 is of the next index, whose
+    // entry is five words of a host walk and one more behind the root's entry 0.
     unit.call(&Call::Root { frame: 0 });
+    for address in [1 << 56, 0x1FF_FFFF_FFFF_FFF8, 1 << 57, 0xFEFF_FFFF_FFFF_FFF8] {
+        assert_eq!(load(&mut unit, address), Answer::No(4));
+        assert_eq!(set_mark(&mut unit, address, 1), Answer::No(4));
+    }
+    for address in [0xFF_FFFF_FFFF_FFF8, 0xFF00_0000_0000_0000, UPPER] {
+        assert_eq!(load(&mut unit, address), fault(Fault::Absent { level: 5 }, 6, 1));
+    }
+    assert_eq!(load(&mut unit, 1 << 47), fault(Fault::Absent { level: 4 }, 12, 1));
+    // Bits 48 to 51 are frame bits.
     unit.call(&Call::DeviceStore { address: 0, value: 1 << 51 | 3 });
     assert_eq!(load(&mut unit, 0), fault(Fault::HostAbsent { frame: 1 << 39 }, 7, 1));
 }

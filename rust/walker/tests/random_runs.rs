@@ -4,9 +4,9 @@
 mod naive;
 
 use naive::{Naive, Seen};
-use std::collections::BTreeMap;
+use std::collections::{BTreeMap, BTreeSet};
 use walker::answer::{Answer, Call};
-use walker::events::Events;
+use walker::events::{of_halves, Events};
 use walker::numbers::{address_of, page_from};
 use walker::random::{run, Random, Run, Sizes};
 use walker::vectors::lines;
@@ -15,6 +15,9 @@ use walker::Unit;
 /// Held paths with the guest words that their shadow parts read.
 type Held = BTreeMap<Vec<u64>, Vec<(u64, u64)>>;
 
+/// Marks, each a level and the indexes that it keeps as one number.
+type Marks = BTreeSet<(u64, u64)>;
+
 /// The end of a walk: a host frame, or a fault's letter, level and frame.
 type End = Result<u64, (char, u32, u64)>;
 
@@ -22,14 +25,14 @@ type End = Result<u64, (char, u32, u64)>;
 struct Pair {
     unit: Unit,
     naive: Naive,
-    marks: Vec<(u64, u64)>,
+    marks: Marks,
 }
 
 impl Pair {
     fn new(run: &Run) -> Pair {
         let Sizes { levels, h, s, .. } = run.sizes;
         let unit = Unit::open(levels, run.words.clone(), h, s).unwrap();
-        Pair { unit, naive: Naive::open(levels, run.words.clone(), h, s), marks: Vec::new() }
+        Pair { unit, naive: Naive::open(levels, run.words.clone(), h, s), marks: Marks::new() }
     }
 
     fn step(&mut self, call: &Call) {
@@ -55,6 +58,10 @@ impl Pair {
         let before = self.unit.book().held.clone();
         let answer = self.unit.call(call);
         let levels = self.naive.levels;
+        if let Call::SetMark { address, level } | Call::ClearMark { address, level } = *call {
+            let sets = matches!(call, Call::SetMark { .. });
+            assert_eq!(answer, self.mark_answer(sets, address, level), "{call:?}");
+        }
         let after = &self.unit.book().held;
         let refused = matches!(answer, Answer::No(_));
         for (path, held) in &before {
@@ -73,7 +80,26 @@ impl Pair {
         self.change_naive(call, &answer);
     }
 
+    /// What setting or clearing a mark must answer, from the marks set so far.
+    fn mark_answer(&self, sets: bool, address: u64, level: u64) -> Answer {
+        let levels = self.naive.levels;
+        if !legal(address, levels) {
+            return Answer::No(4);
+        }
+        if !(1..=levels as u64 + 1).contains(&level) {
+            return Answer::No(5);
+        }
+        if self.marks.contains(&mark(address, level, levels)) == sets {
+            return Answer::No(6);
+        }
+        if sets && self.marks.len() == 64 {
+            return Answer::No(7);
+        }
+        Answer::Ok
+    }
+
     fn change_naive(&mut self, call: &Call, answer: &Answer) {
+        let levels = self.naive.levels;
         match (*call, answer) {
             (Call::Map { guest, host, writable }, Answer::Ok) => {
                 assert!(self.naive.map(guest, host, writable))
@@ -84,10 +110,11 @@ impl Pair {
             (_, Answer::No(_)) => {}
             (Call::Root { frame }, Answer::Ok) => self.naive.root = frame,
             (Call::Unmap { guest }, Answer::Ok) => self.naive.unmap(guest),
-            (Call::SetMark { address, level }, Answer::Ok) => self.marks.push((address, level)),
+            (Call::SetMark { address, level }, Answer::Ok) => {
+                assert!(self.marks.insert(mark(address, level, levels)))
+            }
             (Call::ClearMark { address, level }, Answer::Ok) => {
-                let bits = mark_bits(level, self.naive.levels);
-                self.marks.retain(|mark| mark.1 != level || mark.0 >> bits != address >> bits);
+                assert!(self.marks.remove(&mark(address, level, levels)))
             }
             other => panic!("{other:?}"),
         }
@@ -96,7 +123,7 @@ impl Pair {
     // Loads, stores and device stores.
 
     fn request(&mut self, call: &Call, address: u64, value: Option<u64>) {
-        if address % 8 != 0 || address >> (12 + 9 * self.naive.levels) != 0 {
+        if address % 8 != 0 || !legal(address, self.naive.levels) {
             return assert_eq!(self.unit.call(call), Answer::No(4));
         }
         let levels = self.naive.levels as u64;
@@ -191,7 +218,7 @@ impl Pair {
         for (path, held) in &book.held {
             let others = book.held.keys().filter(|other| *other != path);
             assert!(others.into_iter().all(|other| !other.starts_with(path)));
-            let address = address_of(page_from(path, levels));
+            let address = address_of(page_from(path, levels), levels);
             let path_depth = levels - path.len() as u32;
             assert_eq!(depth(&self.marks, address, levels), path_depth as u64);
             let seen = self.naive.walk(address, false);
@@ -212,15 +239,23 @@ impl Pair {
     }
 }
 
-/// The bits of an address that a mark's prefix does not keep.
-fn mark_bits(level: u64, levels: u32) -> u64 {
-    12 + 9 * level.min(levels as u64)
+/// Read as a signed number, a legal address has as many bits as the indexes and
+/// the offset together.
+fn legal(address: u64, levels: u32) -> bool {
+    let half = 1i64 << (11 + 9 * levels);
+    (-half..half).contains(&(address as i64))
 }
 
-/// The depth, from addresses and levels alone.
-fn depth(marks: &[(u64, u64)], address: u64, levels: u32) -> u64 {
-    let begins = |mark: &&(u64, u64)| (mark.0 ^ address) >> mark_bits(mark.1, levels) == 0;
-    marks.iter().filter(begins).map(|mark| mark.1).max().unwrap_or(0)
+/// The mark of this level at an address.
+fn mark(address: u64, level: u64, levels: u32) -> (u64, u64) {
+    let page = address / 4096 % 512u64.pow(levels);
+    (level, page / 512u64.pow(levels.min(level as u32)))
+}
+
+/// The greatest level whose mark at the address is set.
+fn depth(marks: &Marks, address: u64, levels: u32) -> u64 {
+    let at_address = |level: &u64| marks.contains(&mark(address, *level, levels));
+    (1..=levels as u64 + 1).rev().find(at_address).unwrap_or(0)
 }
 
 fn path_of(address: u64, levels: u32, length: usize) -> Vec<u64> {
@@ -304,7 +339,18 @@ fn small_runs_with_five_levels() {
 #[test]
 fn long_runs_reach_every_event() {
     let events = check_small_runs(4, 1000..1060, 600);
-    let missed: Vec<String> = sought_events().into_iter().filter(|name| events.count(name) == 0).collect();
+    assert_all_met(sought_events(), &events);
+    assert_all_met(of_halves(4), &events);
+}
+
+#[test]
+fn long_runs_with_five_levels_reach_both_halves() {
+    let events = check_small_runs(5, 1000..1060, 600);
+    assert_all_met(of_halves(5), &events);
+}
+
+fn assert_all_met(names: Vec<String>, events: &Events) {
+    let missed: Vec<String> = names.into_iter().filter(|name| events.count(name) == 0).collect();
     assert!(missed.is_empty(), "{missed:?}");
 }
 

@@ -2,8 +2,7 @@
 use mathlib.Core.Path.{_≡_, sym, ap, _∙_}
 use Prim.Native.Nat.{ℕ, _<_, _^_, max}
 use native.Mathlib.Omega.{arith}
-use Rattle.spec.specs.Entry.{pageOf}
-use Rattle.marks.specs.Key.{depthOf}
+use Rattle.marks.specs.Key.{lowPage, depthOf}
 use Rattle.marks.specs.Table.{keys}
 use Rattle.marks.specs.ByLevel.{wantsOf}
 use Rattle.marks.proofs.Turn.{keys-turn, keys-end}
@@ -13,14 +12,14 @@ use Rattle.depth.proofs.depth.Statement.{statement}
 use Rattle.depth.proofs.depth.Tie as tie
 
 abbrev Inv-loop : tie.InvT-loop
-Inv-loop place set wants found₀ rest₀ found rest = (rest < 2 ^ 64) × ((p : ℕ) → wants ≡ wantsOf p → max found (depthOf p (keys place rest)) ≡ depthOf p (keys place set))
+Inv-loop place set levels wants found₀ rest₀ found rest = (rest < 2 ^ 64) × ((p : ℕ) → wants ≡ wantsOf p → max found (depthOf p (keys place rest)) ≡ depthOf p (keys place set))
 
 abbrev μ-loop : tie.MeasureT-loop
-μ-loop place set wants found₀ rest₀ found rest = rest
+μ-loop place set levels wants found₀ rest₀ found rest = rest
 
 returns : tie.Need-returns Inv-loop μ-loop
 unfolding depthOf
-returns c = sym (ap (depthOf (pageOf (c .before .args .address .0))) (keys-end (c .before .args .place .now) (c .before .args .set) (c .if1 .taken)))
+returns c = sym (ap (depthOf (lowPage (c .before .args .levels) (c .before .args .address .0))) (keys-end (c .before .args .place .now) (c .before .args .set) (c .if1 .taken)))
 
 wants-of-requires : tie.Need-wants-of-requires Inv-loop μ-loop
 wants-of-requires c κs = search needs
@@ -37,7 +36,8 @@ returns-2 c =
     let args = c .before .before .before .before .before .before .args in
     let wants-of = c .before .before .before .before .wants-of in
     let loop = c .before .before .before .loop in
-    omega (arith, loop .inv .1 (pageOf (args .address .0)) (wants-of .ensures), wanted-end (pageOf (args .address .0)) (keys (args .place .now) (loop .rest)) (rw (wants-of .ensures) at none))
+    let page = lowPage (args .levels) (args .address .0) in
+    omega (arith, loop .inv .1 page (wants-of .ensures), wanted-end page (keys (args .place .now) (loop .rest)) (rw (wants-of .ensures) at none))
 
 lowest-requires : tie.Need-lowest-requires Inv-loop μ-loop
 lowest-requires c κs = search needs

@@ -78,10 +78,16 @@ fn walk(memory: &[u64], top: u64, page: u64) -> Option<u64> {
     Some(frame)
 }
 
+/// Whether a word can be loaded there: bits 48 to 63 all equal bit 47, and the address is a multiple of 8.
+#[inline(always)]
+fn legal(address: u64) -> bool {
+    (address << 16) as i64 >> 16 == address as i64 && address & 7 == 0
+}
+
 /// A load through one set of tables: no record, no marks, no counts.
 #[inline(never)]
 fn plain_load(memory: &[u64], top: u64, address: u64) -> Option<u64> {
-    if address >> 48 != 0 || address & 7 != 0 {
+    if !legal(address) {
         return None;
     }
     let frame = walk(memory, top, address >> 12)?;
@@ -91,7 +97,7 @@ fn plain_load(memory: &[u64], top: u64, address: u64) -> Option<u64> {
 /// A load by a nested walk: 24 entries.
 #[inline(never)]
 fn nested_load(memory: &[u64], root: u64, address: u64) -> Option<u64> {
-    if address >> 48 != 0 || address & 7 != 0 {
+    if !legal(address) {
         return None;
     }
     let mut frame = walk(memory, 0, root)?;

@@ -1,0 +1,16 @@
+-- One name for the definitions that a computed line of the specification unfolds.
+-- Assumes nothing.
+use Prim.Native.Nat.{ℕ}
+use Rattle.spec.specs.Entry.{bitSet, present, writable, frameOf, malformed, index, indexes, pageOf, wordOf}
+use Rattle.spec.specs.Walk.{trace}
+use Rattle.spec.specs.Plain.{hosted, entry, next, levels, walk}
+use Rattle.spec.specs.Machine.{hostCost, world}
+use Rattle.spec.specs.Call.{plain, deviceWalk, access, machineStep}
+use Rattle.spec.specs.Count.{request, storing, bookStep}
+use Rattle.spec.specs.Refusal.{openRefusal, alikeFrom, tests, refusal}
+use Rattle.spec.specs.Run.{step, run, after, opening}
+
+-- written `unfolding specifying`; its value is nobody's
+unfoldable pub specifying : ℕ
+unfolding bitSet present writable frameOf malformed index indexes pageOf wordOf trace hosted entry next levels walk hostCost world plain deviceWalk access machineStep request storing bookStep openRefusal alikeFrom tests refusal step run after opening
+specifying = 0

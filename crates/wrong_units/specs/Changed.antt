@@ -1,0 +1,85 @@
+-- A table of calls with one call changed; several changes are put one on the other. So a wrong unit says only where it is wrong, and a
+-- call that the specification gains is a line here and none there.
+-- Assumes nothing.
+use Prim.Native.Nat.{ℕ}
+use mathlib.Core.Bool.{Bool}
+use mathlib.Core.List.{List}
+use Rattle.spec.specs.declared.Call.the-variants.{Root as root, Map as map, Unmap as unmap, SetMark as setMark, ClearMark as clearMark, Load as load, Store as store, Device as device}
+use Rattle.words.specs.After.{After}
+use Rattle.record.specs.declared.Record.{Record}
+use Rattle.calls.specs.declared.Reply.{Reply}
+use Rattle.wrong_units.specs.Unit.{Calls}
+
+-- what a call does with a record and its memory
+abbrev pub Does : Type 0
+Does = Record → List ℕ → After Reply
+
+abbrev pub onLoads : (ℕ → Does) → Calls → Calls
+onLoads does calls (load a) = does a
+onLoads does calls (root g) = calls (root g)
+onLoads does calls (map g f w) = calls (map g f w)
+onLoads does calls (unmap g) = calls (unmap g)
+onLoads does calls (setMark a n) = calls (setMark a n)
+onLoads does calls (clearMark a n) = calls (clearMark a n)
+onLoads does calls (store a v) = calls (store a v)
+onLoads does calls (device a v) = calls (device a v)
+
+abbrev pub onStores : (ℕ → ℕ → Does) → Calls → Calls
+onStores does calls (store a v) = does a v
+onStores does calls (root g) = calls (root g)
+onStores does calls (map g f w) = calls (map g f w)
+onStores does calls (unmap g) = calls (unmap g)
+onStores does calls (setMark a n) = calls (setMark a n)
+onStores does calls (clearMark a n) = calls (clearMark a n)
+onStores does calls (load a) = calls (load a)
+onStores does calls (device a v) = calls (device a v)
+
+abbrev pub onDevices : (ℕ → ℕ → Does) → Calls → Calls
+onDevices does calls (device a v) = does a v
+onDevices does calls (root g) = calls (root g)
+onDevices does calls (map g f w) = calls (map g f w)
+onDevices does calls (unmap g) = calls (unmap g)
+onDevices does calls (setMark a n) = calls (setMark a n)
+onDevices does calls (clearMark a n) = calls (clearMark a n)
+onDevices does calls (load a) = calls (load a)
+onDevices does calls (store a v) = calls (store a v)
+
+abbrev pub onMaps : (ℕ → ℕ → Bool → Does) → Calls → Calls
+onMaps does calls (map g f w) = does g f w
+onMaps does calls (root g) = calls (root g)
+onMaps does calls (unmap g) = calls (unmap g)
+onMaps does calls (setMark a n) = calls (setMark a n)
+onMaps does calls (clearMark a n) = calls (clearMark a n)
+onMaps does calls (load a) = calls (load a)
+onMaps does calls (store a v) = calls (store a v)
+onMaps does calls (device a v) = calls (device a v)
+
+abbrev pub onUnmaps : (ℕ → Does) → Calls → Calls
+onUnmaps does calls (unmap g) = does g
+onUnmaps does calls (root g) = calls (root g)
+onUnmaps does calls (map g f w) = calls (map g f w)
+onUnmaps does calls (setMark a n) = calls (setMark a n)
+onUnmaps does calls (clearMark a n) = calls (clearMark a n)
+onUnmaps does calls (load a) = calls (load a)
+onUnmaps does calls (store a v) = calls (store a v)
+onUnmaps does calls (device a v) = calls (device a v)
+
+abbrev pub onSets : (ℕ → ℕ → Does) → Calls → Calls
+onSets does calls (setMark a n) = does a n
+onSets does calls (root g) = calls (root g)
+onSets does calls (map g f w) = calls (map g f w)
+onSets does calls (unmap g) = calls (unmap g)
+onSets does calls (clearMark a n) = calls (clearMark a n)
+onSets does calls (load a) = calls (load a)
+onSets does calls (store a v) = calls (store a v)
+onSets does calls (device a v) = calls (device a v)
+
+abbrev pub onClears : (ℕ → ℕ → Does) → Calls → Calls
+onClears does calls (clearMark a n) = does a n
+onClears does calls (root g) = calls (root g)
+onClears does calls (map g f w) = calls (map g f w)
+onClears does calls (unmap g) = calls (unmap g)
+onClears does calls (setMark a n) = calls (setMark a n)
+onClears does calls (load a) = calls (load a)
+onClears does calls (store a v) = calls (store a v)
+onClears does calls (device a v) = calls (device a v)
