@@ -18,9 +18,7 @@ use Rattle.spec.specs.Walk.{Trace, Result, granted, failed, trace}
 use Rattle.spec.specs.Plain.{Place, upper, shadowPart, directPart}
 use Rattle.spec.specs.Machine.{Machine, world, with, isMapped, hostTables}
 use Rattle.spec.specs.Book.{Mark, Held, Book, markAt, sameMark, isSet, depth, find, holding, fill, shadowTables, dropWord, dropMapping, dropPrefix, usesMapping, readsWord}
-use Rattle.spec.specs.declared.Call.{Call}
-use Rattle.spec.specs.declared.Call.the-variants.{Root as root, Map as map, Unmap as unmap, SetMark as setMark, ClearMark as clearMark, Load as load, Store as store, Device as device}
-use Rattle.spec.specs.Call.{addressIndexes, plain, deviceWalk}
+use Rattle.spec.specs.Call.{Call, root, map, unmap, setMark, clearMark, load, store, device, forecast, addressIndexes, plain, deviceWalk}
 use Rattle.spec.specs.Count.{Counted, serves, heldBy, shadowed, unshadowed, request, storing, bookStep}
 use Rattle.spec.specs.Refusal.{firstFailed, levelFits, addressFits, tests, refusal}
 use Rattle.spec.specs.Run.{State, answered, step, after, opened}
@@ -152,6 +150,7 @@ step-fits x s i = go (refusal (s .config) x (s .machine) (s .book)) refl
     by (load a) e = request-keeps c m b false a i
     by (store a v) e = storing-keeps c (wordOf a) _ _ (request-keeps c m b true a i)
     by (device a v) e = storing-keeps c (wordOf a) _ _ i
+    by (forecast xs) e = i
 
     go : (r : Option ℕ) → refusal c x m b ≡ r → BookFits ((answered x s r) .1 .config) ((answered x s r) .1 .book)
     go (some n) e = i
