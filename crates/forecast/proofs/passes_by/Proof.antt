@@ -1,0 +1,25 @@
+use borrow.Author.Tests.{lt-ltb, le-ltb}
+use Rattle.forecast.specs.Forecast.{passes}
+use borrow.Author.Needs.{needs}
+use Rattle.forecast.proofs.passes_by.Statement.{statement}
+use Rattle.forecast.proofs.passes_by.Tie as tie
+
+sub-result : tie.Need-sub-result
+sub-result c = search needs
+
+mul-result : tie.Need-mul-result
+mul-result c = search needs
+
+shr-result : tie.Need-shr-result
+shr-result c = search needs
+
+returns : tie.Need-returns
+unfolding passes
+returns c = rw (lt-ltb _ _ (c .if1 .taken))
+
+returns-2 : tie.Need-returns-2
+unfolding passes
+returns-2 c = rw (le-ltb _ _ (c .if1 .left))
+
+pub passes-by-spec : {M : Type 1} → statement M
+passes-by-spec = tie.close (tie.spec sub-result mul-result shr-result returns returns-2)
