@@ -5,7 +5,7 @@ use Prim.Native.Nat.{ℕ, suc, _-_, _*_}
 use mathlib.Core.Bool.{true}
 use mathlib.Core.List.{List, [], _∷_, _++_}
 use lib.ListN.{length, set, replicate}
-use Rattle.spec.specs.declared.Call.the-variants.{Map as map}
+use Rattle.spec.specs.Call.{map}
 use Rattle.spec.specs.declared.Answer.the-variants as answer
 use Rattle.spec.specs.Entry.{bitSet, present, entryLimit}
 use Rattle.spec.specs.Refusal.{openRefusal}

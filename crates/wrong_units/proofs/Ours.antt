@@ -7,8 +7,7 @@ use mathlib.Core.Bool.{true, false, cond}
 use mathlib.Core.List.{List, [], _∷_}
 use lib.ListN.{length}
 use Rattle.spec.specs.Answer.{Line, line}
-use Rattle.spec.specs.declared.Call.{Call}
-use Rattle.spec.specs.declared.Call.the-variants.{Store as store, Device as device}
+use Rattle.spec.specs.Call.{Call, store, device}
 use Rattle.spec.specs.Config.{Config}
 use Rattle.spec.specs.Entry.{pageOf}
 use Rattle.spec.specs.Plain.{next}
