@@ -2,58 +2,54 @@
 -- book holds as the list is served, and each address costs what the book's load costs.
 -- Assumes nothing.
 use mathlib.Core.Path.{_≡_, refl, sym, ap, ap₂, _∙_, subst}
-use Prim.Native.Nat.{ℕ, zero, suc, _+_, _-_, _<_, _≤_, max}
+use Prim.Native.Nat.{ℕ, suc, _+_, _-_, _<_, _≤_, max}
 use native.Mathlib.Omega.{arith}
 use mathlib.Core.Bool.{Bool, true, false, not, _&&_, _||_, cond}
 use mathlib.Core.List.{List, [], _∷_, _++_, map}
 use mathlib.Core.Option.{Option, none, some}
-use lib.Dec.{T, eqb, leb, ltb, le→leb}
+use lib.Dec.{eqb, leb, ltb}
 use lib.ListN.{length, set, replicate, length-set, length-replicate}
 use borrow.Author.Tests.{lt-ltb, le-ltb, ltb-true, ltb-false, le-leb, lt-leb, leb-true}
 use Rattle.spec.specs.declared.Fault.{Fault}
 use Rattle.spec.specs.declared.Answer.{Answer}
 use Rattle.spec.specs.declared.Answer.the-variants as answer
 use Rattle.spec.specs.Answer.{line}
-use Rattle.spec.specs.Answer as say
 use Rattle.spec.specs.Config.{Config}
 use Rattle.spec.specs.Prefix.{All, same, any, distinct, tablesOf}
 use Rattle.spec.specs.Walk.{World, Trace, Result, granted, failed, trace}
 use Rattle.spec.specs.Plain.{Place, walk, upper, directPart}
 use Rattle.spec.specs.Machine.{Machine, world}
 use Rattle.spec.specs.Book.{Held, Book, depth, find, paths, shadowTables}
-use Rattle.spec.specs.Call.{Call, load, forecast, addressIndexes, plain, machineStep}
-use Rattle.spec.specs.Count.{Counted, one, hostExit, request, bookStep}
+use Rattle.spec.specs.Call.{forecast, addressIndexes, plain, machineStep}
+use Rattle.spec.specs.Count.{Counted, one, hostExit, serves, request, bookStep}
 use Rattle.spec.specs.Refusal.{addressFits, wordAligned, forecastRoom, tests, refusal, firstFailed}
-use Rattle.spec.specs.Forecast.{Figures, served, servedBy, plus, figuresOf}
+use Rattle.spec.specs.Forecast.{Figures, served, servedBy, figuresOf}
 use Rattle.spec.specs.Run.{State, figuresLine, answered, step}
-use Rattle.spec_laws.proofs.Lists.{is-false, same-is, same-refl, or-right}
 use Rattle.spec_laws.proofs.Indexes.{indexes-all}
 use Rattle.spec.specs.Entry.{pageOf}
 use Rattle.spec_laws.proofs.Added.{standing, any-append, tables-added, tables-alone, standing-append}
-use Rattle.spec_laws.proofs.Price.{Price, shadowPrice, plainPrice, price, Priced, load-priced, filled}
+use Rattle.spec_laws.proofs.Price.{Price, shadowPrice, plainPrice, price, Priced, load-priced, filled, serves-load}
 use Rattle.area_laws.proofs.Paths.{onto}
-use Rattle.layout.specs.Layout.{page}
 use Rattle.layout.specs.declared.HostWalk.the-variants as host
 use Rattle.walk.specs.Memory.{walkedOf}
 use Rattle.walk.proofs.Stands.{plainWalked, root-walked}
 use Rattle.marks.specs.Key.{keyAt}
 use Rattle.marks.proofs.Book.{depth-book}
 use Rattle.translate.specs.declared.Held.{Held as Holding}
-use Rattle.translate.specs.Translate.{translation, exitBy, pathOf, servedOf, servesOf, foundOf, plainOf}
+use Rattle.translate.specs.Translate.{translation, exitBy, servesOf, foundOf, plainOf}
 use Rattle.forecast.specs.declared.Sum.{Sum}
 use Rattle.forecast.specs.declared.Paths.{Paths}
 use Rattle.forecast.specs.declared.Outlook.{Outlook}
 use Rattle.forecast.specs.declared.Next.{Next}
 use Rattle.forecast.specs.declared.Next.the-variants.{Go}
-use Rattle.forecast.specs.Forecast.{newest, metFrom, tablesWith, filledOf, added, paidBy, paid, heldAfter, missedBy, missedOf, foundBy, keptOf, loadOf, addressOf, onward, listOf, start, forecastOf}
+use Rattle.forecast.specs.Forecast.{newest, metFrom, tablesWith, filledOf, added, paid, heldAfter, missedBy, missedOf, foundBy, keptOf, loadOf, addressOf, onward, listOf, start, forecastOf}
 use Rattle.forecast.proofs.Keys.{keyPath, PathKey, key-path, path-key, any-keys, met-standing, newest-set}
 use Rattle.drops_laws.proofs.Tables.{tables-used}
 use Rattle.words.specs.After.{After, yields}
 use Rattle.record.specs.declared.Record.{Record}
 use Rattle.record.specs.Record.{configOf}
-use Rattle.calls.specs.declared.Reply.{Reply}
 use Rattle.calls.specs.Calls.{hostTop, heldOf, rootOf, keysOf, depthAt, forecastCall, ended}
-use Rattle.claims.proofs.Invariant.{longer, frames, Inv, Follows, at}
+use Rattle.claims.proofs.Invariant.{frames, Inv, Follows, at}
 use Rattle.claims.proofs.Paths.{path-upper, exit-is}
 use Rattle.claims.proofs.Moves.{at-inv}
 use Rattle.claims.proofs.Found as found
@@ -67,22 +63,9 @@ unfolding paid
 paid-is s p h e n (granted y) = refl
 paid-is s p h e n (failed y) = refl
 
--- a path that is found is one of those held
-found-any : (p : List ℕ) (hs : List Held) (h : Held) → find p hs ≡ some h → any (same p) (paths hs) ≡ true
-found-any p [] h e = let z : _≡_ {A = ℕ} 0 1 = cc in absurd (omega arith)
-found-any p (k ∷ hs) h e = go (same p (k .path)) e (found-any p hs h)
-  where
-    go : (b : Bool) → cond b (some k) (find p hs) ≡ some h → (find p hs ≡ some h → any (same p) (paths hs) ≡ true) → (b || any (same p) (paths hs)) ≡ true
-    go true q ih = refl
-    go false q ih = ih q
-
-not-any : (p : List ℕ) (hs : List Held) → find p hs ≡ none → any (same p) (paths hs) ≡ false
-not-any p [] e = refl
-not-any p (k ∷ hs) e = go (same p (k .path)) e (not-any p hs)
-  where
-    go : (b : Bool) → cond b (some k) (find p hs) ≡ none → (find p hs ≡ none → any (same p) (paths hs) ≡ false) → (b || any (same p) (paths hs)) ≡ false
-    go true q ih = let z : _≡_ {A = ℕ} 0 1 = cc in absurd (omega arith)
-    go false q ih = ih q
+-- a path is held exactly if it is found, which is when it serves a load
+found-held : (p : List ℕ) (hs : List Held) (o : Option Held) → find p hs ≡ o → any (same p) (paths hs) ≡ serves false 1 o
+found-held p hs o e = sym (serves-load 1 p hs) ∙ ap (serves false 1) e
 
 -- the tables in use at the start are among those counted
 figures-from : (c : Config) (m : Machine) (xs : List ℕ) (b : Book) → shadowTables (b .held) ≤ (figuresOf c m xs b) .tables
@@ -211,7 +194,7 @@ module _ (s : State) (r : Record) (m : List ℕ) (inv : Inv s r m) where
           let x : any (same path) (paths (b .held)) ≡ true =
           ap (any (same path)) (kept .held) ∙ any-append (same path) (map (keyPath (c .levels)) (newest ks (o .paths .count))) (cond (o .paths .kept) ps [])
           ∙ ap (λ y. any (same path) (map (keyPath (c .levels)) (newest ks (o .paths .count))) || any (same path) (cond y ps [])) q
-          ∙ ap (λ y. any (same path) (map (keyPath (c .levels)) (newest ks (o .paths .count))) || y) (found-any path (s .book .held) h e)
+          ∙ ap (λ y. any (same path) (map (keyPath (c .levels)) (newest ks (o .paths .count))) || y) (found-held path (s .book .held) (some h) e)
           ∙ or-true (any (same path) (map (keyPath (c .levels)) (newest ks (o .paths .count)))) in
           advances path (shadowPrice c mach deep is true (part .count) (granted (t, h .right))) (priced true (granted (t, h .right)) x (g .0)) (o .paths) ks _
           (ap (λ y. foundBy c ht m hold (rootOf r) ks o a deep (cond y (foundOf c m hold a deep) (host.Absent 0))) q
@@ -341,7 +324,7 @@ module _ (s : State) (r : Record) (m : List ℕ) (inv : Inv s r m) where
           go true q (some h) e = found-advances h e q
           go true q none e =
               absent (standing path ps) (ap (λ y. cond y (foundOf c m hold a deep) (host.Absent 0)) q ∙ found.found-none s r m inv a low e)
-              (sym (ap (λ y. standing path (cond y ps [])) q)) (ap (λ y. any (same path) (cond y ps [])) q ∙ not-any path (s .book .held) e)
+              (sym (ap (λ y. standing path (cond y ps [])) q)) (ap (λ y. any (same path) (cond y ps [])) q ∙ found-held path (s .book .held) none e)
 
     load-advances : Advances o k (loadOf c ht m hold (rootOf r) ks o a deep)
     load-advances = go (ltb (c .levels) deep) refl

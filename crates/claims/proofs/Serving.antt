@@ -8,16 +8,13 @@ use Rattle.spec.specs.Answer as say
 use Rattle.spec.specs.Answer.{Line, line}
 use Rattle.spec.specs.Call.{Call, forecast}
 use Rattle.spec.specs.Refusal.{forecastRoom}
-use Rattle.spec.specs.Forecast.{Figures}
-use Rattle.spec.specs.Run.{State, step, run, after, opened, figuresLine}
+use Rattle.spec.specs.Run.{State, step, run, after, opened}
 use Rattle.spec.specs.Serving.{referencesPaid, exitsPaid, allPaid, loads, tablesIn, mostTables, servingFigures}
 use Rattle.spec_laws.proofs.Forecast.{forecast-says}
-use Rattle.words.specs.After.{After}
 use Rattle.record.specs.declared.Record.{Record}
 use Rattle.record.specs.Record.{configOf, configBy}
 use Rattle.record.specs.Open.{refusalOf}
-use Rattle.calls.specs.Calls.{openCall, callOf}
-use Rattle.calls.specs.declared.Reply.{Reply}
+use Rattle.calls.specs.Calls.{callOf}
 use Rattle.claims.specs.Run.{unitRun, tablesRun, runOf, machineRun}
 use Rattle.claims.proofs.Invariant.{Inv, at}
 use Rattle.claims.proofs.Forecasts.{used-is}

@@ -1,7 +1,7 @@
 -- What an address adds to a forecast, whatever the memory holds: at most 35 references, two exits and one path, and never more tables
 -- than the area has.
 -- Assumes nothing.
-use mathlib.Core.Path.{_≡_, refl, sym}
+use mathlib.Core.Path.{_≡_, refl}
 use Prim.Native.Nat.{ℕ, suc, _+_, _-_, _*_, _≤_}
 use native.Mathlib.Nat.{mul-le-mul}
 use native.Mathlib.Omega.{arith}
@@ -26,7 +26,7 @@ use Rattle.walk.specs.Memory.{walkedOf}
 use Rattle.marks.specs.Key.{lowPage, keyAt, depthOf}
 use Rattle.translate.specs.declared.Held.{Held}
 use Rattle.translate.specs.declared.Translated.{Translated}
-use Rattle.translate.specs.Translate.{ReadsMost, pathOf, pathIndexes, exitBy, directOf, servedOf, plainOf}
+use Rattle.translate.specs.Translate.{ReadsMost, pathOf, pathIndexes, directOf, servedOf, plainOf}
 use Rattle.layout.proofs.Laws.{InGuestArea}
 use Rattle.translate.proofs.Fits.{exit-small, levels-most, walk-most, FoundIs, found-is}
 use Rattle.forecast.specs.declared.Sum.{Sum}

@@ -5,10 +5,9 @@ use mathlib.Core.Bool.{Bool, true, false, _&&_, _||_, cond}
 use mathlib.Core.List.{List, [], _∷_, map}
 use Prim.Native.Nat.{ℕ, zero, suc, _+_, _-_, _*_, _/_, _%_, _^_, _<_, _≤_}
 use native.Mathlib.Omega.{arith}
-use borrow.Author.Tests.{eq-eqb, ne-eqb, eqb-true, eqb-false, lt-ltb, le-ltb, ltb-true, ltb-false}
+use borrow.Author.Tests.{ne-eqb, eqb-true, eqb-false, lt-ltb, le-ltb, ltb-true, ltb-false}
 use lib.Dec.{eqb, ltb}
-use lib.Pow.{shr-lt}
-use lib.ListN.{length, take, getD, set}
+use lib.ListN.{length, take, set}
 use lib.Seq.{take-take, length-take-le, getD-set-same, getD-set-other}
 use Rattle.spec.specs.Config.{Config}
 use Rattle.spec.specs.Entry.{pageOf, indexes}
@@ -17,8 +16,9 @@ use Rattle.spec.specs.Plain.{upper}
 use Rattle.spec.specs.Call.{addressIndexes}
 use Rattle.spec_laws.proofs.Indexes.{indexes-length, indexes-above, indexes-same, same-longer, begins-indexes}
 use Rattle.spec_laws.proofs.Added.{any-append, standing, proper-of, unbroken, unbroken-standing}
-use Rattle.marks.specs.Key.{lowPage, keyOf, keyAt}
+use Rattle.marks.specs.Key.{lowPage, keyAt}
 use Rattle.marks.proofs.Pages.{low-small, low-indexes}
+use Rattle.marks.proofs.Reading.{shifted, parts, level-of, rest-of}
 use Rattle.forecast.specs.Forecast.{newest, passes, metFrom}
 
 -- the path that a key stands for, of n levels
@@ -33,31 +33,20 @@ PathKey n k = (k % 8 ≤ n) × (k / 8 < 2 ^ (9 * (n - k % 8)))
 
 module _ (c : Config) (d a : ℕ) (le : d ≤ c .levels) (few : c .levels < 8) where
   depth-of : keyAt (c .levels) d a % 8 ≡ d
-  unfolding keyOf
-  depth-of = omega arith
+  depth-of = level-of c d (lowPage (c .levels) a) (low-small (c .levels) a) (omega arith)
 
-  rest-of : keyAt (c .levels) d a / 8 ≡ lowPage (c .levels) a / 2 ^ (9 * d)
-  unfolding keyOf
-  rest-of = omega arith
+  number-of : keyAt (c .levels) d a / 8 ≡ lowPage (c .levels) a / 2 ^ (9 * d)
+  number-of = rest-of c d (lowPage (c .levels) a) (low-small (c .levels) a) (omega arith)
 
   pub key-path : keyPath (c .levels) (keyAt (c .levels) d a) ≡ upper c d (addressIndexes c a)
   key-path =
-      rw (depth-of, rest-of)
+      rw (depth-of, number-of)
       (indexes-above (c .levels) d (lowPage (c .levels) a) ∙ ap (take (c .levels - d)) (low-indexes c a))
 
   pub path-key : PathKey (c .levels) (keyAt (c .levels) d a)
-  path-key =
-      let s : 9 * (c .levels - d) + 9 * d ≡ 9 * c .levels = omega arith in
-      rw (depth-of, rest-of) (le, shr-lt (9 * (c .levels - d)) (9 * d) (rw s (low-small (c .levels) a)))
+  path-key = rw (depth-of, number-of) (le, shifted (c .levels) d (lowPage (c .levels) a) (low-small (c .levels) a))
 
 -- ---- the same path
-
-parts : (k x : ℕ) → k % 8 ≡ x % 8 → eqb (k / 8) (x / 8) ≡ eqb k x
-parts k x e = go (eqb (k / 8) (x / 8)) refl
-  where
-    go : (t : Bool) → eqb (k / 8) (x / 8) ≡ t → t ≡ eqb k x
-    go true f = sym (eq-eqb k x (omega (arith, e, eqb-true (k / 8) (x / 8) f)))
-    go false f = sym (ne-eqb k x (λ g. eqb-false (k / 8) (x / 8) f (ap (λ (y : ℕ). y / 8) g)))
 
 same-keys : (n k q : ℕ) → PathKey n k → PathKey n q → same (keyPath n k) (keyPath n q) ≡ eqb k q
 same-keys n k q h g = go (eqb (k % 8) (q % 8)) refl
@@ -66,7 +55,7 @@ same-keys n k q h g = go (eqb (k % 8) (q % 8)) refl
     go true e =
         let z : k % 8 ≡ q % 8 = eqb-true (k % 8) (q % 8) e in
         let small : k / 8 < 2 ^ (9 * (n - q % 8)) = rw z at (h .1) in
-        ap (λ (l : ℕ). same (indexes (n - l) (k / 8)) (keyPath n q)) z ∙ indexes-same (n - q % 8) (k / 8) (q / 8) small (g .1) ∙ parts k q z
+        ap (λ (l : ℕ). same (indexes (n - l) (k / 8)) (keyPath n q)) z ∙ indexes-same (n - q % 8) (k / 8) (q / 8) small (g .1) ∙ rw e at (parts k q)
     go false e =
         let z = eqb-false (k % 8) (q % 8) e in
         same-longer (keyPath n k) (keyPath n q) (rw (indexes-length (n - k % 8) (k / 8), indexes-length (n - q % 8) (q / 8)) (λ f. z (omega (arith, f, h .0, g .0))))

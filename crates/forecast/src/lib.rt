@@ -10,7 +10,6 @@ ghost use Rattle.spec.specs.Entry.{frameLimit};
 ghost use Rattle.spec.specs.Prefix.{any};
 ghost use Rattle.words.specs.After.{yields};
 ghost use Rattle.layout.specs.Layout.{LayoutFits, config};
-ghost use Rattle.marks.specs.Key.{keyAt};
 ghost use Rattle.marks.specs.Table.{keys};
 ghost use Rattle.translate.specs.Translate.{HeldFits, ReadsMost};
 ghost use Rattle.forecast.specs.Forecast.{newest, passes, metFrom, filledOf, paid, added, heldAfter, missedOf, keptOf, loadOf, loading, addressOf, start, forecastOf};

@@ -6,7 +6,7 @@ use mathlib.Core.Option.{Option, none, some}
 use Rattle.spec.specs.Config.{Config}
 use Rattle.spec.specs.Machine.{Machine}
 use Rattle.spec.specs.Book.{Book, shadowTables}
-use Rattle.spec.specs.Call.{Call, load}
+use Rattle.spec.specs.Call.{load}
 use Rattle.spec.specs.Count.{Counted, free, bookStep}
 use Rattle.spec.specs.Refusal.{refusal}
 

@@ -1,18 +1,16 @@
 -- How many tables a new path adds: its length less the tables that already stand on its way.
 -- Assumes nothing.
 use mathlib.Core.Path.{_≡_, refl, sym, ap, ap₂, _∙_, subst}
-use mathlib.Core.Logic.{inl, inr}
 use Prim.Native.Nat.{ℕ, zero, suc, _+_, _-_, _≤_, _<_, max}
-use native.Mathlib.Nat.{le-antisymm}
 use native.Mathlib.Omega.{arith}
 use mathlib.Core.Bool.{Bool, true, false, not, _&&_, _||_, cond, or-assoc, and-false}
 use mathlib.Core.List.{List, [], _∷_, _++_}
 use borrow.Author.Tests.{lt-ltb}
-use lib.Dec.{T, eqb, eqb-refl, ltb, leb·suc-suc}
+use lib.Dec.{T, eqb, ltb, leb·suc-suc}
 use lib.ListN.{length, take}
 use Rattle.spec.specs.Prefix.{any, same, begins, propers, consAll, allPropers, distinct, tablesOf}
-use Rattle.spec_laws.proofs.Lists.{same-is, or-cases, is-true, is-false, not-both}
-use Rattle.spec_laws.proofs.Distinct.{In, Once}
+use Rattle.spec_laws.proofs.Lists.{is-false, not-both}
+use Rattle.spec_laws.proofs.Distinct.{Once}
 
 -- how many proper prefixes two paths have in common
 unfoldable pub shared : List ℕ → List ℕ → ℕ
@@ -151,16 +149,6 @@ pub tables-alone : (p : List ℕ) → tablesOf (p ∷ []) ≡ length p
 unfolding standing
 tables-alone p = tables-added p [] ∙ omega arith
 
--- a path of no index has no table
-pub tables-nil : (ps : List (List ℕ)) → tablesOf ([] ∷ ps) ≡ tablesOf ps
-tables-nil ps = refl
-
--- so no prefix stands because of it
-pub standing-nil : (p : List ℕ) (ps : List (List ℕ)) → standing p ([] ∷ ps) ≡ standing p ps
-unfolding standing shared
-standing-nil [] ps = omega arith
-standing-nil (x ∷ p) ps = omega arith
-
 -- ---- standing, by parts and by bounds
 
 pub standing-append : (p : List ℕ) (xs ys : List (List ℕ)) → standing p (xs ++ ys) ≡ max (standing p xs) (standing p ys)
@@ -183,23 +171,6 @@ unfolding standing
 standing-most p [] = omega arith
 standing-most p (q ∷ ps) = let a = shared-most p q in let b = standing-most p ps in omega arith
 
-shared-self : (p : List ℕ) → shared p p ≡ length p
-unfolding shared
-shared-self [] = refl
-shared-self (x ∷ p) = ap (λ b. suc (cond b (shared p p) 0)) (is-true (eqb x x) (eqb-refl x)) ∙ ap suc (shared-self p)
-
-shared-stands : (p q : List ℕ) (ps : List (List ℕ)) → In q ps → shared p q ≤ standing p ps
-unfolding standing
-shared-stands p q [] h = absurd h
-shared-stands p q (x ∷ ps) h = elim (or-cases (same q x) (any (same q) ps) h) [
-  | inl a ↦ let e : shared p q ≡ shared p x = ap (shared p) (same-is q x a) in omega arith
-  | inr a ↦ let l = shared-stands p q ps a in omega arith
-]
-
--- a path that is held has all its tables
-pub standing-held : (p : List ℕ) (ps : List (List ℕ)) → In p ps → standing p ps ≡ length p
-standing-held p ps h = le-antisymm (standing-most p ps) (subst (λ n. n ≤ standing p ps) (shared-self p) (shared-stands p p ps h))
-
 -- ---- standing, by the prefixes of the path that have a table
 
 -- how many numbers from l on, one after the other and at most k, have the property
@@ -208,7 +179,7 @@ unbroken f l zero = 0
 unbroken f l (suc k) = cond (f l) (suc (unbroken f (suc l) k)) 0
 
 -- tests that agree on them give the same number
-pub unbroken-same : (f g : ℕ → Bool) (l k : ℕ) → ((j : ℕ) → l ≤ j → j < l + k → f j ≡ g j) → unbroken f l k ≡ unbroken g l k
+unbroken-same : (f g : ℕ → Bool) (l k : ℕ) → ((j : ℕ) → l ≤ j → j < l + k → f j ≡ g j) → unbroken f l k ≡ unbroken g l k
 unfolding unbroken
 unbroken-same f g l zero h = refl
 unbroken-same f g l (suc k) h =

@@ -1,28 +1,26 @@
 -- Document 02, 2): a forecast changes nothing, and its figures are those of really serving its list.
 -- Assumes nothing.
 use mathlib.Core.Path.{_≡_, refl, sym, ap, ap₂, _∙_}
-use Prim.Native.Nat.{ℕ, _+_, max, _≤_, _<_}
-use native.Mathlib.Omega.{arith}
+use Prim.Native.Nat.{ℕ, _+_, max, _≤_}
 use mathlib.Core.Bool.{false, cond}
 use mathlib.Core.List.{List, [], _∷_}
 use mathlib.Core.Option.{Option, none, some}
-use lib.Dec.{leb, le→leb, leb→le}
+use lib.Dec.{leb, le→leb}
 use lib.ListN.{length}
 use Rattle.spec.specs.declared.Fault.{Fault}
-use Rattle.spec.specs.Answer as say
 use Rattle.spec.specs.Answer.{Line}
 use Rattle.spec.specs.Config.{Config}
 use Rattle.spec.specs.Entry.{wordOf}
 use Rattle.spec.specs.Walk.{Result, granted, failed}
 use Rattle.spec.specs.Plain.{Place}
 use Rattle.spec.specs.Machine.{Machine}
-use Rattle.spec.specs.Call.{Call, load, forecast, plain, access, machineStep}
+use Rattle.spec.specs.Call.{load, forecast, plain, access, machineStep}
 use Rattle.spec.specs.Count.{Counted, bookStep}
 use Rattle.spec.specs.Refusal.{forecastRoom, tests, refusal}
 use Rattle.spec.specs.Forecast.{Figures, served, servedBy, plus, figuresOf}
-use Rattle.spec.specs.Run.{State, lineOf, figuresLine, answered, step, run, after, opened}
+use Rattle.spec.specs.Run.{State, lineOf, figuresLine, answered, step, run}
 use Rattle.spec.specs.Serving.{referencesPaid, exitsPaid, tablesIn, servingFigures}
-use Rattle.spec_laws.proofs.Lists.{is-true, is-false}
+use Rattle.spec_laws.proofs.Lists.{is-true}
 
 -- refused or not
 pub forecast-changes-nothing : (xs : List ℕ) (s : State) → (step (forecast xs) s) .1 ≡ s
@@ -97,20 +95,3 @@ unfolding step refusal tests
 forecast-says xs s l =
     ap (λ b. (answered (forecast xs) s (cond b none (some 14))) .0) (is-true (leb (length xs) forecastRoom) (le→leb (length xs) forecastRoom l))
     ∙ ap figuresLine (forecast-serves xs s)
-
--- more: 14, whatever they are
-pub forecast-refused : (xs : List ℕ) (s : State) → forecastRoom < length xs → (step (forecast xs) s) .0 ≡ say.no 14
-unfolding step refusal tests
-forecast-refused xs s l =
-    ap (λ b. (answered (forecast xs) s (cond b none (some 14))) .0)
-    (is-false (leb (length xs) forecastRoom) (λ h. let u = leb→le (length xs) forecastRoom h in omega arith))
-
--- in any run a forecast says what its loads would pay right after it
-pub forecast-in-run : (c : Config) (memory : List ℕ) (ys : List Call) (xs : List ℕ) → length xs ≤ forecastRoom
-    → let s = after ys (opened c memory) in
-    let o = step (forecast xs) s in
-    (o .0 ≡ figuresLine (servingFigures xs (o .1))) × (o .1 ≡ s)
-forecast-in-run c memory ys xs l =
-    let s = after ys (opened c memory) in
-    let e = forecast-changes-nothing xs s in
-    (forecast-says xs s l ∙ ap (λ t. figuresLine (servingFigures xs t)) (sym e), e)

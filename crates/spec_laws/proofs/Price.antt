@@ -1,12 +1,11 @@
 -- What a load costs, by whether its path is held, and the paths that are held after it. Nothing else of the book counts but its marks.
 -- Assumes nothing.
-use mathlib.Core.Path.{_≡_, refl, sym, ap, _∙_, subst}
+use mathlib.Core.Path.{_≡_, refl, subst}
 use Prim.Native.Nat.{ℕ, zero, suc, _+_, _-_}
 use mathlib.Core.Bool.{Bool, true, false, not, _||_, cond}
 use mathlib.Core.List.{List, [], _∷_}
 use mathlib.Core.Option.{some}
 use lib.Dec.{leb}
-use lib.ListN.{length}
 use Rattle.spec.specs.declared.Fault.{Fault}
 use Rattle.spec.specs.Config.{Config}
 use Rattle.spec.specs.Prefix.{same, any, tablesOf}
@@ -16,7 +15,6 @@ use Rattle.spec.specs.Machine.{Machine, world}
 use Rattle.spec.specs.Book.{Held, Book, find, paths, fill, shadowTables}
 use Rattle.spec.specs.Call.{addressIndexes, plain}
 use Rattle.spec.specs.Count.{Counted, one, hostExit, serves, heldBy, shadowed, unshadowed, request}
-use Rattle.spec_laws.proofs.Added.{standing, tables-added}
 
 -- ---- the paths that are held after a fill
 
@@ -30,11 +28,6 @@ fill-paths c h hs = go (leb (shadowTables (h ∷ hs)) (c .shadows))
     go : (b : Bool) → paths (cond b (h ∷ hs) (h ∷ [])) ≡ cond b (h .path ∷ paths hs) (h .path ∷ [])
     go true = refl
     go false = refl
-
--- whoever counts the tables as they are added comes to the same
-pub filled-added : (c : Config) (p : List ℕ) (ps : List (List ℕ)) (n : ℕ) → n ≡ tablesOf ps + (length p - standing p ps)
-    → filled c p ps ≡ cond (leb n (c .shadows)) (p ∷ ps) (p ∷ [])
-filled-added c p ps n e = ap (λ k. cond (leb k (c .shadows)) (p ∷ ps) (p ∷ [])) (tables-added p ps ∙ sym e)
 
 -- ---- the price of a load
 

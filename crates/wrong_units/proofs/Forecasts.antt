@@ -16,7 +16,7 @@ use Rattle.wrong_units.specs.Unit.{Calls, afterBy, specified, Demand-3, 
 use Rattle.wrong_units.specs.Wrong.{ourStep, ourEnd, listWith, forecastWith, eachAlone, forgetsOwnOnly, tablesAtEnd, endsAtFour, serveAll, servesForReal}
 use Rattle.wrong_units.proofs.Computing.{calling}
 use Rattle.wrong_units.proofs.Mapped.{memory, firstRecord}
-use Rattle.wrong_units.proofs.Filled.{mappedWords, other-maps, marked, marks-set, heldRecord, heldWords, fills}
+use Rattle.wrong_units.proofs.Filled.{mappedWords, other-maps, marks-set, heldRecord, heldWords, fills}
 use Rattle.wrong_units.proofs.Refute.{Comes, refuted, begin, begins-at, hold, holds-at}
 
 -- where the frames are mapped, and where a path is held too

@@ -16,7 +16,7 @@ use Rattle.pool.specs.declared.Way.the-variants.{To, Not}
 use Rattle.pool.specs.declared.Went.{Went}
 use Rattle.pool.specs.Header.{entryAtOf, putEntryOf, headerOf, insideOf}
 use Rattle.pool.specs.Pool.{link, followOf, end, noneOf, withTop}
-use Rattle.area.specs.Tree.{newTableOf, enterOf, downOf, placeOf, insertOf}
+use Rattle.area.specs.Tree.{enterOf, downOf, placeOf, insertOf}
 use Rattle.layout.specs.Layout.{page}
 use Rattle.host.specs.Map.{hostArea}
 use Rattle.marks.specs.Table as marks

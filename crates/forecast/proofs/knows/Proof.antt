@@ -1,8 +1,9 @@
+-- The loop comes down over the places: none from `left` on holds the key, so any does exactly if one of the first `left` does.
 use mathlib.Core.Path.{_≡_, refl}
 use Prim.Native.Nat.{_≤_}
 use native.Mathlib.Omega.{arith}
-use lib.Dec.{eqb}
 use borrow.Author.Tests.{eq-eqb, ne-eqb}
+use lib.Dec.{eqb}
 use Rattle.spec.specs.Prefix.{any}
 use Rattle.forecast.specs.Forecast.{newest}
 use Rattle.forecast.proofs.Laws.{any-step, any-none}
@@ -30,21 +31,25 @@ element-copy-out-if1 c = search needs
 
 returns : tie.Need-returns Inv-loop μ-loop
 returns c =
+    let loop-test = c .before .before .loop-test in
     let loop = c .before .before .before .loop in
     let args = c .before .before .before .before .args in
-    rw (any-step (eqb (args .key)) (args .room .now) (loop .left) (c .before .before .loop-test .taken), eq-eqb _ _ (c .if1 .taken)) at (loop .inv .1)
+    rw (any-step (eqb (args .key)) (args .room .now) (loop .left) (loop-test .taken), eq-eqb _ _ (c .if1 .taken)) at (loop .inv .1)
 
 loop-less : tie.Need-loop-less Inv-loop μ-loop
 loop-less c = search needs
 
 loop-again : tie.Need-loop-again Inv-loop μ-loop
 loop-again c =
+    let loop-test = c .before .before .loop-test in
     let loop = c .before .before .before .loop in
     let args = c .before .before .before .before .args in
-    (omega (arith, loop .inv .0), rw (any-step (eqb (args .key)) (args .room .now) (loop .left) (c .before .before .loop-test .taken), ne-eqb _ _ (c .if1 .left)) at (loop .inv .1))
+    (omega (arith, loop .inv .0), rw (any-step (eqb (args .key)) (args .room .now) (loop .left) (loop-test .taken), ne-eqb _ _ (c .if1 .left)) at (loop .inv .1))
 
 returns-2 : tie.Need-returns-2 Inv-loop μ-loop
-returns-2 c = let z : c .before .loop .left ≡ 0 = omega arith in rw (z, any-none) at (c .before .loop .inv .1)
+returns-2 c =
+    let loop = c .before .loop in
+    let z : loop .left ≡ 0 = omega arith in rw (z, any-none) at (loop .inv .1)
 
 pub knows-spec : {M : Type 1} → statement M
 knows-spec =

@@ -1,7 +1,8 @@
-use borrow.Author.Tests.{not-true, not-false}
+-- The loop goes down the levels: n tables stand above, and those that stand below are still to be counted.
 use mathlib.Core.Path.{_≡_}
 use Prim.Native.Nat.{_+_, _≤_}
 use native.Mathlib.Omega.{arith}
+use borrow.Author.Tests.{not-true, not-false}
 use Rattle.forecast.specs.Forecast.{newest, metFrom}
 use Rattle.forecast.proofs.Laws.{met-step, met-none}
 use borrow.Author.Needs.{needs}
@@ -28,10 +29,13 @@ stands-requires c κs = search needs
 
 returns : tie.Need-returns Inv-loop μ-loop
 returns c =
+    let loop-test = c .before .before .before .loop-test in
+    let key-of = c .before .before .key-of in
+    let stands = c .before .stands in
     let loop = c .before .before .before .before .loop in
     let args = c .before .before .before .before .before .args in
-    let step = met-step (newest (args .room .now) (args .count)) (args .levels) (args .address .0) (args .depth) (loop .left) (c .before .before .before .loop-test .taken) in
-    let none = rw (← c .before .before .key-of .ensures, ← c .before .stands .ensures, not-true (c .before .stands .result) (c .if1 .taken)) at step in
+    let step = met-step (newest (args .room .now) (args .count)) (args .levels) (args .address .0) (args .depth) (loop .left) (loop-test .taken) in
+    let none = rw (← key-of .ensures, ← stands .ensures, not-true (stands .result) (c .if1 .taken)) at step in
     omega (arith, none, loop .inv .2)
 
 add-n : tie.Need-add-n Inv-loop μ-loop
@@ -45,17 +49,22 @@ loop-less c = search needs
 
 loop-again : tie.Need-loop-again Inv-loop μ-loop
 loop-again c =
+    let loop-test = c .before .before .before .loop-test in
+    let key-of = c .before .before .key-of in
+    let stands = c .before .stands in
     let loop = c .before .before .before .before .loop in
     let args = c .before .before .before .before .before .args in
-    let step = met-step (newest (args .room .now) (args .count)) (args .levels) (args .address .0) (args .depth) (loop .left) (c .before .before .before .loop-test .taken) in
-    let one = rw (← c .before .before .key-of .ensures, ← c .before .stands .ensures, not-false (c .before .stands .result) (c .if1 .left)) at step in
-    (omega (arith, loop .inv .0), omega (arith, loop .inv .1, c .before .before .before .loop-test .taken), omega (arith, one, loop .inv .2))
+    let step = met-step (newest (args .room .now) (args .count)) (args .levels) (args .address .0) (args .depth) (loop .left) (loop-test .taken) in
+    let one = rw (← key-of .ensures, ← stands .ensures, not-false (stands .result) (c .if1 .left)) at step in
+    (omega (arith, loop .inv .0), omega (arith, loop .inv .1, loop-test .taken), omega (arith, one, loop .inv .2))
 
 returns-2 : tie.Need-returns-2 Inv-loop μ-loop
 returns-2 c =
-    let z : c .before .loop .left ≡ 0 = omega arith in
-    let none = rw z at (c .before .loop .inv .2) in
-    omega (arith, none, met-none (newest (c .before .before .args .room .now) (c .before .before .args .count)) (c .before .before .args .levels) (c .before .before .args .address .0) (c .before .before .args .depth))
+    let args = c .before .before .args in
+    let loop = c .before .loop in
+    let z : loop .left ≡ 0 = omega arith in
+    let none = rw z at (loop .inv .2) in
+    omega (arith, none, met-none (newest (args .room .now) (args .count)) (args .levels) (args .address .0) (args .depth))
 
 pub met-spec : {M : Type 1} → statement M
 met-spec =

@@ -1,12 +1,13 @@
+-- A walk comes to a page of the guest area after 35 words at most; the rest is what the calls promise.
 use mathlib.Core.Path.{_≡_, sym, ap}
 use native.Mathlib.Omega.{arith}
 use mathlib.Core.Bool.{false, not}
 use Rattle.spec.specs.Plain.{walk}
 use Rattle.layout.specs.Layout.{config}
-use Rattle.walk.specs.declared.Trail.{Trail}
 use Rattle.walk.specs.Memory.{walkedOf, trailFrom}
-use Rattle.translate.specs.Translate.{pathIndexes}
+use Rattle.walk.specs.declared.Trail.{Trail}
 use Rattle.translate.proofs.Fits.{walk-in}
+use Rattle.translate.specs.Translate.{pathIndexes}
 use Rattle.forecast.specs.Forecast.{missedOf}
 use Rattle.forecast.proofs.Fits.{served-most, served-exits, path-most, one-most}
 use borrow.Author.Needs.{needs}
@@ -19,69 +20,66 @@ came : (c : tie.After-walk-root) →
     walkedOf (config (args .space .layout)) (args .space .top) (args .mem .now) 0 (walk (config (args .space .layout)) false (args .root .0) (pathIndexes (config (args .space .layout)) (args .depth) (args .address .0)))
     ≡ c .walk-root .result .walked
 unfolding trailFrom
-came c = rw (c .before .path-of .ensures) at (sym (ap (λ (t : Trail). t .walked) (c .walk-root .ensures)))
-
-key-of-requires : tie.Need-key-of-requires
-key-of-requires c κs = search needs
-
-knows-requires : tie.Need-knows-requires
-knows-requires c κs = search needs
-
-exit-unless-requires : tie.Need-exit-unless-requires
-exit-unless-requires c κs = search needs
-
-path-of-requires : tie.Need-path-of-requires
-path-of-requires c κs = search needs
-
-sub-walk-root : tie.Need-sub-walk-root
-sub-walk-root c = search needs
-
-walk-root-requires : tie.Need-walk-root-requires
-walk-root-requires c κs = search needs
-
-enum-known-walked : tie.Need-enum-known-walked
-enum-known-walked c = search needs
-
-held-after-requires : tie.Need-held-after-requires
-held-after-requires c κs = search needs
-
-load-at-requires : tie.Need-load-at-requires
-load-at-requires c κs = search needs
+came c =
+    let path-of = c .before .path-of in
+    rw (path-of .ensures) at (sym (ap (λ (t : Trail). t .walked) (c .walk-root .ensures)))
 
 serve-requires : tie.Need-serve-requires
 serve-requires c κs =
+    let pre = c .before .before .before .before .before .before .before .before .before .before .before .before .before .before .before .pre in
+    let knows = c .before .before .before .before .before .before .before .before .before .knows in
+    let exit-unless = c .before .before .before .before .before .before .before .before .exit-unless in
+    let walked = c .before .before .before .before .walked in
     let args = c .before .before .before .before .before .before .before .before .before .before .before .before .before .before .before .args in
-    let at = rw (came (c .before .before .before .before .before .before), c .before .before .before .before .walked .given .1) at (walk-in (config (args .space .layout)) (args .space .top) (args .mem .now) false 0 (args .root .0) (pathIndexes (config (args .space .layout)) (args .depth) (args .address .0))) in
-    (c .before .before .before .before .before .before .before .before .before .before .before .before .before .before .before .pre .0, rw (c .load-at .ensures) (c .before .before .before .before .before .before .before .before .before .before .before .before .before .before .before .pre .1), omega (arith, at .1, c .before .before .before .before .before .before .before .before .before .before .before .before .before .before .before .pre .0), omega (arith, c .before .before .before .before .before .before .before .before .exit-unless .ensures, one-most (not (c .before .before .before .before .before .before .before .before .before .knows .result))))
+    let at = rw (came (c .before .before .before .before .before .before), walked .given .1) at (walk-in (config (args .space .layout)) (args .space .top) (args .mem .now) false 0 (args .root .0) (pathIndexes (config (args .space .layout)) (args .depth) (args .address .0))) in
+    (pre .0, rw (c .load-at .ensures) (pre .1), omega (arith, at .1, pre .0), omega (arith, exit-unless .ensures, one-most (not (knows .result))))
 
 pay-requires : tie.Need-pay-requires
 pay-requires c κs =
+    let pre = c .before .before .before .before .before .before .before .before .before .before .before .before .before .before .before .before .pre in
+    let knows = c .before .before .before .before .before .before .before .before .before .before .knows in
+    let exit-unless = c .before .before .before .before .before .before .before .before .before .exit-unless in
+    let load-at = c .before .load-at in
     let args = c .before .before .before .before .before .before .before .before .before .before .before .before .before .before .before .before .args in
     let k = config (args .space .layout) in (
-      (omega (arith, c .before .before .before .before .before .before .before .before .before .before .before .before .before .before .before .before .pre .2 .0), omega (arith, c .before .before .before .before .before .before .before .before .before .before .before .before .before .before .before .before .pre .2 .0)),
-      rw (c .serve .ensures) (served-exits k (args .space .top) (args .mem .now) (c .before .before .before .before .before .before .before .before .before .before .before .before .before .before .before .before .pre .0 .0) (args .held) (c .before .load-at .result .store) (c .before .load-at .result .address .0) (c .before .load-at .result .depth) _ _ (c .before .before .before .before .before .before .before .before .before .exit-unless .result) (omega (arith, c .before .before .before .before .before .before .before .before .before .exit-unless .ensures, one-most (not (c .before .before .before .before .before .before .before .before .before .before .knows .result))))),
-      rw (c .serve .ensures) (served-most k (args .space .top) (args .mem .now) (c .before .before .before .before .before .before .before .before .before .before .before .before .before .before .before .before .pre .0 .0) (args .held) (c .before .load-at .result .store) (c .before .load-at .result .address .0) (c .before .load-at .result .depth) _ _ (c .before .before .before .before .before .before .before .before .before .exit-unless .result) (rw (c .before .load-at .ensures) (c .before .before .before .before .before .before .before .before .before .before .before .before .before .before .before .before .pre .1))),
+      (omega (arith, pre .2 .0), omega (arith, pre .2 .0)),
+      rw (c .serve .ensures) (served-exits k (args .space .top) (args .mem .now) (pre .0 .0) (args .held) (load-at .result .store) (load-at .result .address .0) (load-at .result .depth) _ _ (exit-unless .result) (omega (arith, exit-unless .ensures, one-most (not (knows .result))))),
+      rw (c .serve .ensures) (served-most k (args .space .top) (args .mem .now) (pre .0 .0) (args .held) (load-at .result .store) (load-at .result .address .0) (load-at .result .depth) _ _ (exit-unless .result) (rw (load-at .ensures) (pre .1))),
     )
-
-enum-known-walked-2 : tie.Need-enum-known-walked-2
-enum-known-walked-2 c = search needs
 
 added-to-requires : tie.Need-added-to-requires
 added-to-requires c κs =
+    let pre = c .before .before .before .before .before .before .before .before .before .before .before .before .pre in
+    let knows = c .before .before .before .before .before .before .knows in
+    let exit-unless = c .before .before .before .before .before .exit-unless in
+    let walked2 = c .before .walked2 in
     let args = c .before .before .before .before .before .before .before .before .before .before .before .before .args in
-    let at = rw (came (c .before .before .before), c .before .walked2 .given .1) at (path-most (config (args .space .layout)) (args .space .top) (args .mem .now) (c .before .before .before .before .before .before .before .before .before .before .before .before .pre .0 .0) false (args .root .0) (args .address .0) (args .depth) (c .before .before .before .before .before .before .before .before .before .before .before .before .pre .1)) in
-    ((omega (arith, c .before .before .before .before .before .before .before .before .before .before .before .before .pre .2 .0), omega (arith, c .before .before .before .before .before .before .before .before .before .before .before .before .pre .2 .0)), at, omega (arith, c .before .before .before .before .before .exit-unless .ensures, one-most (not (c .before .before .before .before .before .before .knows .result))))
+    let at = rw (came (c .before .before .before), walked2 .given .1) at (path-most (config (args .space .layout)) (args .space .top) (args .mem .now) (pre .0 .0) false (args .root .0) (args .address .0) (args .depth) (pre .1)) in
+    ((omega (arith, pre .2 .0), omega (arith, pre .2 .0)), at, omega (arith, exit-unless .ensures, one-most (not (knows .result))))
 
 enum-told : tie.Need-enum-told
 enum-told c = search needs
 
 returns : tie.Need-returns
 unfolding missedOf
-returns c = rw (← c .before .before .before .before .before .before .before .before .before .before .before .before .key-of .ensures, ← c .before .before .before .before .before .before .before .before .before .before .before .knows .ensures, came (c .before .before .before .before .before .before .before .before), c .before .before .before .before .before .before .walked .given .1, ← c .before .before .before .held-after .ensures, ← c .before .before .before .before .before .before .before .before .before .before .exit-unless .ensures, c .pay .ensures, c .before .serve .ensures, c .before .before .load-at .ensures)
+returns c =
+    let key-of = c .before .before .before .before .before .before .before .before .before .before .before .before .key-of in
+    let knows = c .before .before .before .before .before .before .before .before .before .before .before .knows in
+    let exit-unless = c .before .before .before .before .before .before .before .before .before .before .exit-unless in
+    let walked = c .before .before .before .before .before .before .walked in
+    let held-after = c .before .before .before .held-after in
+    let load-at = c .before .before .load-at in
+    let serve = c .before .serve in
+    rw (← key-of .ensures, ← knows .ensures, came (c .before .before .before .before .before .before .before .before), walked .given .1, ← held-after .ensures, ← exit-unless .ensures, c .pay .ensures, serve .ensures, load-at .ensures)
 
 returns-2 : tie.Need-returns-2
 unfolding missedOf
-returns-2 c = rw (← c .before .before .before .before .before .before .before .before .key-of .ensures, ← c .before .before .before .before .before .before .before .knows .ensures, came (c .before .before .before .before), c .before .before .walked2 .given .1, ← c .before .before .before .before .before .before .exit-unless .ensures, c .added-to .ensures)
+returns-2 c =
+    let key-of = c .before .before .before .before .before .before .before .before .key-of in
+    let knows = c .before .before .before .before .before .before .before .knows in
+    let exit-unless = c .before .before .before .before .before .before .exit-unless in
+    let walked2 = c .before .before .walked2 in
+    rw (← key-of .ensures, ← knows .ensures, came (c .before .before .before .before), walked2 .given .1, ← exit-unless .ensures, c .added-to .ensures)
 
 returns-3 : tie.Need-returns-3
 unfolding missedOf
@@ -91,18 +89,18 @@ pub missed-spec : {M : Type 1} → statement M
 missed-spec =
     tie.close
     (tie.spec
-    key-of-requires
-    knows-requires
-    exit-unless-requires
-    path-of-requires
-    sub-walk-root
-    walk-root-requires
-    enum-known-walked
-    held-after-requires
-    load-at-requires
+    (λ c κs. search needs)
+    (λ c κs. search needs)
+    (λ c κs. search needs)
+    (λ c κs. search needs)
+    (λ c. search needs)
+    (λ c κs. search needs)
+    (λ c. search needs)
+    (λ c κs. search needs)
+    (λ c κs. search needs)
     serve-requires
     pay-requires
-    enum-known-walked-2
+    (λ c. search needs)
     added-to-requires
     enum-told
     returns

@@ -1,17 +1,9 @@
+-- A path does not pass through a table at its end or below it; else the indexes above the level are compared.
 use borrow.Author.Tests.{lt-ltb, le-ltb}
 use Rattle.forecast.specs.Forecast.{passes}
 use borrow.Author.Needs.{needs}
 use Rattle.forecast.proofs.passes_by.Statement.{statement}
 use Rattle.forecast.proofs.passes_by.Tie as tie
-
-sub-result : tie.Need-sub-result
-sub-result c = search needs
-
-mul-result : tie.Need-mul-result
-mul-result c = search needs
-
-shr-result : tie.Need-shr-result
-shr-result c = search needs
 
 returns : tie.Need-returns
 unfolding passes
@@ -22,4 +14,4 @@ unfolding passes
 returns-2 c = rw (le-ltb _ _ (c .if1 .left))
 
 pub passes-by-spec : {M : Type 1} → statement M
-passes-by-spec = tie.close (tie.spec sub-result mul-result shr-result returns returns-2)
+passes-by-spec = tie.close (tie.spec (λ c. search needs) (λ c. search needs) (λ c. search needs) returns returns-2)

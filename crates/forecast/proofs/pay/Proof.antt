@@ -1,30 +1,35 @@
+-- A word and a fault are paid for alike.
 use Rattle.forecast.specs.Forecast.{paid}
 use borrow.Author.Needs.{needs}
 use Rattle.forecast.proofs.pay.Statement.{statement}
 use Rattle.forecast.proofs.pay.Tie as tie
 
-enum-known-walked : tie.Need-enum-known-walked
-enum-known-walked c = search needs
-
 added-to-requires : tie.Need-added-to-requires
-added-to-requires c κs = (c .before .before .before .pre .0, rw (c .before .walked .given .1) at (c .before .before .before .pre .2), c .before .before .before .pre .1)
-
-enum-known-walked-2 : tie.Need-enum-known-walked-2
-enum-known-walked-2 c = search needs
+added-to-requires c κs =
+    let pre = c .before .before .before .pre in
+    let walked = c .before .walked in
+    (pre .0, rw (walked .given .1) at (pre .2), pre .1)
 
 added-to-requires-2 : tie.Need-added-to-requires-2
-added-to-requires-2 c κs = (c .before .before .before .pre .0, rw (c .before .walked2 .given .1) at (c .before .before .before .pre .2), c .before .before .before .pre .1)
+added-to-requires-2 c κs =
+    let pre = c .before .before .before .pre in
+    let walked2 = c .before .walked2 in
+    (pre .0, rw (walked2 .given .1) at (pre .2), pre .1)
 
 enum-told : tie.Need-enum-told
 enum-told c = search needs
 
 returns : tie.Need-returns
 unfolding paid
-returns c = rw (c .before .before .walked .given .1, c .added-to .ensures)
+returns c =
+    let walked = c .before .before .walked in
+    rw (walked .given .1, c .added-to .ensures)
 
 returns-2 : tie.Need-returns-2
 unfolding paid
-returns-2 c = rw (c .before .before .walked2 .given .1, c .added-to2 .ensures)
+returns-2 c =
+    let walked2 = c .before .before .walked2 in
+    rw (walked2 .given .1, c .added-to2 .ensures)
 
 returns-3 : tie.Need-returns-3
 unfolding paid
@@ -34,9 +39,9 @@ pub pay-spec : {M : Type 1} → statement M
 pay-spec =
     tie.close
     (tie.spec
-    enum-known-walked
+    (λ c. search needs)
     added-to-requires
-    enum-known-walked-2
+    (λ c. search needs)
     added-to-requires-2
     enum-told
     returns

@@ -1,3 +1,4 @@
+-- The loop comes down over the places, as that of `knows` does.
 use mathlib.Core.Path.{_≡_, refl}
 use Prim.Native.Nat.{_≤_}
 use native.Mathlib.Omega.{arith}
@@ -31,21 +32,27 @@ passes-by-requires c κs = search needs
 
 returns : tie.Need-returns Inv-loop μ-loop
 returns c =
+    let loop-test = c .before .before .before .loop-test in
+    let passes-by = c .before .passes-by in
     let loop = c .before .before .before .before .loop in
     let args = c .before .before .before .before .before .args in
-    rw (any-step (passes (args .level) (args .indexes)) (args .room .now) (loop .left) (c .before .before .before .loop-test .taken), ← c .before .passes-by .ensures, c .if1 .taken) at (loop .inv .1)
+    rw (any-step (passes (args .level) (args .indexes)) (args .room .now) (loop .left) (loop-test .taken), ← passes-by .ensures, c .if1 .taken) at (loop .inv .1)
 
 loop-less : tie.Need-loop-less Inv-loop μ-loop
 loop-less c = search needs
 
 loop-again : tie.Need-loop-again Inv-loop μ-loop
 loop-again c =
+    let loop-test = c .before .before .before .loop-test in
+    let passes-by = c .before .passes-by in
     let loop = c .before .before .before .before .loop in
     let args = c .before .before .before .before .before .args in
-    (omega (arith, loop .inv .0), rw (any-step (passes (args .level) (args .indexes)) (args .room .now) (loop .left) (c .before .before .before .loop-test .taken), ← c .before .passes-by .ensures, c .if1 .left) at (loop .inv .1))
+    (omega (arith, loop .inv .0), rw (any-step (passes (args .level) (args .indexes)) (args .room .now) (loop .left) (loop-test .taken), ← passes-by .ensures, c .if1 .left) at (loop .inv .1))
 
 returns-2 : tie.Need-returns-2 Inv-loop μ-loop
-returns-2 c = let z : c .before .loop .left ≡ 0 = omega arith in rw (z, any-none) at (c .before .loop .inv .1)
+returns-2 c =
+    let loop = c .before .loop in
+    let z : loop .left ≡ 0 = omega arith in rw (z, any-none) at (loop .inv .1)
 
 pub stands-spec : {M : Type 1} → statement M
 stands-spec =
