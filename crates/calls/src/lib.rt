@@ -195,7 +195,7 @@ pub fn forecast_at(head: Head, place: &[u64; 64], mem: &[u64], addresses: &[u64]
     if !head.fits(place, mem.len()) {
         return Answer::Refused(3);
     }
-    if 256 < addresses.len() {
+    if forecast::MOST < addresses.len() {
         return Answer::Refused(14);
     }
     forecast::forecast(

@@ -98,7 +98,7 @@ module _ (s : State) (r : Record) (m : List ℕ) (inv : Inv s r m) where
 
   -- the room and the shadow tables, while they are kept, have just the paths qs
   record Keeps (ks : List ℕ) (p : Paths) (qs : List (List ℕ)) : Type 0 where
-    pub long : length ks ≡ 256
+    pub long : length ks ≡ forecastRoom
     pub keys : All (PathKey (c .levels)) (newest ks (p .count))
     pub held : qs ≡ map (keyPath (c .levels)) (newest ks (p .count)) ++ cond (p .kept) ps []
     pub used : p .used ≡ tablesOf qs
@@ -112,7 +112,7 @@ module _ (s : State) (r : Record) (m : List ℕ) (inv : Inv s r m) where
     pub few : next .count ≤ suc (o .paths .count)
     pub marks : k .book .marks ≡ s .book .marks
 
-  module _ (b : Book) (ks : List ℕ) (o : Outlook) (kept : Keeps ks (o .paths) (paths (b .held))) (same-marks : b .marks ≡ s .book .marks) (free : o .paths .count < 256) (a : ℕ) where
+  module _ (b : Book) (ks : List ℕ) (o : Outlook) (kept : Keeps ks (o .paths) (paths (b .held))) (same-marks : b .marks ≡ s .book .marks) (free : o .paths .count < forecastRoom) (a : ℕ) where
     abbrev deep : ℕ
     deep = found.deep s r m inv a
 
@@ -350,7 +350,7 @@ module _ (s : State) (r : Record) (m : List ℕ) (inv : Inv s r m) where
   -- from this outlook on, which stands for the book b, the list comes to the figures of serving it on b
   abbrev ComesTo : List ℕ → List ℕ → Outlook → Book → Type 0
   ComesTo xs ks o b =
-      Keeps ks (o .paths) (paths (b .held)) → b .marks ≡ s .book .marks → o .paths .count + length xs ≤ 256 → o .paths .used ≤ o .sum .tables
+      Keeps ks (o .paths) (paths (b .held)) → b .marks ≡ s .book .marks → o .paths .count + length xs ≤ forecastRoom → o .paths .used ≤ o .sum .tables
       → let f = figuresOf c mach xs b in
       listOf c ht m hold (rootOf r) (keysOf r) ks o xs ≡ answer.Figures (o .sum .references + f .references) (o .sum .exits + f .exits) (max (o .sum .tables) (f .tables))
 
@@ -410,10 +410,10 @@ module _ (s : State) (r : Record) (m : List ℕ) (inv : Inv s r m) where
   used-is = tables-used (inv .shadow) (found.held-entries s r m inv) ∙ ap distinct (found.propers-longer (s .book .held))
 
   -- before the first address: no key in the room, and the shadow tables have the book's paths
-  begins-so : Keeps (replicate 256 0) (record { used = r .pools .shadow .used; kept = true; count = 0 }) ps
+  begins-so : Keeps (replicate forecastRoom 0) (record { used = r .pools .shadow .used; kept = true; count = 0 }) ps
   unfolding newest
   begins-so = record {
-    long = length-replicate {A = ℕ} 256 0;
+    long = length-replicate {A = ℕ} forecastRoom 0;
     keys = tt;
     held = refl;
     used = used-is;
@@ -427,7 +427,7 @@ module _ (s : State) (r : Record) (m : List ℕ) (inv : Inv s r m) where
       let few = leb-true (length xs) forecastRoom e in
       let f = figuresOf c mach xs (s .book) in
       let o = start (r .pools .shadow .used) in
-      let told = figures-are xs (replicate 256 0) o (s .book) begins-so refl (omega (arith, few)) (omega arith) in
+      let told = figures-are xs (replicate forecastRoom 0) o (s .book) begins-so refl (omega (arith, few)) (omega arith) in
       let from = figures-from c mach xs (s .book) in
       follows-by (forecast xs) s (at c s) r r (forecastOf c ht m hold (rootOf r) (keysOf r) xs) (figuresLine f) m
       (ap (λ y. answered (forecast xs) (at c s) (firstFailed ((y, 14) ∷ []))) e) refl

@@ -14,7 +14,7 @@ use Rattle.spec.specs.Config.{Config}
 use Rattle.spec.specs.Prefix.{any}
 use Rattle.spec.specs.Plain.{walk}
 use Rattle.spec.specs.Count.{one}
-use Rattle.spec.specs.Refusal.{addressFits, wordAligned}
+use Rattle.spec.specs.Refusal.{addressFits, wordAligned, forecastRoom}
 use Rattle.words.specs.After.{After, yields}
 use Rattle.layout.specs.declared.HostWalk.{HostWalk}
 use Rattle.layout.specs.declared.HostWalk.the-variants as host
@@ -139,4 +139,4 @@ start u = record {
 }
 
 unfoldable pub forecastOf : Config → ℕ → List ℕ → Held → ℕ → List ℕ → List ℕ → Answer
-forecastOf c ht m h root marks xs = listOf c ht m h root marks (replicate 256 0) (start (h .pool .used)) xs
+forecastOf c ht m h root marks xs = listOf c ht m h root marks (replicate forecastRoom 0) (start (h .pool .used)) xs

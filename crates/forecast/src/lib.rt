@@ -1,5 +1,5 @@
 // A forecast: what a list of loads would cost, and how many shadow tables would be in use at most. No word is written. The paths that the
-// list itself would fill are kept by their keys in a room of 256, one for each address at most.
+// list itself would fill are kept by their keys in a room of the call's own, one for each address at most.
 ghost use mathlib.Core.Path.{_≡_};
 ghost use mathlib.Core.Bool.{not};
 ghost use Prim.Native.Nat.{_+_, _-_, _*_, _<_, _≤_};
@@ -8,6 +8,7 @@ ghost use lib.ListN.{length};
 ghost use Rattle.spec.specs.Count.{one};
 ghost use Rattle.spec.specs.Entry.{frameLimit};
 ghost use Rattle.spec.specs.Prefix.{any};
+ghost use Rattle.spec.specs.Refusal.{forecastRoom};
 ghost use Rattle.words.specs.After.{yields};
 ghost use Rattle.layout.specs.Layout.{LayoutFits, config};
 ghost use Rattle.marks.specs.Table.{keys};
@@ -24,6 +25,11 @@ use translate::Held;
 use translate::Request;
 use translate::Translated;
 use walk::Walked;
+
+// How many addresses a list has at most, and the keys of the paths that it fills at most.
+pub const MOST: usize = 256;
+
+type Room = [u64; MOST];
 
 // What the list has cost so far, and the greatest number of tables in use so far.
 pub struct Sum {
@@ -53,8 +59,8 @@ pub enum Next {
 // ---- the paths in the room
 
 // Whether a path with that key is among the first `count` of the room.
-fn knows(room: &[u64; 256], count: usize, key: u64) -> bool
-    requires { ⌜ count ≤ 256 ⌝ }
+fn knows(room: &Room, count: usize, key: u64) -> bool
+    requires { ⌜ count ≤ forecastRoom ⌝ }
     ensures { λ r. ⌜ r ≡ any (eqb key) (newest (now (room .entry)) count) ⌝ }
 {
     let mut left = count;
@@ -80,8 +86,8 @@ fn passes_by(level: u64, indexes: u64, key: u64) -> bool
 }
 
 // Whether one of them passes through that table.
-fn stands(room: &[u64; 256], count: usize, level: u64, indexes: u64) -> bool
-    requires { ⌜ (count ≤ 256) × (level ≤ 7) ⌝ }
+fn stands(room: &Room, count: usize, level: u64, indexes: u64) -> bool
+    requires { ⌜ (count ≤ forecastRoom) × (level ≤ 7) ⌝ }
     ensures { λ r. ⌜ r ≡ any (passes level indexes) (newest (now (room .entry)) count) ⌝ }
 {
     let mut left = count;
@@ -96,15 +102,8 @@ fn stands(room: &[u64; 256], count: usize, level: u64, indexes: u64) -> bool
 
 // How many tables stand for them on the way of an address, from the top table on; `steps` levels are above its depth. The first that does
 // not stand ends the search: none stands below it.
-fn met(
-    room: &[u64; 256],
-    count: usize,
-    levels: u64,
-    address: GuestVirtual,
-    depth: u64,
-    steps: u64,
-) -> u64
-    requires { ⌜ (count ≤ 256) × (depth + steps ≤ 7) ⌝ }
+fn met(room: &Room, count: usize, levels: u64, address: GuestVirtual, depth: u64, steps: u64) -> u64
+    requires { ⌜ (count ≤ forecastRoom) × (depth + steps ≤ 7) ⌝ }
     ensures { λ r. ⌜ r ≡ metFrom (newest (now (room .entry)) count) levels (address .0) depth steps ⌝ }
 {
     let mut left = steps;
@@ -133,15 +132,8 @@ fn lacks(steps: u64, stand: u64) -> u64
 }
 
 // A path of so many indexes is filled, which makes so many tables: its key joins the others, or they are forgotten.
-fn filled(
-    room: &mut [u64; 256],
-    layout: Layout,
-    paths: Paths,
-    tables: u64,
-    key: u64,
-    steps: u64,
-) -> Paths
-    requires { ⌜ paths .count < 256 ⌝ }
+fn filled(room: &mut Room, layout: Layout, paths: Paths, tables: u64, key: u64, steps: u64) -> Paths
+    requires { ⌜ paths .count < forecastRoom ⌝ }
     ensures { λ r. ⌜ yields r (now (room .exit)) ≡ filledOf (config layout) (now (room .entry)) paths tables key steps ⌝ }
 {
     let count = paths.count;
@@ -163,7 +155,7 @@ fn filled(
 
 // The paths held after a walk came to the end of a path: it is in the room already, or is filled. stand: its tables among the shadow tables.
 fn held_after(
-    room: &mut [u64; 256],
+    room: &mut Room,
     layout: Layout,
     paths: Paths,
     known: bool,
@@ -171,7 +163,7 @@ fn held_after(
     address: GuestVirtual,
     depth: u64,
 ) -> Paths
-    requires { ⌜ (LayoutFits layout) × (paths .count < 256) × (paths .used ≤ 65536) × (depth ≤ layout .levels) ⌝ }
+    requires { ⌜ (LayoutFits layout) × (paths .count < forecastRoom) × (paths .used ≤ 65536) × (depth ≤ layout .levels) ⌝ }
     ensures { λ r. ⌜ yields r (now (room .exit)) ≡ heldAfter (config layout) (now (room .entry)) paths known stand (address .0) depth ⌝ }
 {
     if known {
@@ -188,7 +180,7 @@ fn held_after(
 
 // References and exits are added, and the tables in use then are compared.
 fn added_to(sum: Sum, references: u64, exits: u64, tables: u64) -> Sum
-    requires { ⌜ (SumFits 256 sum) × (references ≤ 35) × (exits ≤ 2) ⌝ }
+    requires { ⌜ (SumFits forecastRoom sum) × (references ≤ 35) × (exits ≤ 2) ⌝ }
     ensures { λ r. ⌜ r ≡ added sum references exits tables ⌝ }
 {
     Sum {
@@ -200,7 +192,7 @@ fn added_to(sum: Sum, references: u64, exits: u64, tables: u64) -> Sum
 
 // A load is paid for, after which these paths are held.
 fn pay(sum: Sum, paths: Paths, t: Translated) -> Next
-    requires { ⌜ (SumFits 256 sum) × (t .exits ≤ 2) × (ReadsMost 35 (t .walked)) ⌝ }
+    requires { ⌜ (SumFits forecastRoom sum) × (t .exits ≤ 2) × (ReadsMost 35 (t .walked)) ⌝ }
     ensures { λ r. ⌜ r ≡ paid sum paths t ⌝ }
 {
     let walked = t.walked;
@@ -245,13 +237,13 @@ fn missed(
     space: Space,
     root: GuestPhysical,
     held: Held,
-    room: &mut [u64; 256],
+    room: &mut Room,
     before: Outlook,
     stand: u64,
     address: GuestVirtual,
     depth: u64,
 ) -> Next
-    requires { ⌜ (LayoutFits (space .layout)) × (depth ≤ space .layout .levels) × (OutlookFits 255 before) ⌝ }
+    requires { ⌜ (LayoutFits (space .layout)) × (depth ≤ space .layout .levels) × (OutlookFits (forecastRoom - 1) before) ⌝ }
     ensures { λ r. ⌜ yields r (now (room .exit)) ≡ missedOf (config (space .layout)) (space .top) (now (mem .entry)) held (root .0) (now (room .entry)) before stand (address .0) depth ⌝ }
 {
     let levels = space.layout.levels;
@@ -313,12 +305,12 @@ fn one_load(
     space: Space,
     root: GuestPhysical,
     held: Held,
-    room: &mut [u64; 256],
+    room: &mut Room,
     before: Outlook,
     address: GuestVirtual,
     depth: u64,
 ) -> Next
-    requires { ⌜ (LayoutFits (space .layout)) × (held .frame .0 < frameLimit) × (OutlookFits 255 before) ⌝ }
+    requires { ⌜ (LayoutFits (space .layout)) × (held .frame .0 < frameLimit) × (OutlookFits (forecastRoom - 1) before) ⌝ }
     ensures { λ r. ⌜ yields r (now (room .exit)) ≡ loadOf (config (space .layout)) (space .top) (now (mem .entry)) held (root .0) (now (room .entry)) before (address .0) depth ⌝ }
 {
     let sum = before.sum;
@@ -349,11 +341,11 @@ fn one_address(
     held: Held,
     place: &[u64; 64],
     set: u64,
-    room: &mut [u64; 256],
+    room: &mut Room,
     before: Outlook,
     address: GuestVirtual,
 ) -> Next
-    requires { ⌜ (LayoutFits (space .layout)) × (held .frame .0 < frameLimit) × (OutlookFits 255 before) ⌝ }
+    requires { ⌜ (LayoutFits (space .layout)) × (held .frame .0 < frameLimit) × (OutlookFits (forecastRoom - 1) before) ⌝ }
     ensures { λ r. ⌜ yields r (now (room .exit)) ≡ addressOf (config (space .layout)) (space .top) (now (mem .entry)) held (root .0) (keys (now (place .entry)) set) (now (room .entry)) before (address .0) ⌝ }
 {
     let levels = space.layout.levels;
@@ -392,10 +384,10 @@ pub fn forecast(
     set: u64,
     addresses: &[u64],
 ) -> Answer
-    requires { ⌜ (LayoutFits (space .layout)) × (HeldFits (config (space .layout)) held) × (held .pool .used ≤ 65536) × (length (now addresses) ≤ 256) ⌝ }
+    requires { ⌜ (LayoutFits (space .layout)) × (HeldFits (config (space .layout)) held) × (held .pool .used ≤ 65536) × (length (now addresses) ≤ forecastRoom) ⌝ }
     ensures { λ r. ⌜ r ≡ forecastOf (config (space .layout)) (space .top) (now (mem .entry)) held (root .0) (keys (now (place .entry)) set) (now (addresses .entry)) ⌝ }
 {
-    let mut room = [0u64; 256];
+    let mut room = [0u64; MOST];
     let mut at = begin(held.pool.used);
     let mut i: usize = 0;
     while i < addresses.len() {

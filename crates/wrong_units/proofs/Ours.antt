@@ -138,4 +138,4 @@ list-as-ours r m ks o (a ∷ xs) = go (n .result) (λ u. list-as-ours r m (n .me
 pub forecast-with-ours : (r : Record) (m xs : List ℕ) → forecastWith ourStep ourEnd xs r m ≡ callOf (forecast xs) r m
 unfolding forecastWith callOf forecastCall forecastOf
 forecast-with-ours r m xs =
-    ap (λ x. judged r m (cond (leb (length xs) forecastRoom) (ended r x m) (refused r 14 m))) (list-as-ours r m (replicate 256 0) (start (r .pools .shadow .used)) xs)
+    ap (λ x. judged r m (cond (leb (length xs) forecastRoom) (ended r x m) (refused r 14 m))) (list-as-ours r m (replicate forecastRoom 0) (start (r .pools .shadow .used)) xs)

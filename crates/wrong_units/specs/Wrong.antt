@@ -283,7 +283,7 @@ listWith does ends r m ks o (a ∷ xs) =
 
 unfoldable pub forecastWith : Steps → (Outlook → Answer) → List ℕ → Does
 forecastWith does ends xs r m =
-    judged r m (cond (leb (length xs) forecastRoom) (ended r (listWith does ends r m (replicate 256 0) (start (r .pools .shadow .used)) xs) m) (refused r 14 m))
+    judged r m (cond (leb (length xs) forecastRoom) (ended r (listWith does ends r m (replicate forecastRoom 0) (start (r .pools .shadow .used)) xs) m) (refused r 14 m))
 
 -- each address is judged by what was held before the list, so that a second one of a path costs an exit again
 abbrev pub stepAlone : Steps
