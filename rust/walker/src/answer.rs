@@ -26,7 +26,7 @@ pub const HOST_TABLES_FULL: u32 = 10;
 pub const NOT_MAPPED: u32 = 12;
 /// "13 and the end, if the length is not its kind's, the kind is unknown or the input is cut"
 pub const BAD_RECORD: u32 = 13;
-/// "14 for more than 256 addresses, after 3"
+/// A forecast of more addresses than it takes; only 3 goes before it.
 pub const TOO_MANY_ADDRESSES: u32 = 14;
 
 /// A call after a granted opening.

@@ -6,7 +6,7 @@ use crate::events::Events;
 use crate::machine::{words_read, Access, Machine, Mapping, Step, Walk, Word};
 use crate::numbers::*;
 
-/// "the operator hands in up to 256 load addresses"
+/// How many addresses a forecast takes (document 02, request 2).
 pub const MOST_ADDRESSES: usize = 256;
 
 #[derive(Clone, Debug)]
@@ -284,10 +284,8 @@ impl Unit {
 
     // The forecast.
 
-    /// "The unit says how many references and exits serving them in order would
-    /// cost, and the greatest number of shadow tables in use from the start on,
-    /// and changes nothing." So the list is really served, on a copy. "an address
-    /// that would meet 4 counts zero, and the list goes on"; so it does after a fault.
+    /// What serving the list would cost: it is really served, on a copy. An address
+    /// that meets 4 adds nothing, and neither it nor a fault ends the list.
     fn forecast(&mut self, addresses: &[u64]) -> Answer {
         if addresses.len() > MOST_ADDRESSES {
             let none_legal = addresses.iter().all(|address| !self.is_word_address(*address));
@@ -297,7 +295,7 @@ impl Unit {
         let mut copy =
             Unit { machine: self.machine.clone(), book: self.book.clone(), events: Events::default() };
         let (mut references, mut exits) = (0, 0);
-        // "from the start on": before the first address, and after each.
+        // The tables in use before the first address count too.
         let mut in_use = vec![copy.book.tables_in_use()];
         for address in addresses {
             self.note_listed(&copy, *address);
