@@ -23,7 +23,6 @@ use Rattle.walk.specs.declared.Walked.the-variants as walked
 use Rattle.walk.specs.Memory.{walkedOf}
 use Rattle.marks.specs.Key.{lowPage, keyAt, depthOf}
 use Rattle.translate.specs.declared.Held.{Held}
-use Rattle.translate.specs.declared.Request.{Request}
 use Rattle.translate.specs.declared.Translated.{Translated}
 use Rattle.translate.specs.Translate.{pathIndexes, servedOf, foundOf, plainOf}
 use Rattle.forecast.specs.declared.Sum.{Sum}
@@ -64,10 +63,6 @@ filledOf c ks p n q k =
 -- n references and e exits more, and t tables in use then
 abbrev pub added : Sum → ℕ → ℕ → ℕ → Sum
 added s n e t = record { references = s .references + n; exits = s .exits + e; tables = max (s .tables) t }
-
--- the request of a load
-abbrev pub loading : ℕ → ℕ → Request
-loading a d = record { store = false; address = record { 0 = a }; depth = d }
 
 -- a load that came to a word or a fault is paid for; p: the paths held after it
 abbrev pub paidBy : Sum → Paths → ℕ → Walked → Next

@@ -13,7 +13,7 @@ ghost use Rattle.words.specs.After.{yields};
 ghost use Rattle.layout.specs.Layout.{LayoutFits, config};
 ghost use Rattle.marks.specs.Table.{keys};
 ghost use Rattle.translate.specs.Translate.{HeldFits, ReadsMost};
-ghost use Rattle.forecast.specs.Forecast.{newest, passes, metFrom, filledOf, paid, added, heldAfter, missedOf, keptOf, loadOf, loading, addressOf, start, forecastOf};
+ghost use Rattle.forecast.specs.Forecast.{newest, passes, metFrom, filledOf, paid, added, heldAfter, missedOf, keptOf, loadOf, addressOf, start, forecastOf};
 ghost use Rattle.forecast.specs.Fits.{SumFits, OutlookFits};
 use entry::GuestPhysical;
 use entry::GuestVirtual;
@@ -220,17 +220,6 @@ fn exit_unless(known: bool) -> u64
     if known { 0 } else { 1 }
 }
 
-// The request of a load.
-fn load_at(address: GuestVirtual, depth: u64) -> Request
-    ensures { λ r. ⌜ r ≡ loading (address .0) depth ⌝ }
-{
-    Request {
-        store: false,
-        address: address,
-        depth: depth,
-    }
-}
-
 // A load whose path the shadow tables do not hold, or no more; so many of its tables stand there.
 fn missed(
     mem: &[u64],
@@ -265,7 +254,11 @@ fn missed(
                 mem,
                 space,
                 held,
-                load_at(address, depth),
+                Request {
+                    store: false,
+                    address: address,
+                    depth: depth,
+                },
                 page,
                 writable,
                 exits,
@@ -321,7 +314,19 @@ fn one_load(
     }
     match kept_at(mem, space.layout, held, paths.kept, address, depth) {
         HostWalk::Found { page, writable } => {
-            let t = translate::serve(mem, space, held, load_at(address, depth), page, writable, 0);
+            let t = translate::serve(
+                mem,
+                space,
+                held,
+                Request {
+                    store: false,
+                    address: address,
+                    depth: depth,
+                },
+                page,
+                writable,
+                0,
+            );
             pay(sum, paths, t)
         }
         HostWalk::Absent { reads } => {

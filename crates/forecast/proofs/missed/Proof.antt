@@ -26,25 +26,24 @@ came c =
 
 serve-requires : tie.Need-serve-requires
 serve-requires c κs =
-    let pre = c .before .before .before .before .before .before .before .before .before .before .before .before .before .before .before .pre in
-    let knows = c .before .before .before .before .before .before .before .before .before .knows in
-    let exit-unless = c .before .before .before .before .before .before .before .before .exit-unless in
-    let walked = c .before .before .before .before .walked in
-    let args = c .before .before .before .before .before .before .before .before .before .before .before .before .before .before .before .args in
-    let at = rw (came (c .before .before .before .before .before .before), walked .given .1) at (walk-in (config (args .space .layout)) (args .space .top) (args .mem .now) false 0 (args .root .0) (pathIndexes (config (args .space .layout)) (args .depth) (args .address .0))) in
-    (pre .0, rw (c .load-at .ensures) (pre .1), omega (arith, at .1, pre .0), omega (arith, exit-unless .ensures, one-most (not (knows .result))))
+    let pre = c .before .before .before .before .before .before .before .before .before .before .before .before .before .before .pre in
+    let knows = c .before .before .before .before .before .before .before .before .knows in
+    let exit-unless = c .before .before .before .before .before .before .before .exit-unless in
+    let walked = c .before .before .before .walked in
+    let args = c .before .before .before .before .before .before .before .before .before .before .before .before .before .before .args in
+    let at = rw (came (c .before .before .before .before .before), walked .given .1) at (walk-in (config (args .space .layout)) (args .space .top) (args .mem .now) false 0 (args .root .0) (pathIndexes (config (args .space .layout)) (args .depth) (args .address .0))) in
+    (pre .0, pre .1, omega (arith, at .1, pre .0), omega (arith, exit-unless .ensures, one-most (not (knows .result))))
 
 pay-requires : tie.Need-pay-requires
 pay-requires c κs =
-    let pre = c .before .before .before .before .before .before .before .before .before .before .before .before .before .before .before .before .pre in
-    let knows = c .before .before .before .before .before .before .before .before .before .before .knows in
-    let exit-unless = c .before .before .before .before .before .before .before .before .before .exit-unless in
-    let load-at = c .before .load-at in
-    let args = c .before .before .before .before .before .before .before .before .before .before .before .before .before .before .before .before .args in
+    let pre = c .before .before .before .before .before .before .before .before .before .before .before .before .before .before .before .pre in
+    let knows = c .before .before .before .before .before .before .before .before .before .knows in
+    let exit-unless = c .before .before .before .before .before .before .before .before .exit-unless in
+    let args = c .before .before .before .before .before .before .before .before .before .before .before .before .before .before .before .args in
     let k = config (args .space .layout) in (
       (omega (arith, pre .2 .0), omega (arith, pre .2 .0)),
-      rw (c .serve .ensures) (served-exits k (args .space .top) (args .mem .now) (pre .0 .0) (args .held) (load-at .result .store) (load-at .result .address .0) (load-at .result .depth) _ _ (exit-unless .result) (omega (arith, exit-unless .ensures, one-most (not (knows .result))))),
-      rw (c .serve .ensures) (served-most k (args .space .top) (args .mem .now) (pre .0 .0) (args .held) (load-at .result .store) (load-at .result .address .0) (load-at .result .depth) _ _ (exit-unless .result) (rw (load-at .ensures) (pre .1))),
+      rw (c .serve .ensures) (served-exits k (args .space .top) (args .mem .now) (pre .0 .0) (args .held) false (args .address .0) (args .depth) _ _ (exit-unless .result) (omega (arith, exit-unless .ensures, one-most (not (knows .result))))),
+      rw (c .serve .ensures) (served-most k (args .space .top) (args .mem .now) (pre .0 .0) (args .held) false (args .address .0) (args .depth) _ _ (exit-unless .result) (pre .1)),
     )
 
 added-to-requires : tie.Need-added-to-requires
@@ -63,14 +62,13 @@ enum-told c = search needs
 returns : tie.Need-returns
 unfolding missedOf
 returns c =
-    let key-of = c .before .before .before .before .before .before .before .before .before .before .before .before .key-of in
-    let knows = c .before .before .before .before .before .before .before .before .before .before .before .knows in
-    let exit-unless = c .before .before .before .before .before .before .before .before .before .before .exit-unless in
-    let walked = c .before .before .before .before .before .before .walked in
-    let held-after = c .before .before .before .held-after in
-    let load-at = c .before .before .load-at in
+    let key-of = c .before .before .before .before .before .before .before .before .before .before .before .key-of in
+    let knows = c .before .before .before .before .before .before .before .before .before .before .knows in
+    let exit-unless = c .before .before .before .before .before .before .before .before .before .exit-unless in
+    let walked = c .before .before .before .before .before .walked in
+    let held-after = c .before .before .held-after in
     let serve = c .before .serve in
-    rw (← key-of .ensures, ← knows .ensures, came (c .before .before .before .before .before .before .before .before), walked .given .1, ← held-after .ensures, ← exit-unless .ensures, c .pay .ensures, serve .ensures, load-at .ensures)
+    rw (← key-of .ensures, ← knows .ensures, came (c .before .before .before .before .before .before .before), walked .given .1, ← held-after .ensures, ← exit-unless .ensures, c .pay .ensures, serve .ensures)
 
 returns-2 : tie.Need-returns-2
 unfolding missedOf
@@ -96,7 +94,6 @@ missed-spec =
     (λ c. search needs)
     (λ c κs. search needs)
     (λ c. search needs)
-    (λ c κs. search needs)
     (λ c κs. search needs)
     serve-requires
     pay-requires

@@ -30,25 +30,24 @@ returns c =
 
 serve-requires : tie.Need-serve-requires
 serve-requires c κs =
-    let pre = c .before .before .before .before .before .before .before .before .before .before .pre in
-    let if1 = c .before .before .before .before .before .if1 in
-    let kept-at = c .before .before .before .before .kept-at in
-    let page = c .before .before .page in
-    let args = c .before .before .before .before .before .before .before .before .before .before .args in
+    let pre = c .before .before .before .before .before .before .before .before .before .pre in
+    let if1 = c .before .before .before .before .if1 in
+    let kept-at = c .before .before .before .kept-at in
+    let page = c .before .page in
+    let args = c .before .before .before .before .before .before .before .before .before .args in
     let k = config (args .space .layout) in
     let at = rw (← kept-at .ensures, page .given .1) at (kept-is k (λ f. f < frameLimit) (λ f g. omega (arith, g .1, pre .0)) (args .mem .now) (args .held) (args .before .paths .kept) (args .address .0) (args .depth) (λ z. pre .1)) in
-    (pre .0, rw (c .load-at .ensures) (if1 .left), at, omega arith)
+    (pre .0, if1 .left, at, omega arith)
 
 pay-requires-2 : tie.Need-pay-requires-2
 pay-requires-2 c κs =
-    let pre = c .before .before .before .before .before .before .before .before .before .before .before .pre in
-    let if1 = c .before .before .before .before .before .before .if1 in
-    let load-at = c .before .load-at in
-    let args = c .before .before .before .before .before .before .before .before .before .before .before .args in
+    let pre = c .before .before .before .before .before .before .before .before .before .before .pre in
+    let if1 = c .before .before .before .before .before .if1 in
+    let args = c .before .before .before .before .before .before .before .before .before .before .args in
     let k = config (args .space .layout) in (
       (omega (arith, pre .2 .0), omega (arith, pre .2 .0)),
-      rw (c .serve .ensures) (served-exits k (args .space .top) (args .mem .now) (pre .0 .0) (args .held) (load-at .result .store) (load-at .result .address .0) (load-at .result .depth) _ _ 0 (omega arith)),
-      rw (c .serve .ensures) (served-most k (args .space .top) (args .mem .now) (pre .0 .0) (args .held) (load-at .result .store) (load-at .result .address .0) (load-at .result .depth) _ _ 0 (rw (load-at .ensures) (if1 .left))),
+      rw (c .serve .ensures) (served-exits k (args .space .top) (args .mem .now) (pre .0 .0) (args .held) false (args .address .0) (args .depth) _ _ 0 (omega arith)),
+      rw (c .serve .ensures) (served-most k (args .space .top) (args .mem .now) (pre .0 .0) (args .held) false (args .address .0) (args .depth) _ _ 0 (if1 .left)),
     )
 
 enum-told : tie.Need-enum-told
@@ -57,12 +56,11 @@ enum-told c = search needs
 returns-2 : tie.Need-returns-2
 unfolding loadOf
 returns-2 c =
-    let if1 = c .before .before .before .before .before .before .before .if1 in
-    let kept-at = c .before .before .before .before .before .before .kept-at in
-    let page = c .before .before .before .before .page in
-    let load-at = c .before .before .load-at in
+    let if1 = c .before .before .before .before .before .before .if1 in
+    let kept-at = c .before .before .before .before .before .kept-at in
+    let page = c .before .before .before .page in
     let serve = c .before .serve in
-    rw (le-ltb _ _ (if1 .left), ← kept-at .ensures, page .given .1, c .pay2 .ensures, serve .ensures, load-at .ensures)
+    rw (le-ltb _ _ (if1 .left), ← kept-at .ensures, page .given .1, c .pay2 .ensures, serve .ensures)
 
 returns-3 : tie.Need-returns-3
 unfolding loadOf
@@ -88,7 +86,6 @@ one-load-spec =
     returns
     (λ c κs. search needs)
     (λ c. search needs)
-    (λ c κs. search needs)
     serve-requires
     pay-requires-2
     (λ c. search needs)
