@@ -21,6 +21,9 @@ module _ (r : Record) (len : ℕ) (e : fitsOf r len ≡ true) where
   pub fits-held : HeldFits (configOf r) (heldOf r)
   fits-held = let f = fits-layout r len e in (f .shadow .0, f .held)
 
+  pub fits-used : r .pools .shadow .used ≤ 65536
+  fits-used = let f = fits-layout r len e in omega (arith, f .shadow .0, f .shadow .1, f .sizes .guest, f .sizes .frames)
+
   pub fits-levels : r .layout .levels < 6
   fits-levels = omega (arith, fits-layout r len e .sizes .deep)
 

@@ -4,15 +4,14 @@ use Prim.Native.Nat.{ℕ, _-_, _*_, _/_, _^_, _≤_}
 use mathlib.Core.Path.{_≡_}
 use mathlib.Core.Bool.{Bool, true, false, _&&_, cond}
 use mathlib.Core.List.{List}
-use lib.Dec.{eqb, ltb}
+use lib.Dec.{eqb, leb, ltb}
 use lib.ListN.{length}
 use Rattle.spec.specs.declared.Answer.{Answer}
 use Rattle.spec.specs.declared.Answer.the-variants as answer
 use Rattle.spec.specs.Answer.{line}
-use Rattle.spec.specs.declared.Call.{Call}
-use Rattle.spec.specs.declared.Call.the-variants.{Root as root, Map as map, Unmap as unmap, SetMark as setMark, ClearMark as clearMark, Load as load, Store as store, Device as device}
+use Rattle.spec.specs.Call.{Call, root, map, unmap, setMark, clearMark, load, store, device, forecast}
 use Rattle.spec.specs.Entry.{pageOf, indexes}
-use Rattle.spec.specs.Refusal.{addressFits, deviceFits, wordAligned, frameFits}
+use Rattle.spec.specs.Refusal.{addressFits, deviceFits, wordAligned, frameFits, forecastRoom}
 use Rattle.words.specs.After.{After, yields}
 use Rattle.entry.specs.declared.HostPhysical.{HostPhysical}
 use Rattle.pool.specs.declared.Pool.{Pool}
@@ -39,6 +38,7 @@ use Rattle.request.specs.declared.Served.{Served}
 use Rattle.translate.specs.declared.Translated.{Translated}
 use Rattle.translate.specs.Translate.{holding, translateOf}
 use Rattle.request.specs.Access.{loadOf, storeOf, deviceOf}
+use Rattle.forecast.specs.Forecast.{forecastOf}
 use Rattle.calls.specs.declared.Reply.{Reply}
 use Rattle.calls.specs.declared.Turn.{Turn}
 
@@ -221,6 +221,13 @@ setMarkCall r m a n = markCall true r m a n
 unfoldable pub clearMarkCall : Record → List ℕ → ℕ → ℕ → After Reply
 clearMarkCall r m a n = markCall false r m a n
 
+-- ---- forecast
+
+-- record and memory are handed back as they were, whatever the answer: 3, 14, then figures or 11
+unfoldable pub forecastCall : Record → List ℕ → List ℕ → After Reply
+forecastCall r m xs =
+    judged r m (cond (leb (length xs) forecastRoom) (ended r (forecastOf (configOf r) (hostTop r) m (heldOf r) (rootOf r) (keysOf r) xs) m) (refused r 14 m))
+
 -- ---- any call
 
 unfoldable pub callOf : Call → Record → List ℕ → After Reply
@@ -232,3 +239,4 @@ callOf (clearMark a n) r m = clearMarkCall r m a n
 callOf (load a) r m = loadCall r m a
 callOf (store a v) r m = storeCall r m a v
 callOf (device a v) r m = deviceCall r m a v
+callOf (forecast xs) r m = forecastCall r m xs

@@ -3,12 +3,12 @@
 ghost use mathlib.Core.Path.{_≡_};
 ghost use mathlib.Core.Bool.{_&&_};
 ghost use Prim.Native.Nat.{_<_};
-ghost use Rattle.spec.specs.Refusal.{addressFits, deviceFits, wordAligned};
+ghost use Rattle.spec.specs.Refusal.{deviceFits, wordAligned};
 ghost use Rattle.words.specs.After.{yields};
 ghost use Rattle.entry.specs.Levels.{ofLevels};
 ghost use Rattle.marks.specs.Table.{number};
 ghost use Rattle.record.specs.Record.{recordBy, fitsOf};
-ghost use Rattle.calls.specs.Calls.{refusalBy, addressOk, Sound, nothing, headHeld, headHost, heldIn, spaceIn, servedReply, turnReply, loadCall, storeCall, deviceCall, rootCall, unmappedOf, changedBy, mapCall, unmapCall};
+ghost use Rattle.calls.specs.Calls.{refusalBy, addressOk, Sound, nothing, headHeld, headHost, heldIn, spaceIn, servedReply, turnReply, loadCall, storeCall, deviceCall, rootCall, unmappedOf, changedBy, mapCall, unmapCall, ended, forecastCall};
 use entry::GuestPhysical;
 use entry::GuestVirtual;
 use entry::HostPhysical;
@@ -113,18 +113,6 @@ fn refused_in(head: Head, number: u64) -> Turn
 
 // ---- load, store, device store
 
-// Is it the address of a word that tables of that many levels translate?
-fn address_ok(levels: u64, address: GuestVirtual) -> bool
-    requires { ⌜ levels < 6 ⌝ }
-    ensures { λ r. ⌜ r ≡ (addressFits (ofLevels levels) (address .0) && wordAligned (address .0)) ⌝ }
-{
-    if address.fits(levels) {
-        address.0 % 8 == 0
-    } else {
-        false
-    }
-}
-
 // Is it the guest-physical address of a word?
 fn device_ok(levels: u64, address: u64) -> bool
     requires { ⌜ levels < 6 ⌝ }
@@ -144,7 +132,7 @@ fn request_refusal(head: Head, place: &[u64; 64], len: usize, address: GuestVirt
     if !head.fits(place, len) {
         return 3;
     }
-    if !address_ok(head.layout.levels, address) {
+    if !address.names_word(head.layout.levels) {
         return 4;
     }
     0
@@ -196,6 +184,29 @@ pub fn device_store_at(
         return request::refused(held, 4);
     }
     request::device_store(mem, space_in(head), held, address, value)
+}
+
+// ---- forecast
+
+// What loading these addresses one after the other would cost: 3, 14, 11. Nothing is changed, so that record and memory are only lent.
+pub fn forecast_at(head: Head, place: &[u64; 64], mem: &[u64], addresses: &[u64]) -> Answer
+    ensures { λ r. ⌜ ended (recordBy head (now (place .entry))) r (now (mem .entry)) ≡ forecastCall (recordBy head (now (place .entry))) (now (mem .entry)) (now (addresses .entry)) ⌝ }
+{
+    if !head.fits(place, mem.len()) {
+        return Answer::Refused(3);
+    }
+    if forecast::MOST < addresses.len() {
+        return Answer::Refused(14);
+    }
+    forecast::forecast(
+        mem,
+        space_in(head),
+        head.root,
+        held_in(head),
+        place,
+        head.set,
+        addresses,
+    )
 }
 
 // ---- root, map, unmap

@@ -46,13 +46,15 @@ recordIn ws place = recordBy (headIn ws) place
 abbrev pub said : ℕ → ℕ → ℕ → ℕ → ℕ → ℕ → ℕ → FlatAnswer
 said k n c l g r e = record { kind = k; number = n; letter = c; level = l; frame = g; references = r; exits = e }
 
--- the numbers of a line: kind 0 is `ok`, 1 `value V R E`, 2 `done R E`, 3 `fault C L G R E`, 4 `no N`; the number is V or N
+-- the numbers of a line: kind 0 is `ok`, 1 `value V R E`, 2 `done R E`, 3 `fault C L G R E`, 4 `no N`, 5 a forecast's figures; the number is V, N
+-- or the tables
 abbrev pub saidBy : Line → FlatAnswer
 saidBy say.ok = said 0 0 0 0 0 0 0
 saidBy (say.value v r e) = said 1 v 0 0 0 r e
 saidBy (say.done r e) = said 2 0 0 0 0 r e
 saidBy (say.fault c l g r e) = said 3 0 c l g r e
 saidBy (say.no n) = said 4 n 0 0 0 0 0
+saidBy (say.figures r e t) = said 5 t 0 0 0 r e
 
 abbrev pub answerOf : Answer → FlatAnswer
 answerOf x = saidBy (line x)

@@ -3,7 +3,7 @@
 ghost use mathlib.Core.Path.{_≡_};
 ghost use Rattle.words.specs.After.{yields};
 ghost use Rattle.record.specs.Record.{headOf};
-ghost use Rattle.calls.specs.Calls.{headHeld, openCall, loadCall, storeCall, deviceCall, rootCall, mapCall, unmapCall, setMarkCall, clearMarkCall};
+ghost use Rattle.calls.specs.Calls.{headHeld, openCall, loadCall, storeCall, deviceCall, rootCall, mapCall, unmapCall, setMarkCall, clearMarkCall, forecastCall};
 ghost use Rattle.cangrieb.specs.Flat.{headIn, headWords, recordIn, answerOf, flat, leftOf};
 use entry::GuestPhysical;
 use entry::HostPhysical;
@@ -201,6 +201,19 @@ fn answer_of(a: Answer) -> FlatAnswer
             references: 0,
             exits: 0,
         },
+        Answer::Figures {
+            references,
+            exits,
+            tables,
+        } => FlatAnswer {
+            kind: 5,
+            number: tables,
+            letter: 0,
+            level: 0,
+            frame: 0,
+            references: references,
+            exits: exits,
+        },
     }
 }
 
@@ -367,4 +380,17 @@ pub extern "C" fn cangrieb_clear_mark(
     let answer = r.answer;
     put_back(head, place, r.unit);
     answer_of(answer)
+}
+
+// What loading these addresses one after the other would cost: 3, 14, 11. Record and memory are lent to be read.
+#[no_mangle]
+pub extern "C" fn cangrieb_forecast(
+    head: &[u64; 15],
+    place: &[u64; 64],
+    mem: &[u64],
+    addresses: &[u64],
+) -> FlatAnswer
+    ensures { λ r. ⌜ r ≡ answerOf (forecastCall (recordIn (now (head .entry)) (now (place .entry))) (now (mem .entry)) (now (addresses .entry)) .result .answer) ⌝ }
+{
+    answer_of(calls::forecast_at(head_in(head), place, mem, addresses))
 }

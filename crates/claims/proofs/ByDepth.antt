@@ -10,11 +10,10 @@ use mathlib.Core.Option.{Option, none, some}
 use lib.ListN.{length}
 use Rattle.spec.specs.declared.Answer.{Answer}
 use Rattle.spec.specs.declared.Answer.the-variants as answer
-use Rattle.spec.specs.declared.Call.{Call}
 use Rattle.spec.specs.Answer as say
 use Rattle.spec.specs.Answer.{Line, line}
 use Rattle.spec.specs.Book.{depth}
-use Rattle.spec.specs.Call.{addressIndexes}
+use Rattle.spec.specs.Call.{Call, addressIndexes}
 use Rattle.spec.specs.Refusal.{refusal}
 use Rattle.spec.specs.Run.{State, answered, step, after, opened}
 use Rattle.walk.specs.declared.Walked.{Walked}
@@ -38,6 +37,7 @@ readsOf (say.value w n x) = n
 readsOf (say.done n x) = n
 readsOf (say.fault c l g n x) = 0
 readsOf (say.no n) = 0
+readsOf (say.figures n x t) = 0
 
 -- no call changes the configuration
 same-config : (xs : List Call) (s : State) → (after xs s) .config ≡ s .config
@@ -56,6 +56,7 @@ GrantsLine (say.value w n x) = Unit {0}
 GrantsLine (say.done n x) = Unit {0}
 GrantsLine (say.fault c l g n x) = ⊥
 GrantsLine (say.no n) = ⊥
+GrantsLine (say.figures n x t) = ⊥
 
 grants-line : (x : Answer) → Grants x → GrantsLine (line x)
 grants-line answer.Ok g = g
@@ -63,6 +64,7 @@ grants-line (answer.Value w n x) g = tt
 grants-line (answer.Done n x) g = tt
 grants-line (answer.Faulted y n x) g = absurd g
 grants-line (answer.Refused n) g = g
+grants-line (answer.Figures n x t) g = g
 
 unrefused : (x : Answer) → Grants x → Unrefused x
 unrefused answer.Ok g = tt
@@ -70,6 +72,7 @@ unrefused (answer.Value w n x) g = tt
 unrefused (answer.Done n x) g = tt
 unrefused (answer.Faulted y n x) g = tt
 unrefused (answer.Refused n) g = g
+unrefused (answer.Figures n x t) g = tt
 
 granted-with : (x : Answer) (n : ℕ) → Grants x → readsOf (line x) ≡ n → GrantedWith n x
 granted-with answer.Ok n g e = g
@@ -77,6 +80,7 @@ granted-with (answer.Value w k x) n g e = e
 granted-with (answer.Done k x) n g e = e
 granted-with (answer.Faulted y k x) n g e = g
 granted-with (answer.Refused k) n g e = g
+granted-with (answer.Figures k x t) n g e = g
 
 reads-line : (v : Option ℕ) (w n x : ℕ) → readsOf (grantedLine v w n x) ≡ n
 reads-line none w n x = refl

@@ -15,8 +15,7 @@ use Rattle.spec.specs.Config.{Config}
 use Rattle.spec.specs.Entry.{wordOf}
 use Rattle.spec.specs.Plain.{upper}
 use Rattle.spec.specs.Book.{Held, Book, depth, find, dropWord, watched}
-use Rattle.spec.specs.declared.Call.{Call}
-use Rattle.spec.specs.Call.{addressIndexes}
+use Rattle.spec.specs.Call.{Call, addressIndexes}
 use Rattle.spec.specs.Count.{serves, one}
 use Rattle.spec.specs.Run.{State, after, opened}
 use Rattle.spec_laws.proofs.Lists.{all-any, is-true}

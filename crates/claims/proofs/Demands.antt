@@ -4,10 +4,8 @@ use mathlib.Core.Path.{_≡_, refl, sym, ap, ap₂, _∙_, subst}
 use Prim.Native.Nat.{ℕ}
 use mathlib.Core.List.{List, [], _∷_}
 use lib.ListN.{length}
-use Rattle.spec.specs.declared.Answer.the-variants as answer
 use Rattle.spec.specs.Config.{Config}
-use Rattle.spec.specs.declared.Call.{Call}
-use Rattle.spec.specs.declared.Call.the-variants.{Root as root, Map as map, Unmap as unmap, SetMark as setMark, ClearMark as clearMark, Load as load, Store as store, Device as device}
+use Rattle.spec.specs.Call.{Call, root, map, unmap, setMark, clearMark, load, store, device, forecast}
 use Rattle.spec.specs.Run.{State, step, run, after, opened}
 use Rattle.record.specs.declared.Record.{Record}
 use Rattle.record.specs.Record.{configOf, configBy}
@@ -19,6 +17,7 @@ use Rattle.claims.proofs.Opens.{opened-inv, granted-call}
 use Rattle.claims.proofs.Remaps.{root-follows, map-follows, unmap-follows}
 use Rattle.claims.proofs.Marks.{set-mark-follows, clear-mark-follows}
 use Rattle.claims.proofs.Requests.{load-follows, store-follows, device-follows}
+use Rattle.claims.proofs.Forecasts.{forecast-follows}
 use Rattle.words.specs.After.{After}
 use Rattle.calls.specs.declared.Reply.{Reply}
 
@@ -33,6 +32,7 @@ follows (clearMark a n) s r m i = clear-mark-follows s r m i a n
 follows (load a) s r m i = load-follows s r m i a
 follows (store a v) s r m i = store-follows s r m i a v
 follows (device a v) s r m i = device-follows s r m i a v
+follows (forecast xs) s r m i = forecast-follows s r m i xs
 
 -- a state that carries the record's configuration
 pub at-self : (c : Config) (s : State) → s .config ≡ c → at c s ≡ s

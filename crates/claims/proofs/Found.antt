@@ -4,19 +4,19 @@ use mathlib.Core.Path.{_≡_, refl, sym, ap, ap₂, _∙_, subst}
 use Prim.Native.Nat.{ℕ, _-_, _*_, _/_, _^_, _<_, _≤_}
 use native.Mathlib.Omega.{arith}
 use mathlib.Core.Bool.{Bool, true, false, cond}
-use mathlib.Core.List.{List, [], _∷_}
+use mathlib.Core.List.{List, [], _∷_, _++_}
 use mathlib.Core.Option.{none, some}
 use lib.Dec.{T, eqb, ltb, ltb→lt}
 use borrow.Author.Tests.{lt-ltb, ltb-false, ne-eqb}
-use lib.ListN.{length}
+use lib.ListN.{length, take}
 use Rattle.spec.specs.declared.Fault.{Fault}
 use Rattle.spec.specs.Config.{Config, frameBits}
 use Rattle.spec.specs.Entry.{frameOf, writable, indexes, pageOf, frameLimit}
-use Rattle.spec.specs.Prefix.{same}
+use Rattle.spec.specs.Prefix.{same, any, propers, allPropers}
 use Rattle.spec.specs.Walk.{granted, trace}
 use Rattle.spec.specs.Plain.{Place, hosted, levels, walk}
 use Rattle.spec.specs.Machine.{Machine, world}
-use Rattle.spec.specs.Book.{Held, find, depth}
+use Rattle.spec.specs.Book.{Held, find, depth, paths}
 use Rattle.spec.specs.Call.{addressIndexes}
 use Rattle.spec.specs.Run.{State}
 use Rattle.spec_laws.proofs.Lists.{all-map, all-keep, same-is}
@@ -25,6 +25,7 @@ use Rattle.spec_laws.proofs.Granted.{granted-is, through}
 use Rattle.spec_laws.proofs.Indexes.{indexes-length}
 use Rattle.spec_laws.proofs.Depth.{PathFits, no-proper-prefix, fill-fits}
 use Rattle.spec_laws.proofs.Keeps.{Valid, again}
+use Rattle.spec_laws.proofs.Added.{standing, standing-most, unbroken, unbroken-standing}
 use Rattle.area_laws.proofs.Paths.{onto}
 use Rattle.area_laws.proofs.Find.{steps}
 use Rattle.area_laws.proofs.Hosts.{indexes-small}
@@ -44,6 +45,7 @@ use Rattle.drops_laws.proofs.Held.{leafAt, HeldEntries}
 use Rattle.drops_laws.proofs.Find.{answerFound, held-is, find-all, Apart, path-fits}
 use Rattle.drops_laws.proofs.Drops.{namedIn}
 use Rattle.drops_laws.proofs.Fill.{frame-small}
+use Rattle.drops_laws.proofs.Tables.{steps-standing}
 use Rattle.drops_laws.proofs.Valid.{framesAt, entryOf, valid-entries, valid-frame, inside-area}
 use Rattle.translate.specs.Translate.{pathIndexes, foundOf}
 use Rattle.calls.specs.Calls.{hostTop, heldOf}
@@ -66,6 +68,21 @@ find-longer p (h ∷ hs) l = go (ltb 0 (length (h .path))) refl (same p (h .path
         let k : ltb 0 (length (h .path)) ≡ true = ap (λ x. ltb 0 (length x)) (sym z) ∙ lt-ltb 0 (length p) l in
         let y : _≡_ {A = Bool} false true = sym e ∙ k in
         let x : _≡_ {A = ℕ} 0 1 = cc in absurd (omega arith)
+
+-- a path of no index has no table
+pub propers-longer : (hs : List Held) → allPropers (paths (longer hs)) ≡ allPropers (paths hs)
+propers-longer [] = refl
+propers-longer (h ∷ hs) = go (h .path) refl (propers-longer hs)
+  where
+    go : (p : List ℕ) → h .path ≡ p → allPropers (paths (longer hs)) ≡ allPropers (paths hs)
+        → allPropers (paths (cond (ltb 0 (length (h .path))) (h ∷ longer hs) (longer hs))) ≡ propers (h .path) ++ allPropers (paths hs)
+    go [] e ih = rw e ih
+    go (i ∷ p) e ih = rw (lt-ltb 0 (length (h .path)) (omega (arith, ap length e))) (ap (λ qs. propers (h .path) ++ qs) ih)
+
+-- so it stands on the way of none
+standing-longer : (p : List ℕ) (hs : List Held) → standing p (paths (longer hs)) ≡ standing p (paths hs)
+standing-longer p hs =
+    sym (unbroken-standing p (paths (longer hs))) ∙ ap (λ qs. unbroken (λ l. any (same (take l p)) qs) 0 (length p)) (propers-longer hs) ∙ unbroken-standing p (paths hs)
 
 -- the path of what is found
 pub find-path : (p : List ℕ) (hs : List Held) (h : Held) → find p hs ≡ some h → h .path ≡ p
@@ -156,19 +173,22 @@ module _ (s : State) (r : Record) (m : List ℕ) (inv : Inv s r m) where
       abbrev pub found : HostWalk
       found = foundOf cfg m (heldOf r) a deep
 
-      pub found-none : find path (s .book .held) ≡ none → (n : ℕ) × (found ≡ host.Absent n)
+      -- a path that is not held: a lookup tells how many of its tables stand
+      pub found-none : find path (s .book .held) ≡ none → found ≡ host.Absent (standing path (paths (s .book .held)))
       unfolding foundOf
       found-none e = go (ltb deep (cfg .levels)) refl
         where
           go : (b : Bool) → ltb deep (cfg .levels) ≡ b
-              → (n : ℕ) × (cond b (shadow.heldOf cfg m (r .pools .shadow .top) path) (cond (eqb (r .guest .held .0) 0) (host.Absent 0) (host.Found (r .guest .held) true)) ≡ host.Absent n)
+              → cond b (shadow.heldOf cfg m (r .pools .shadow .top) path) (cond (eqb (r .guest .held .0) 0) (host.Absent 0) (host.Found (r .guest .held) true)) ≡ host.Absent (standing path (paths (s .book .held)))
           go true q =
               let l : 0 < length path = let k = ltb→lt deep (cfg .levels) (subst T (sym q) tt) in omega (arith, path-length) in
-              (steps (inv .shadow .tabs) [] path, held-is (inv .shadow) held-entries path (path-free l) ∙ ap (λ o. answerFound (entryOf cfg (frames r m)) o (steps (inv .shadow .tabs) [] path)) (find-longer path (s .book .held) l ∙ e))
+              held-is (inv .shadow) held-entries path (path-free l) ∙ ap (λ o. answerFound (entryOf cfg (frames r m)) o (steps (inv .shadow .tabs) [] path)) (find-longer path (s .book .held) l ∙ e)
+              ∙ ap host.Absent (steps-standing (inv .shadow) held-entries path l ∙ standing-longer path (s .book .held))
           go false q =
               let l : cfg .levels ≤ deep = ltb-false deep (cfg .levels) q in
               let z : r .guest .held .0 ≡ 0 = inv .top ∙ ap (topBy (frames r m [])) (ap (λ p. find p (s .book .held)) (sym (path-empty l)) ∙ e) in
-              (0, rw z)
+              let none : standing path (paths (s .book .held)) ≡ 0 = omega (arith, standing-most path (paths (s .book .held)), path-length) in
+              rw (z, none)
 
       pub found-some : (h : Held) → find path (s .book .held) ≡ some h → found ≡ host.Found (page (frames r m (onto [] path))) (h .right)
       unfolding foundOf onto entryOf

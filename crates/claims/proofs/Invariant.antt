@@ -13,7 +13,7 @@ use Rattle.spec.specs.Prefix.{keep}
 use Rattle.spec.specs.Plain.{Place}
 use Rattle.spec.specs.Machine.{Machine, lookup}
 use Rattle.spec.specs.Book.{Held, find}
-use Rattle.spec.specs.declared.Call.{Call}
+use Rattle.spec.specs.Call.{Call}
 use Rattle.spec.specs.Run.{State, step}
 use Rattle.spec.specs.Prefix.{All}
 use Rattle.spec_laws.proofs.Asks.{AnswerIn}

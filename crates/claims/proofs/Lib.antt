@@ -7,6 +7,7 @@ pub mod Puts
 pub mod Requests
 pub mod Remaps
 pub mod Marks
+pub mod Forecasts
 pub mod Opens
 pub mod Demands
 pub mod WordsRead
@@ -15,3 +16,4 @@ pub mod Safety
 pub mod Plain
 pub mod ByDepth
 pub mod Numbers
+pub mod Serving

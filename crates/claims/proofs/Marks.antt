@@ -16,13 +16,11 @@ use Rattle.spec.specs.Config.{Config}
 use Rattle.spec.specs.Entry.{pageOf, indexes}
 use Rattle.spec.specs.Prefix.{begins, any, keep}
 use Rattle.spec.specs.Book.{Mark, Held, markAt, sameMark, find, dropPrefix}
-use Rattle.spec.specs.Call as outcome
-use Rattle.spec.specs.declared.Call.{Call}
-use Rattle.spec.specs.declared.Call.the-variants.{SetMark as setMark, ClearMark as clearMark}
-use Rattle.spec.specs.Call.{addressIndexes, machineStep}
+use Rattle.spec.specs.Answer as say
+use Rattle.spec.specs.Call.{Call, setMark, clearMark, addressIndexes, machineStep}
 use Rattle.spec.specs.Count.{bookStep}
 use Rattle.spec.specs.Refusal.{allOf, markFits, tests, refusal}
-use Rattle.spec.specs.Run.{State}
+use Rattle.spec.specs.Run.{State, told}
 use Rattle.spec.specs.Prefix.{All}
 use Rattle.spec_laws.proofs.Lists.{all-map, all-any}
 use Rattle.spec_laws.proofs.Keeps.{Valid}
@@ -56,7 +54,7 @@ use Rattle.drops_laws.proofs.Held.{leafAt}
 use Rattle.drops_laws.proofs.Drops.{prefix-all, drop-prefix}
 use Rattle.drops_laws.proofs.Valid.{framesAt, entryOf, valid-entries, stays-same}
 use Rattle.calls.specs.Calls.{hostTop, headHeld, heldAfter, refused, withHeld, judged, markedOf, setMarkCall, clearMarkCall}
-use Rattle.claims.proofs.Invariant.{longer, topBy, Inv, Follows, stands}
+use Rattle.claims.proofs.Invariant.{longer, topBy, Inv, Follows, stands, at}
 use Rattle.drops.specs.declared.Left.{Left}
 use Rattle.claims.proofs.Moves.{Moved, dropped-left, after, follows-no, follows-ok, after-fits, first-positive, invariant, inv-fits, inv-stands, inv-root, inv-shadow, inv-top, fits-held, maps-beside, shadow-drop, shadow-on, top-on, longer-keep, all-longer, all-kept, find-keep}
 use Rattle.words.specs.After.{After}
@@ -218,7 +216,7 @@ module _ (s : State) (r : Record) (m : List ℕ) (h : Inv s r m) (a n : ℕ) (t 
 module _ (s : State) (r : Record) (m : List ℕ) (h : Inv s r m) (a n : ℕ) where
   -- a call on marks, refused as the specification says
   by-refusal : (x : Call) (t : Marks) (o : Option ℕ) → o ≡ refusal (configOf r) x (s .machine) (s .book)
-      → All (λ (y : Bool × ℕ). 0 < y .1) (tests (configOf r) x (s .machine) (s .book)) → (machineStep (configOf r) x (s .machine)) .0 ≡ outcome.ok
+      → All (λ (y : Bool × ℕ). 0 < y .1) (tests (configOf r) x (s .machine) (s .book)) → told x (at (configOf r) s) ≡ say.ok
       → (refusal (configOf r) x (s .machine) (s .book) ≡ none → Moved (after (configOf r) x s) r (markedOf r m a n t))
       → Follows x s r (judged r m (cond (eqb (number o) 0) (markedOf r m a n t) (refused r (number o) m)))
   unfolding refusal

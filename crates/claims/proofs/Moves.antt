@@ -17,12 +17,10 @@ use Rattle.spec.specs.Machine.{Machine, Mapping, lookup, hostCost}
 use Rattle.spec.specs.Book.{Held, find}
 use Rattle.spec.specs.Answer as say
 use Rattle.spec.specs.Answer.{line}
-use Rattle.spec.specs.Call as outcome
-use Rattle.spec.specs.declared.Call.{Call}
-use Rattle.spec.specs.Call.{machineStep}
+use Rattle.spec.specs.Call.{Call, machineStep}
 use Rattle.spec.specs.Count.{bookStep}
 use Rattle.spec.specs.Refusal.{firstFailed, refusal}
-use Rattle.spec.specs.Run.{State, step}
+use Rattle.spec.specs.Run.{State, told, step}
 use Rattle.spec.specs.Prefix.{All}
 use Rattle.spec_laws.proofs.Lists.{all-map, all-keep}
 use Rattle.spec_laws.proofs.Trail.{frameIn, frameAt}
@@ -269,7 +267,7 @@ abbrev pub after : Config → Call → State → State
 after c x s = record { config = c; machine = (machineStep c x (s .machine)) .1; book = (bookStep c x (s .machine) (s .book)) .book }
 
 pub follows-ok : (x : Call) (s : State) (r : Record) (e : After Reply) → refusal (configOf r) x (s .machine) (s .book) ≡ none
-    → (machineStep (configOf r) x (s .machine)) .0 ≡ outcome.ok → Moved (after (configOf r) x s) r e → Follows x s r e
+    → told x (at (configOf r) s) ≡ say.ok → Moved (after (configOf r) x s) r e → Follows x s r e
 unfolding step
 follows-ok x s r e free ok l = record { config = rw free (l .config); says = rw (free, ok) (l .says); next = rw free (l .next) }
 

@@ -10,12 +10,10 @@ use lib.ListN.{length}
 use Rattle.spec.specs.Config.{Config}
 use Rattle.spec.specs.Machine.{Machine}
 use Rattle.spec.specs.Book.{Book}
-use Rattle.spec.specs.declared.Call.{Call}
-use Rattle.spec.specs.declared.Call.the-variants.{Root as root, Map as map, Unmap as unmap, SetMark as setMark, ClearMark as clearMark, Load as load, Store as store, Device as device}
-use Rattle.spec.specs.Call.{Outcome, ok, done, value, fault, machineStep}
+use Rattle.spec.specs.Call.{Call, root, map, unmap, setMark, clearMark, load, store, device, forecast, Outcome, ok, done, value, fault, machineStep}
 use Rattle.spec.specs.Count.{bookStep}
 use Rattle.spec.specs.Refusal.{tests, refusal}
-use Rattle.spec.specs.Run.{State, lineOf, answered, step, run, opened}
+use Rattle.spec.specs.Run.{State, lineOf, outcomeLine, told, answered, step, run, opened}
 use Rattle.spec.specs.Prefix.{All}
 use Rattle.spec_laws.proofs.Lists.{and-left, and-right, not-eqb}
 use Rattle.record.specs.Record.{configBy}
@@ -39,6 +37,7 @@ tests-other c (clearMark a n) m b = (other 4 tt, (other 5 tt, (other 6 tt, tt)))
 tests-other c (load a) m b = (other 4 tt, tt)
 tests-other c (store a v) m b = (other 4 tt, tt)
 tests-other c (device a v) m b = (other 4 tt, tt)
+tests-other c (forecast xs) m b = (other 14 tt, tt)
 
 -- ---- a step, and a run, of the specification
 step-covered : (x : Call) (s : State) → Covered ((step x s) .0)
@@ -54,8 +53,22 @@ step-covered x s = go (refusal (s .config) x (s .machine) (s .book)) refl
     said (value v) r e = tt
     said (fault y) r e = tt
 
+    by : (y : Call) → Covered (outcomeLine y s)
+    by y = let k = bookStep c y (s .machine) (s .book) in said ((machineStep c y (s .machine)) .0) (k .references) (k .exits)
+
+    spoken : (y : Call) → Covered (told y s)
+    spoken (root g) = by (root g)
+    spoken (map g f w) = by (map g f w)
+    spoken (unmap g) = by (unmap g)
+    spoken (setMark a n) = by (setMark a n)
+    spoken (clearMark a n) = by (clearMark a n)
+    spoken (load a) = by (load a)
+    spoken (store a v) = by (store a v)
+    spoken (device a v) = by (device a v)
+    spoken (forecast xs) = tt
+
     go : (o : Option ℕ) → refusal c x (s .machine) (s .book) ≡ o → Covered ((answered x s o) .0)
-    go none q = let k = bookStep c x (s .machine) (s .book) in said ((machineStep c x (s .machine)) .0) (k .references) (k .exits)
+    go none q = spoken x
     go (some n) q = failed-in Neither (tests c x (s .machine) (s .book)) (tests-other c x (s .machine) (s .book)) n q
 
 run-covered : (xs : List Call) (s : State) → All (λ o. Covered (o .0)) (machineRun (run xs s))

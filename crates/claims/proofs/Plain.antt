@@ -18,8 +18,7 @@ use Rattle.spec.specs.Walk.{Result, granted, failed}
 use Rattle.spec.specs.Plain.{Place, walk}
 use Rattle.spec.specs.Machine.{Machine, place}
 use Rattle.spec.specs.Book.{depth}
-use Rattle.spec.specs.declared.Call.{Call}
-use Rattle.spec.specs.Call.{addressIndexes, plain, access}
+use Rattle.spec.specs.Call.{Call, addressIndexes, plain, access}
 use Rattle.spec.specs.Count.{Counted, request, storing}
 use Rattle.spec.specs.Run.{State, lineOf, step, after, opened}
 use Rattle.spec_laws.proofs.Counts.{request-count}

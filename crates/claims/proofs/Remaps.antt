@@ -20,8 +20,7 @@ use Rattle.spec.specs.Walk.{Walk, World, Trace, granted, trace}
 use Rattle.spec.specs.Plain.{Place, hosted, levels, walk}
 use Rattle.spec.specs.Machine.{Machine, Mapping, lookup, isMapped, with, without, hostTables, hostCost, remapped, world}
 use Rattle.spec.specs.Book.{Held, find, holding, usesMapping, dropMapping}
-use Rattle.spec.specs.declared.Call.the-variants.{Root as root, Map as map, Unmap as unmap}
-use Rattle.spec.specs.Call.{machineStep}
+use Rattle.spec.specs.Call.{root, map, unmap, machineStep}
 use Rattle.spec.specs.Count.{bookStep}
 use Rattle.spec.specs.Refusal.{firstFailed, frameFits, inGuestArea, tests, refusal}
 use Rattle.spec.specs.Run.{State}

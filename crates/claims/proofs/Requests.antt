@@ -20,9 +20,7 @@ use Rattle.spec.specs.Walk.{Walk, Trace, Result, granted, failed, trace, _>>_}
 use Rattle.spec.specs.Plain.{Place, must, hosted, next}
 use Rattle.spec.specs.Machine.{Machine, world, wordIn, stored}
 use Rattle.spec.specs.Book.{depth, holding, dropWord, watched}
-use Rattle.spec.specs.declared.Call.{Call}
-use Rattle.spec.specs.declared.Call.the-variants.{Load as load, Store as store, Device as device}
-use Rattle.spec.specs.Call.{addressIndexes, plain, deviceWalk, access, machineStep}
+use Rattle.spec.specs.Call.{Call, load, store, device, addressIndexes, plain, deviceWalk, access, machineStep}
 use Rattle.spec.specs.Count.{Counted, one, hostExit, request, storing, unshadowed, bookStep}
 use Rattle.spec.specs.Refusal.{firstFailed, deviceFits, wordAligned, tests, refusal}
 use Rattle.spec.specs.Run.{State, lineOf, answered, step}
@@ -72,11 +70,11 @@ module _ (s : State) (r : Record) (m : List ℕ) (inv : Inv s r m) where
   abbrev ht : ℕ
   ht = hostTop r
 
-  -- a call with one test, which fails with 4
-  tested : (x : Call) (b : Bool) (y : After Reply) → refusal c x mach (s .book) ≡ firstFailed ((b, 4) ∷ []) → (b ≡ true → Follows x s r y) → Follows x s r (cond b y (refused r 4 m))
+  -- a call with one test, which fails with n
+  pub tested : (n : ℕ) (x : Call) (b : Bool) (y : After Reply) → refusal c x mach (s .book) ≡ firstFailed ((b, n) ∷ []) → (b ≡ true → Follows x s r y) → Follows x s r (cond b y (refused r n m))
   unfolding step
-  tested x true y e f = f refl
-  tested x false y e f = follows-by x s (at c s) r r (answer.Refused 4) (say.no 4) m (ap (answered x (at c s)) e) refl refl (at-inv inv)
+  tested n x true y e f = f refl
+  tested n x false y e f = follows-by x s (at c s) r r (answer.Refused n) (say.no n) m (ap (answered x (at c s)) e) refl refl (at-inv inv)
 
   -- the page of a granted walk is in the guest area
   pub page-in : (st : Bool) (a : ℕ) (p : Place) → (plain c mach st a) .result ≡ granted p → InGuestArea c (p .0)
@@ -128,7 +126,7 @@ module _ (s : State) (r : Record) (m : List ℕ) (inv : Inv s r m) where
 
     pub load-follows : Follows (load a) s r (loadCall r m a)
     unfolding loadCall loadOf translatedOf refusal tests
-    load-follows = judged-by (load a) s r m _ inv (tested (load a) (addressOk r a) _ refl (λ ok. loaded ok ((plain c mach false a) .result) refl))
+    load-follows = judged-by (load a) s r m _ inv (tested 4 (load a) (addressOk r a) _ refl (λ ok. loaded ok ((plain c mach false a) .result) refl))
 
     -- ---- store
     module _ (v : ℕ) where
@@ -176,7 +174,7 @@ module _ (s : State) (r : Record) (m : List ℕ) (inv : Inv s r m) where
 
       pub store-follows : Follows (store a v) s r (storeCall r m a v)
       unfolding storeCall storeOf translatedOf refusal tests
-      store-follows = judged-by (store a v) s r m _ inv (tested (store a v) (addressOk r a) _ refl (λ ok. stored-is ok ((plain c mach true a) .result) refl))
+      store-follows = judged-by (store a v) s r m _ inv (tested 4 (store a v) (addressOk r a) _ refl (λ ok. stored-is ok ((plain c mach true a) .result) refl))
 
       -- ---- device store
       device-step : deviceOk r a ≡ true
@@ -244,4 +242,4 @@ module _ (s : State) (r : Record) (m : List ℕ) (inv : Inv s r m) where
 
       pub device-follows : Follows (device a v) s r (deviceCall r m a v)
       unfolding deviceCall deviceOf refusal tests
-      device-follows = judged-by (device a v) s r m _ inv (tested (device a v) (deviceOk r a) _ refl (λ ok. device-is ok ((deviceWalk c mach a) .result) refl))
+      device-follows = judged-by (device a v) s r m _ inv (tested 4 (device a v) (deviceOk r a) _ refl (λ ok. device-is ok ((deviceWalk c mach a) .result) refl))

@@ -10,7 +10,7 @@ use borrow.Author.Tests.{eqb-false}
 use mathlib.Core.Bool.{Bool, true, false, cond}
 use mathlib.Core.List.{List, [], _∷_}
 use mathlib.Core.Option.{Option, none, some}
-use lib.Dec.{eqb}
+use lib.Dec.{eqb, leb}
 use lib.ListN.{length, drop, set, getD, length-drop, length-set}
 use lib.Seq.{getD-drop, ext-getD}
 use Rattle.spec.specs.declared.Fault.{Fault}
@@ -20,9 +20,8 @@ use Rattle.spec.specs.Config.{Config, guestBase}
 use Rattle.spec.specs.Entry.{present, pageOf, wordOf, indexes}
 use Rattle.spec.specs.Plain.{next}
 use Rattle.spec.specs.Machine.{place}
-use Rattle.spec.specs.declared.Call.{Call}
-use Rattle.spec.specs.declared.Call.the-variants.{Root as root, Map as map, Unmap as unmap, SetMark as setMark, ClearMark as clearMark, Load as load, Store as store, Device as device}
-use Rattle.spec.specs.Refusal.{firstFailed, frameFits, inGuestArea, wordsFit, areasFit, openRefusal}
+use Rattle.spec.specs.Call.{Call, root, map, unmap, setMark, clearMark, load, store, device, forecast}
+use Rattle.spec.specs.Refusal.{firstFailed, frameFits, inGuestArea, wordsFit, areasFit, openRefusal, forecastRoom}
 use Rattle.spec.specs.Prefix.{All}
 use Rattle.entry.proofs.Entries.{word-fits}
 use Rattle.pool.specs.declared.Area.{Area}
@@ -62,14 +61,18 @@ use Rattle.drops.proofs.Outside.{scan-out, prefix-out}
 use Rattle.entry.specs.declared.HostPhysical.{HostPhysical}
 use Rattle.record.specs.declared.Head.{Head}
 use Rattle.translate.specs.declared.Held.{Held as Holding}
+use Rattle.forecast.specs.Forecast.{addressOf, onward, listOf, forecastOf, start}
+use Rattle.forecast.specs.declared.Outlook.{Outlook}
+use Rattle.forecast.specs.declared.Next.{Next}
+use Rattle.forecast.specs.declared.Next.the-variants.{Go, Damaged as Broken}
 use Rattle.request.specs.Access.{loadOf, putWordOf, storeOf, deviceBy, deviceOf}
 use Rattle.translate.proofs.Fits.{ArrivedIn}
 use Rattle.translate.proofs.Leaves.{Leaves, translate-leaves}
 use Rattle.request.proofs.Leaves.{put-leaves}
 use Rattle.request.proofs.Device.{device-in}
-use Rattle.calls.specs.Calls.{hostTop, heldOf, rootOf, headHeld, headHost, nothing, ended, refused, judged, withHeld, withHost, servedBy, addressOk, deviceOk, depthAt, translatedOf, loadCall, storeCall, deviceCall, rootCall, droppedBy, unmappedOf, mappedBy, mapCall, unmapCall, heldAfter, markedOf, callOf, keysOf, setMarkCall, clearMarkCall, openCall}
+use Rattle.calls.specs.Calls.{hostTop, heldOf, rootOf, headHeld, headHost, nothing, ended, refused, judged, withHeld, withHost, servedBy, addressOk, deviceOk, depthAt, translatedOf, loadCall, storeCall, deviceCall, rootCall, droppedBy, unmappedOf, mappedBy, mapCall, unmapCall, heldAfter, markedOf, callOf, keysOf, setMarkCall, clearMarkCall, forecastCall, openCall}
 use Rattle.calls.proofs.Ranges.{fits-held}
-use Rattle.claims.specs.Safety.{GuestKept, Numbered, RefusalKept, Keeps, OpenKeeps}
+use Rattle.claims.specs.Safety.{GuestKept, Numbered, RefusalKept, Untouched, Foretells, Keeps, OpenKeeps}
 use Rattle.claims.specs.Run.{guestArea}
 use Rattle.claims.proofs.Puts.{area-store}
 use Rattle.claims.proofs.Paths.{held-same, loadedBy, storedBy, writtenIn}
@@ -135,7 +138,7 @@ module _ (r : Record) (m : List ℕ) where
 
   -- ---- refusals
   damage-kept : (n : List ℕ) → Tables r m n → Kept r m (refused r 11 n)
-  damage-kept n x = record { numbered = (omega arith, omega arith); unit = refl; guest = guest-kept refl x; whole = λ e. absurd (e refl) }
+  damage-kept n x = record { numbered = tt; unit = refl; guest = guest-kept refl x; whole = λ e. absurd (e refl) }
 
   refusal-kept : (n : ℕ) → Numbered n → Kept r m (refused r n m)
   refusal-kept n l = record { numbered = l; unit = refl; guest = guest-kept refl none-changed; whole = λ e. refl }
@@ -146,7 +149,7 @@ module _ (r : Record) (m : List ℕ) where
     where
       go : (b : Bool) → fitsOf r (length m) ≡ b → Kept r m (cond b e (refused r 3 m))
       go true q = f q
-      go false q = refusal-kept 3 (omega arith, omega arith)
+      go false q = refusal-kept 3 tt
 
   tested-kept : (b : Bool) (e : After Reply) (n : ℕ) → Numbered n → Kept r m e → Kept r m (cond b e (refused r n m))
   tested-kept true e n l k = k
@@ -269,7 +272,7 @@ module _ (c : Config) (p : Pool) (m : List ℕ) where
       go : (w : Way) → NotLeaves m (t .memory) w → ChangeKept c m (yields (changeBy p (t .result .pool) n w) (t .memory))
       go (To g) k = record { same = x; numbered = λ z. absurd (z refl); whole = λ z e. absurd (z refl) }
       go Not k = record { same = x; numbered = λ z. l; whole = λ z e. k }
-      go Damaged k = record { same = x; numbered = λ z. (omega arith, omega arith); whole = λ z e. absurd (e refl) }
+      go Damaged k = record { same = x; numbered = λ z. tt; whole = λ z e. absurd (e refl) }
 
   map-kept : (g f : ℕ) (w : Bool) → ChangeKept c m (mapOf c p m g f w)
   unfolding mapOf
@@ -280,10 +283,10 @@ module _ (c : Config) (p : Pool) (m : List ℕ) where
 
       go : (a b : Bool) → ChangeKept c m (cond a (cond b (changedBy p 10 t) (changed p 9 m)) (changed p 8 m))
       go true true =
-          change-kept 10 t (omega arith, omega arith) (insert-out (hostArea c) [] p m (indexes (c .levels) g) (hostEntry f w) (indexes-narrow (c .levels) g))
+          change-kept 10 t tt (insert-out (hostArea c) [] p m (indexes (c .levels) g) (hostEntry f w) (indexes-narrow (c .levels) g))
           (insert-refuses (hostArea c) [] p m (indexes (c .levels) g) (hostEntry f w))
-      go true false = stay-kept 9 (omega arith, omega arith)
-      go false b = stay-kept 8 (omega arith, omega arith)
+      go true false = stay-kept 9 tt
+      go false b = stay-kept 8 tt
 
   unmap-kept : (g : ℕ) → ChangeKept c m (unmapOf c p m g)
   unfolding unmapOf
@@ -294,9 +297,9 @@ module _ (c : Config) (p : Pool) (m : List ℕ) where
 
       go : (a : Bool) → ChangeKept c m (cond a (changedBy p 12 t) (changed p 8 m))
       go true =
-          change-kept 12 t (omega arith, omega arith) (remove-out (hostArea c) true p m (indexes (c .levels) g) (indexes-narrow (c .levels) g))
+          change-kept 12 t tt (remove-out (hostArea c) true p m (indexes (c .levels) g) (indexes-narrow (c .levels) g))
           (remove-refuses (hostArea c) true p m (indexes (c .levels) g))
-      go false = stay-kept 8 (omega arith, omega arith)
+      go false = stay-kept 8 tt
 
 -- ---- the calls
 -- the number of the first test that failed has what the numbers of all tests have
@@ -344,7 +347,7 @@ module _ (r : Record) (m : List ℕ) where
   unfolding loadCall loadOf translatedOf
   load-kept a =
       let o = translatedOf r m false a in
-      judged-kept r m _ (λ f. tested-kept r m (addressOk r a) _ 4 (omega arith, omega arith)
+      judged-kept r m _ (λ f. tested-kept r m (addressOk r a) _ 4 tt
       (loaded-kept a o (shadow-tables r m (o .memory) (leaves f false a .same)) (o .result .walked)))
 
   -- a store that came to word i of host frame t; n is the memory after its translation
@@ -386,14 +389,14 @@ module _ (r : Record) (m : List ℕ) where
   unfolding storeCall storeOf translatedOf
   store-kept a v =
       let o = translatedOf r m true a in
-      judged-kept r m _ (λ f. tested-kept r m (addressOk r a) _ 4 (omega arith, omega arith)
+      judged-kept r m _ (λ f. tested-kept r m (addressOk r a) _ 4 tt
       (let l = leaves f true a in
       stored-kept (fits-layout r (length m) f) a v o (shadow-tables r m (o .memory) (l .same)) (l .held .0) (o .result .walked) (l .arrived)))
 
   device-kept : (a v : ℕ) → Kept r m (deviceCall r m a v)
   unfolding deviceCall deviceOf
   device-kept a v =
-      judged-kept r m _ (λ f. tested-kept r m (deviceOk r a) _ 4 (omega arith, omega arith)
+      judged-kept r m _ (λ f. tested-kept r m (deviceOk r a) _ 4 tt
       (go (fits-layout r (length m) f) (walkedOf (configOf r) (hostTop r) m 0 (next true true (pageOf a) true)) (device-in (configOf r) (hostTop r) m (pageOf a))))
     where
       go : Fits r (length m) → (w : Walked) → ArrivedIn (configOf r) w → Kept r m (servedBy r (deviceBy (configOf r) m (heldOf r) a v w))
@@ -406,7 +409,7 @@ module _ (r : Record) (m : List ℕ) where
   root-kept : (g : ℕ) → Kept r m (rootCall r m g)
   unfolding rootCall
   root-kept g =
-      judged-kept r m _ (λ f. tested-kept r m (frameFits (configOf r) g) _ 8 (omega arith, omega arith) (guest-kept (root-layout r (headHeld (headOf r) nothing) g ∙ held-layout r nothing) (none-changed r m)))
+      judged-kept r m _ (λ f. tested-kept r m (frameFits (configOf r) g) _ 8 tt (guest-kept (root-layout r (headHeld (headOf r) nothing) g ∙ held-layout r nothing) (none-changed r m)))
 
   unmapped-kept : (p : Pool) (n : List ℕ) (g : ℕ) → r .pools .shadow .fresh ≤ r .layout .shadows → Tables r m n → Kept r m (unmappedOf r p n g)
   unfolding unmappedOf
@@ -470,18 +473,72 @@ module _ (r : Record) (m : List ℕ) where
   set-kept : (a n : ℕ) → Kept r m (setMarkCall r m a n)
   unfolding setMarkCall setRefusal
   set-kept a n =
-      let l : (Numbered 4 × (Numbered 5 × (Numbered 6 × (Numbered 7 × Unit {0})))) = ((omega arith, omega arith), ((omega arith, omega arith), ((omega arith, omega arith), ((omega arith, omega arith), tt)))) in
+      let l : (Numbered 4 × (Numbered 5 × (Numbered 6 × (Numbered 7 × Unit {0})))) = (tt, (tt, (tt, (tt, tt)))) in
       marked-kept (number (setRefusal (r .layout .levels) (keysOf r) a n)) a n (withKey (r .guest .marks) (keyAt (r .layout .levels) n a)) (number-in Numbered (setTests (r .layout .levels) (keysOf r) a n) l)
 
   clear-kept : (a n : ℕ) → Kept r m (clearMarkCall r m a n)
   unfolding clearMarkCall clearRefusal
   clear-kept a n =
-      let l : (Numbered 4 × (Numbered 5 × (Numbered 6 × Unit {0}))) = ((omega arith, omega arith), ((omega arith, omega arith), ((omega arith, omega arith), tt))) in
+      let l : (Numbered 4 × (Numbered 5 × (Numbered 6 × Unit {0}))) = (tt, (tt, (tt, tt))) in
       marked-kept (number (clearRefusal (r .layout .levels) (keysOf r) a n)) a n (withoutKey (r .guest .marks) (keyAt (r .layout .levels) n a)) (number-in Numbered (clearTests (r .layout .levels) (keysOf r) a n) l)
+
+-- ---- forecast
+
+-- damage ends a list with 11
+list-tells : (c : Config) (ht : ℕ) (m : List ℕ) (h : Holding) (top : ℕ) (marks ks : List ℕ) (o : Outlook) (xs : List ℕ) → Foretells (listOf c ht m h top marks ks o xs)
+unfolding listOf
+list-tells c ht m h top marks ks o [] = tt
+list-tells c ht m h top marks ks o (a ∷ xs) = go (n .result) (λ o. list-tells c ht m h top marks (n .memory) o xs)
+  where
+    n : After Next
+    n = addressOf c ht m h top marks ks o a
+
+    go : (x : Next) → ((o : Outlook) → Foretells (listOf c ht m h top marks (n .memory) o xs))
+        → Foretells (onward x (λ o. listOf c ht m h top marks (n .memory) o xs))
+    go (Go o) f = f o
+    go Broken f = inr (inr refl)
+
+module _ (r : Record) (m xs : List ℕ) where
+  abbrev told : Answer
+  told = forecastOf (configOf r) (hostTop r) m (heldOf r) (rootOf r) (keysOf r) xs
+
+  forecast-untouched : Untouched r m (forecastCall r m xs)
+  unfolding forecastCall
+  forecast-untouched = go (fitsOf r (length m)) (leb (length xs) forecastRoom)
+    where
+      go : (a b : Bool) → Untouched r m (cond a (cond b (ended r told m) (refused r 14 m)) (refused r 3 m))
+      go true true = record { unit = refl; memory = refl }
+      go true false = record { unit = refl; memory = refl }
+      go false b = record { unit = refl; memory = refl }
+
+  forecast-tells : Foretells (forecastCall r m xs .result .answer)
+  unfolding forecastCall forecastOf
+  forecast-tells = go (fitsOf r (length m)) (leb (length xs) forecastRoom)
+    where
+      go : (a b : Bool) → Foretells (cond a (cond b (ended r told m) (refused r 14 m)) (refused r 3 m) .result .answer)
+      go true true = list-tells (configOf r) (hostTop r) m (heldOf r) (rootOf r) (keysOf r) _ (start (r .pools .shadow .used)) xs
+      go true false = inr (inl refl)
+      go false b = inl refl
+
+  untouched-kept : (e : After Reply) → Untouched r m e → (x : Answer) → Foretells x → Keeps r m e x
+  untouched-kept e u answer.Ok f = absurd f
+  untouched-kept e u (answer.Value v n y) f = absurd f
+  untouched-kept e u (answer.Done n y) f = absurd f
+  untouched-kept e u (answer.Faulted z n y) f = absurd f
+  untouched-kept e u (answer.Refused n) f = record {
+    numbered = elim f [ inl e ↦ rw e tt | inr g ↦ elim g [ inl e ↦ rw e tt | inr e ↦ rw e tt ] ];
+    unit = u .unit;
+    guest = record { layout = ap configOf (u .unit); long = ap length (u .memory); area = ap (guestArea r) (u .memory) };
+    whole = λ z. u .memory;
+  }
+  untouched-kept e u (answer.Figures n y t) f = u
+
+  forecast-kept : Kept r m (forecastCall r m xs)
+  forecast-kept = untouched-kept (forecastCall r m xs) forecast-untouched (forecastCall r m xs .result .answer) forecast-tells
 
 -- ---- Demand 1. Any call, whatever its numbers, the record and the memory are, comes to an answer, a fault or a numbered refusal,
 -- and the memory keeps its length. A fault leaves every guest word. A refusal leaves everything, but that 11, for damaged tables,
--- may alter host and shadow frames
+-- may alter host and shadow frames. Figures leave everything
 pub demand-1 : (x : Call) (r : Record) (m : List ℕ) → Keeps r m (callOf x r m) (callOf x r m .result .answer)
 unfolding callOf
 demand-1 (root g) r m = root-kept r m g
@@ -492,6 +549,7 @@ demand-1 (clearMark a n) r m = clear-kept r m a n
 demand-1 (load a) r m = load-kept r m a
 demand-1 (store a v) r m = store-kept r m a v
 demand-1 (device a v) r m = device-kept r m a v
+demand-1 (forecast xs) r m = forecast-kept r m xs
 
 open-numbers : (words h s : ℕ) → refusalOf words h s ≢ 0 → (refusalOf words h s ≡ 1) ⊎ (refusalOf words h s ≡ 2)
 unfolding refusalOf openRefusal
@@ -516,6 +574,7 @@ same-length x r m = go (callOf x r m .result .answer) (demand-1 x r m)
     go (answer.Done n y) k = k .long
     go (answer.Faulted z n y) k = k .long
     go (answer.Refused n) k = k .guest .long
+    go (answer.Figures n y t) k = ap length (k .memory)
 
 pub same-length-open : (m : List ℕ) (h s : ℕ) → length (openCall m h s .memory) ≡ length m
 same-length-open m h s = go (openCall m h s .result .answer) (demand-1-open m h s)
@@ -526,6 +585,7 @@ same-length-open m h s = go (openCall m h s .result .answer) (demand-1-open m h 
     go (answer.Done n y) k = absurd k
     go (answer.Faulted z n y) k = absurd k
     go (answer.Refused n) k = ap length (k .2)
+    go (answer.Figures n y t) k = absurd k
 
 module _ (x : Call) (r : Record) (m : List ℕ) where
   -- a fault leaves the guest area
@@ -544,3 +604,8 @@ module _ (x : Call) (r : Record) (m : List ℕ) where
   damage-keeps e =
       let k : RefusalKept r m (callOf x r m) 11 = subst (Keeps r m (callOf x r m)) e (demand-1 x r m) in
       (k .unit, k .guest)
+
+-- a forecast leaves the record and every word, also where it is refused with 11, and says its figures or 3, 14 or 11
+pub forecast-keeps : (xs : List ℕ) (r : Record) (m : List ℕ) → let e = callOf (forecast xs) r m in Untouched r m e × Foretells (e .result .answer)
+unfolding callOf
+forecast-keeps xs r m = (forecast-untouched r m xs, forecast-tells r m xs)

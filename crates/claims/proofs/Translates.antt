@@ -146,7 +146,7 @@ module _ (s : State) (r : Record) (m : List ℕ) (inv : Inv s r m) (st : Bool) (
       ∙ ap (λ js. plainWalked ((trace w (levels c st deep t right js)) .result) ((c .levels - deep) + (trace w (levels c st deep t right js)) .count)) e
 
   -- served through a path whose shadow part comes to (t, right), e exits so far: the plain walk's result
-  served-is : (n : List ℕ) → Stands c mach ht n → (t : ℕ) (right : Bool) (h : Holding) (e : ℕ) → deep ≤ c .levels → InGuestArea c t
+  pub served-is : (n : List ℕ) → Stands c mach ht n → (t : ℕ) (right : Bool) (h : Holding) (e : ℕ) → deep ≤ c .levels → InGuestArea c t
       → (trace w (walk c st (mach .root) path)) .result ≡ granted (t, right)
       → let d = trace w (directPart c st deep (t, right) (addressIndexes c a)) in
       servedOf c ht n h st a deep t right e ≡ translation h (e + hostExit (d .result)) (plainWalked result ((c .levels - deep) + d .count))
@@ -187,7 +187,7 @@ module _ (s : State) (r : Record) (m : List ℕ) (inv : Inv s r m) (st : Bool) (
       ap (λ x. framesAt c ht m x (onto [] path)) (inv .root) ∙ ap (λ p. framesAt c ht m (mach .root) (onto [] p)) (sym at)
       ∙ valid-frame c mach ht m (found.memory-stands s r m inv) (found.root-small s r m inv) (found.few s r m inv) h v
 
-  held-granted : (h : Held) → deep ≤ c .levels → find path (s .book .held) ≡ some h → servesOf st deep (h .right) ≡ true
+  pub held-granted : (h : Held) → deep ≤ c .levels → find path (s .book .held) ≡ some h → servesOf st deep (h .right) ≡ true
       → (part .result ≡ granted (frames r m (onto [] path), h .right)) × InGuestArea c (frames r m (onto [] path))
   unfolding again seen servesOf
   held-granted h low e sv = (go st sv, subst (InGuestArea c) (sym (frame-is h v at)) (inside-area c mach ht m (found.memory-stands s r m inv) (found.root-small s r m inv) (found.few s r m inv) h v))
@@ -228,7 +228,7 @@ module _ (s : State) (r : Record) (m : List ℕ) (inv : Inv s r m) (st : Bool) (
 
   -- ---- a path that does not serve, and whose shadow part faults
 
-  walked-is : deep ≤ c .levels → walkedOf c ht m 0 (walk c st (r .guest .root .0) path) ≡ plainWalked (part .result) (part .count)
+  pub walked-is : deep ≤ c .levels → walkedOf c ht m 0 (walk c st (r .guest .root .0) path) ≡ plainWalked (part .result) (part .count)
   walked-is low =
       ap (λ x. walkedOf c ht m 0 (walk c st x path)) (inv .root)
       ∙ root-walked c mach ht m (found.memory-stands s r m inv) st (mach .root) path (found.root-small s r m inv) (indexes-all (c .levels - deep) (pageOf a / 2 ^ (9 * deep)))
@@ -274,7 +274,7 @@ module _ (s : State) (r : Record) (m : List ℕ) (inv : Inv s r m) (st : Bool) (
       go true q =
           ap (λ (x : Place). x .0) (granted-is (t, right) (v .frame, right) (sym q ∙ ap (λ (x : Trace Fault Place). x .result) (sym (walk-same w c (mach .root) path (t, right) q)) ∙ comes))
 
-  new-here : (t : ℕ) (right : Bool) → part .result ≡ granted (t, right) → (frames r m (onto [] path) ≡ t) × InGuestArea c t
+  pub new-here : (t : ℕ) (right : Bool) → part .result ≡ granted (t, right) → (frames r m (onto [] path) ≡ t) × InGuestArea c t
   new-here t right e =
       let v = new-valid t right e in
       let f = new-frame t right e in
@@ -491,7 +491,7 @@ module _ (s : State) (r : Record) (m : List ℕ) (inv : Inv s r m) (st : Bool) (
       go : (o : Option Held) → find path (s .book .held) ≡ o
           → Translates s r m st a (request c mach (s .book) st a deep) (foundBy c ht m hold (r .guest .root .0) st a deep (foundOf c m hold a deep))
       go none e =
-          subst (λ x. Translates s r m st a (request c mach (s .book) st a deep) (foundBy c ht m hold (r .guest .root .0) st a deep x)) (sym (found.found-none s r m inv a low e .1))
+          subst (λ x. Translates s r m st a (request c mach (s .book) st a deep) (foundBy c ht m hold (r .guest .root .0) st a deep x)) (sym (found.found-none s r m inv a low e))
           (missed-path low (ap (serves st deep) e))
       go (some h) e =
           subst (λ x. Translates s r m st a (request c mach (s .book) st a deep) (foundBy c ht m hold (r .guest .root .0) st a deep x)) (sym (found.found-some s r m inv a low h e))

@@ -101,6 +101,7 @@ References x (answer.Value v n e) = n ≡ x
 References x (answer.Done n e) = n ≡ x
 References x (answer.Faulted y n e) = n ≡ x
 References x (answer.Refused n) = Unit {0}
+References x (answer.Figures n e t) = n ≡ x
 
 -- a call on memory m is granted with k references and x exits and touches word i of host frame t: v stands there, and no other
 -- word of the guest area changes

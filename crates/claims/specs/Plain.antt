@@ -14,8 +14,7 @@ use Rattle.spec.specs.Answer.{Line, line, faultLine}
 use Rattle.spec.specs.Entry.{wordOf, pageOf, indexes}
 use Rattle.spec.specs.Plain.{walk}
 use Rattle.spec.specs.Machine.{place}
-use Rattle.spec.specs.declared.Call.{Call}
-use Rattle.spec.specs.declared.Call.the-variants.{Load as load, Store as store}
+use Rattle.spec.specs.Call.{Call, load, store}
 use Rattle.words.specs.Words as words
 use Rattle.walk.specs.declared.Walked.{Walked}
 use Rattle.walk.specs.declared.Walked.the-variants as walked
@@ -77,6 +76,7 @@ Unrefused (answer.Value v n x) = Unit {0}
 Unrefused (answer.Done n x) = Unit {0}
 Unrefused (answer.Faulted y n x) = Unit {0}
 Unrefused (answer.Refused n) = ⊥
+Unrefused (answer.Figures n x t) = Unit {0}
 
 -- ---- words read
 
@@ -87,6 +87,7 @@ Grants (answer.Value w n x) = Unit {0}
 Grants (answer.Done n x) = Unit {0}
 Grants (answer.Faulted y n x) = ⊥
 Grants (answer.Refused n) = ⊥
+Grants (answer.Figures n x t) = ⊥
 
 -- a request is granted, and n table words were read
 abbrev pub GrantedWith : ℕ → Answer → Type 0
@@ -95,3 +96,4 @@ GrantedWith n (answer.Value w k x) = k ≡ n
 GrantedWith n (answer.Done k x) = k ≡ n
 GrantedWith n (answer.Faulted y k x) = ⊥
 GrantedWith n (answer.Refused k) = ⊥
+GrantedWith n (answer.Figures k x t) = ⊥

@@ -1,13 +1,13 @@
 -- A run of the unit: an opening and a list of calls, by the very definitions that the unit's contracts cite.
 -- Assumes nothing.
 use mathlib.Core.Logic.{_≢_}
-use Prim.Native.Nat.{ℕ, _*_}
+use Prim.Native.Nat.{ℕ, _*_, max}
 use mathlib.Core.List.{List, [], _∷_}
 use lib.ListN.{drop}
 use Rattle.spec.specs.Config.{guestBase}
 use Rattle.spec.specs.Answer as say
 use Rattle.spec.specs.Answer.{Line, line}
-use Rattle.spec.specs.declared.Call.{Call}
+use Rattle.spec.specs.Call.{Call}
 use Rattle.spec.specs.Run.{State}
 use Rattle.record.specs.declared.Record.{Record}
 use Rattle.record.specs.Record.{configOf}
@@ -31,6 +31,11 @@ unfoldable pub unitAfter : List Call → Record → List ℕ → After Reply →
 unitAfter [] r m e = e
 unitAfter (x ∷ xs) r m e = unitAfter xs (callOf x r m .result .unit) (callOf x r m .memory) (callOf x r m)
 
+-- the greatest number of shadow tables in use, by the record's own count: before a list of calls and after each
+unfoldable pub tablesRun : List Call → Record → List ℕ → ℕ
+tablesRun [] r m = r .pools .shadow .used
+tablesRun (x ∷ xs) r m = max (r .pools .shadow .used) (tablesRun xs (callOf x r m .result .unit) (callOf x r m .memory))
+
 -- after an opening and a list of calls
 abbrev pub runOf : List ℕ → ℕ → ℕ → List Call → After Reply
 runOf m h s xs = let e : After Reply = openCall m h s in unitAfter xs (e .result .unit) (e .memory) e
@@ -52,3 +57,4 @@ Covered (say.value v r e) = Unit {0}
 Covered (say.done r e) = Unit {0}
 Covered (say.fault x l g r e) = Unit {0}
 Covered (say.no n) = Neither n
+Covered (say.figures r e t) = Unit {0}

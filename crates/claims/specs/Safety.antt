@@ -2,11 +2,13 @@
 -- Assumes nothing.
 use mathlib.Core.Path.{_≡_}
 use mathlib.Core.Logic.{_≢_, _⊎_}
-use Prim.Native.Nat.{ℕ, _+_, _*_, _<_, _≤_}
-use mathlib.Core.List.{List}
+use Prim.Native.Nat.{ℕ, _+_, _*_, _<_}
+use mathlib.Core.List.{List, [], _∷_}
+use lib.Dec.{T, eqb}
 use lib.ListN.{length, drop, set}
 use Rattle.spec.specs.declared.Answer.{Answer}
 use Rattle.spec.specs.declared.Answer.the-variants as answer
+use Rattle.spec.specs.Prefix.{any}
 use Rattle.record.specs.declared.Record.{Record}
 use Rattle.record.specs.Record.{configOf, zeros}
 use Rattle.claims.specs.Run.{guestArea}
@@ -29,9 +31,12 @@ pub record OneWord (r : Record) (m : List ℕ) (e : After Reply) : Type 0 where
   pub inside : place < length (guestArea r m)
   pub area : guestArea r (e .memory) ≡ set (guestArea r m) place word
 
--- the numbers of the refusals of later calls
+-- the numbers of the refusals of later calls; 1 and 2 are an opening's, 13 is a job's
+abbrev pub refusals : List ℕ
+refusals = 3 ∷ 4 ∷ 5 ∷ 6 ∷ 7 ∷ 8 ∷ 9 ∷ 10 ∷ 11 ∷ 12 ∷ 14 ∷ []
+
 abbrev pub Numbered : ℕ → Type 0
-Numbered n = (3 ≤ n) × (n ≤ 12)
+Numbered n = T (any (eqb n) refusals)
 
 -- a refusal keeps the record and all of the memory, but that 11, for damaged tables, may alter host and shadow frames
 pub record RefusalKept (r : Record) (m : List ℕ) (e : After Reply) (n : ℕ) : Type 0 where
@@ -40,13 +45,28 @@ pub record RefusalKept (r : Record) (m : List ℕ) (e : After Reply) (n : ℕ) :
   pub guest : GuestKept r m e
   pub whole : n ≢ 11 → e .memory ≡ m
 
--- a granted store changes one guest word; a fault, a refusal, a load and a call without a value change none
+-- record and memory are handed back as they were
+pub record Untouched (r : Record) (m : List ℕ) (e : After Reply) : Type 0 where
+  pub unit : e .result .unit ≡ r
+  pub memory : e .memory ≡ m
+
+-- what a forecast may say: figures, or one of its three refusals
+abbrev pub Foretells : Answer → Type 0
+Foretells answer.Ok = ⊥
+Foretells (answer.Value v n x) = ⊥
+Foretells (answer.Done n x) = ⊥
+Foretells (answer.Faulted y n x) = ⊥
+Foretells (answer.Refused n) = (n ≡ 3) ⊎ ((n ≡ 14) ⊎ (n ≡ 11))
+Foretells (answer.Figures n x t) = Unit {0}
+
+-- a granted store changes one guest word; a fault, a refusal, a load and a call without a value change none; figures change nothing
 abbrev pub Keeps : Record → List ℕ → After Reply → Answer → Type 0
 Keeps r m e answer.Ok = GuestKept r m e
 Keeps r m e (answer.Value v n x) = GuestKept r m e
 Keeps r m e (answer.Done n x) = OneWord r m e
 Keeps r m e (answer.Faulted y n x) = GuestKept r m e
 Keeps r m e (answer.Refused n) = RefusalKept r m e n
+Keeps r m e (answer.Figures n x t) = Untouched r m e
 
 -- an opening: granted, it keeps the guest words; refused, it returns a record of zeros and leaves the memory
 abbrev pub OpenKeeps : List ℕ → ℕ → ℕ → After Reply → Answer → Type 0
@@ -55,3 +75,4 @@ OpenKeeps m h s e (answer.Value v n x) = ⊥
 OpenKeeps m h s e (answer.Done n x) = ⊥
 OpenKeeps m h s e (answer.Faulted y n x) = ⊥
 OpenKeeps m h s e (answer.Refused n) = ((n ≡ 1) ⊎ (n ≡ 2)) × (e .result .unit ≡ zeros) × (e .memory ≡ m)
+OpenKeeps m h s e (answer.Figures n x t) = ⊥

@@ -101,12 +101,12 @@ guests-agree F G gs d x (i ∷ is) e h =
     (h .0 ∙ sym (e x (inl refl)), subst (λ f. f < 65536) (sym (e x (inl refl))) (h .1), guests-agree F G gs (d + 1) (i ∷ x) is (λ y k. e y (inr k)) (h .2))
 
 -- ---- the paths of the list
-entries-paths : (w : Held → ℕ) (hs : List Held) → run.paths (entries w hs) ≡ paths hs
+pub entries-paths : (w : Held → ℕ) (hs : List Held) → run.paths (entries w hs) ≡ paths hs
 unfolding run.paths entries
 entries-paths w [] = refl
 entries-paths w (h ∷ hs) = ap (λ ps. h .path ∷ ps) (entries-paths w hs)
 
-entries-solid : (w : Held → ℕ) (hs : List Held) → All (λ h. present (w h) ≡ true) hs → Solid (entries w hs)
+pub entries-solid : (w : Held → ℕ) (hs : List Held) → All (λ h. present (w h) ≡ true) hs → Solid (entries w hs)
 unfolding entries Solid
 entries-solid w [] a = tt
 entries-solid w (h ∷ hs) a = (a .0, entries-solid w hs (a .1))

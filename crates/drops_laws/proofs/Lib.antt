@@ -5,3 +5,4 @@ pub mod Find
 pub mod Drops
 pub mod Fill
 pub mod Valid
+pub mod Tables

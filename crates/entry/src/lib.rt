@@ -1,8 +1,9 @@
 // The three address sorts and the bits of an entry. What each function yields is what the specification's definition gives.
 ghost use mathlib.Core.Path.{_≡_};
+ghost use mathlib.Core.Bool.{_&&_};
 ghost use Prim.Native.Nat.{_+_, _*_, _<_};
 ghost use Rattle.spec.specs.Config.{frameBits};
-ghost use Rattle.spec.specs.Refusal.{addressFits};
+ghost use Rattle.spec.specs.Refusal.{addressFits, wordAligned};
 ghost use Rattle.entry.specs.Levels.{ofLevels};
 ghost use Rattle.spec.specs.Entry.{present, writable, switch, frameOf, malformed, index, pageOf};
 
@@ -29,6 +30,18 @@ impl GuestVirtual {
     {
         let moved = std::num::wrapping_add_u64(self.0, 1u64 << (11 + 9 * levels));
         moved >> (12 + 9 * levels) == 0
+    }
+
+    // Is it the address of a word that tables of that many levels translate?
+    pub fn names_word(self, levels: u64) -> bool
+        requires { ⌜ levels < 6 ⌝ }
+        ensures { λ r. ⌜ r ≡ (addressFits (ofLevels levels) (self .0) && wordAligned (self .0)) ⌝ }
+    {
+        if self.fits(levels) {
+            self.0 % 8 == 0
+        } else {
+            false
+        }
     }
 
     // The page number: the address without its offset. Its bits above the indexes repeat the sign; no index takes them.

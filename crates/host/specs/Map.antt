@@ -8,8 +8,7 @@ use Rattle.spec.specs.Config.{Config}
 use Rattle.spec.specs.Entry.{indexes}
 use Rattle.spec.specs.Machine.{Machine, Mapping, with, without}
 use Rattle.spec.specs.Book.{Book}
-use Rattle.spec.specs.declared.Call.{Call}
-use Rattle.spec.specs.declared.Call.the-variants.{Map as map, Unmap as unmap}
+use Rattle.spec.specs.Call.{Call, map, unmap}
 use Rattle.spec.specs.Refusal.{frameFits, inGuestArea, refusal}
 use Rattle.pool.specs.declared.Area.{Area}
 use Rattle.pool.specs.declared.Pool.{Pool}

@@ -11,11 +11,11 @@ use lib.ListN.{length, drop}
 use Rattle.spec.specs.declared.Answer.{Answer}
 use Rattle.spec.specs.Answer.{line}
 use Rattle.spec.specs.Run.{State}
-use Rattle.spec.specs.declared.Call.{Call}
 use Rattle.record.specs.declared.Record.{Record}
 use Rattle.record.specs.Record.{zeros}
 use Rattle.words.specs.After.{After}
 use Rattle.calls.specs.Calls.{openCall}
+use Rattle.job_records.specs.declared.Call.{Call}
 use Rattle.job_records.specs.declared.Job.{Job}
 use Rattle.job_records.specs.declared.Job.the-variants as job
 use Rattle.job_run.specs.declared.Ran.{Ran}

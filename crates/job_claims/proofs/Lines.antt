@@ -10,13 +10,14 @@ use native.Mathlib.Decide.{ℕ-discrete}
 use Rattle.spec.specs.Answer.{line}
 use Rattle.spec.specs.Config.{guestBase}
 use Rattle.spec.specs.Run.{State, step}
-use Rattle.spec.specs.declared.Call.{Call}
 use Rattle.record.specs.declared.Record.{Record}
 use Rattle.record.specs.Record.{configOf}
 use Rattle.record.specs.Open.{refusalOf}
 use Rattle.record.proofs.Opening.{refused-opening, granted-opening}
+use Rattle.job_records.specs.declared.Call.{Call}
 use Rattle.job_records.specs.declared.Job.{Job}
 use Rattle.job_records.specs.declared.Job.the-variants as job
+use Rattle.job_records.specs.Records.{asked}
 use Rattle.job_run.specs.Run.{runOf}
 use Rattle.calls.specs.Calls.{callOf}
 use Rattle.claims.proofs.Invariant.{Inv, at}
@@ -60,14 +61,15 @@ module _ (m₀ : List ℕ) where
   unfolding runOf
   calls-alike x none o r m i = record { says = rw (i .0); stands = rw (i .0) (refl, i .1) }
   calls-alike x (some k) o r m i =
-      let f = follows x k r m (i .2) in
-      let now : step x (at (configOf r) k) ≡ step x k = ap (step x) (at-self (configOf r) k (i .1)) in
+      let y = asked x in
+      let f = follows y k r m (i .2) in
+      let now : step y (at (configOf r) k) ≡ step y k = ap (step y) (at-self (configOf r) k (i .1)) in
       record {
         says = rw (i .0) (f .says ∙ ap (λ u. u .0) now);
         stands = rw (i .0) (
           refl,
           sym (f .config ∙ ap (λ u. u .1 .config) now),
-          subst (λ u. Inv (u .1) (callOf x r m .result .unit) (callOf x r m .memory)) now (f .next),
+          subst (λ u. Inv (u .1) (callOf y r m .result .unit) (callOf y r m .memory)) now (f .next),
         );
       }
 

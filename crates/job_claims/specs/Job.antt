@@ -9,12 +9,12 @@ use lib.Dec.{leb}
 use lib.ListN.{length, take, drop}
 use Rattle.spec.specs.Answer as say
 use Rattle.spec.specs.Answer.{Line}
-use Rattle.spec.specs.declared.Call.{Call}
+use Rattle.spec.specs.Call.{Call}
 use Rattle.spec.specs.Run.{State, step, opening}
 use Rattle.spec.specs.Config.{Config}
 use Rattle.job_records.specs.declared.Job.{Job}
 use Rattle.job_records.specs.declared.Job.the-variants as job
-use Rattle.job_records.specs.Records.{number, jobOf}
+use Rattle.job_records.specs.Records.{number, jobOf, asked}
 use Rattle.job_lines.specs.Text.{decimal, textOf}
 
 -- ---- the input
@@ -70,7 +70,7 @@ abbrev pub said : Job → List ℕ → Option State → Line × Option State
 said (job.Open h s) m o =
     let u : Line × Option State = opening (sizes (length m) h s) m in
     (u .0, openedBy (u .1) o)
-said (job.Call x) m o = called o x
+said (job.Call x) m o = called o (asked x)
 said job.Bad m o = (say.no 13, o)
 
 -- the memory that an opening meets: that of the start before any granted opening. After one, the guest words are the machine's, and t stands

@@ -35,7 +35,7 @@ number n = (32 ∷ []) ++ decimal 19 n
 abbrev pub pair : ℕ → ℕ → List ℕ
 pair m n = number m ++ number n
 
--- the words ok, value, done, fault and no, each after a space; value and fault are followed by one too
+-- the words ok, value, done, fault, no and figures, each after a space; value and fault are followed by one too
 abbrev pub okText : List ℕ
 okText = 32 ∷ 111 ∷ 107 ∷ []
 
@@ -51,16 +51,20 @@ faultText = 32 ∷ 102 ∷ 97 ∷ 117 ∷ 108 ∷ 116 ∷ 32 ∷ []
 abbrev pub noText : List ℕ
 noText = 32 ∷ 110 ∷ 111 ∷ []
 
+abbrev pub figuresText : List ℕ
+figuresText = 32 ∷ 102 ∷ 105 ∷ 103 ∷ 117 ∷ 114 ∷ 101 ∷ 115 ∷ []
+
 abbrev pub faultOf : Fault → List ℕ
 faultOf x = (letter x ∷ []) ++ pair (level x) (frame x)
 
--- what a call says, in bytes
+-- what a call says, in bytes. No record of a job asks for a forecast: figures have a text so that each line has one
 abbrev pub textOf : Line → List ℕ
 textOf say.ok = okText
 textOf (say.value v r e) = (valueText ++ hexadecimal 16 v) ++ pair r e
 textOf (say.done r e) = doneText ++ pair r e
 textOf (say.fault c l g r e) = (faultText ++ ((c ∷ []) ++ pair l g)) ++ pair r e
 textOf (say.no n) = noText ++ number n
+textOf (say.figures r e t) = (figuresText ++ pair r e) ++ number t
 
 abbrev pub answerText : Answer → List ℕ
 answerText x = textOf (line x)

@@ -130,6 +130,16 @@ fn put_refused(out: &mut [u8], at: usize, n: u64) -> usize
     put_number(out, from, n)
 }
 
+// Puts the figures of a forecast. No record of a job asks for one: they are here so that each answer has its text.
+fn put_figures(out: &mut [u8], at: usize, references: u64, exits: u64, tables: u64) -> usize
+    requires { ⌜ at + 71 ≤ length (now out) ⌝ }
+    ensures { λ r. ⌜ (r ≤ at + 71) × (Puts (now (out .entry)) at (now (out .exit)) r (answerText (Answer.Figures references exits tables))) ⌝ }
+{
+    let text = put_text(out, at, b" figures");
+    let from = put_pair(out, text, references, exits);
+    put_number(out, from, tables)
+}
+
 // Puts what an answer says.
 fn put_answer(out: &mut [u8], at: usize, answer: Answer) -> usize
     requires { ⌜ at + 92 ≤ length (now out) ⌝ }
@@ -149,6 +159,11 @@ fn put_answer(out: &mut [u8], at: usize, answer: Answer) -> usize
             exits,
         } => put_faulted(out, at, fault, references, exits),
         Answer::Refused(n) => put_refused(out, at, n),
+        Answer::Figures {
+            references,
+            exits,
+            tables,
+        } => put_figures(out, at, references, exits, tables),
     }
 }
 

@@ -7,7 +7,9 @@ use lib.Dec.{eqb, ltb, leb}
 use lib.ListN.{length, getD, take, drop}
 use Rattle.job_records.specs.declared.Cut.{Cut}
 use Rattle.job_records.specs.declared.Cut.the-variants.{Body, Short, Wrong}
-use Rattle.spec.specs.declared.Call.the-variants as call
+use Rattle.spec.specs.Call as asks
+use Rattle.job_records.specs.declared.Call.{Call}
+use Rattle.job_records.specs.declared.Call.the-variants as call
 use Rattle.job_records.specs.declared.Job.{Job}
 use Rattle.job_records.specs.declared.Job.the-variants as job
 
@@ -42,6 +44,17 @@ nextOf at Short = at
 nextOf at Wrong = at
 
 -- ---- what a record of a kind with a body asks for
+
+-- a job's call, as machine and unit know it
+abbrev pub asked : Call → asks.Call
+asked (call.Root g) = asks.root g
+asked (call.Map g f w) = asks.map g f w
+asked (call.Unmap g) = asks.unmap g
+asked (call.SetMark a n) = asks.setMark a n
+asked (call.ClearMark a n) = asks.clearMark a n
+asked (call.Load a) = asks.load a
+asked (call.Store a v) = asks.store a v
+asked (call.Device a v) = asks.device a v
 
 -- a body of another length than its kind's is 13
 abbrev pub sized : ℕ → List ℕ → Job → Job

@@ -3,7 +3,6 @@ ghost use mathlib.Core.Path.{_≡_};
 ghost use Prim.Native.Nat.{_+_, _≤_, _<_};
 ghost use lib.ListN.{length};
 ghost use Rattle.job_records.specs.Records.{number, cutAt, bodyOf, nextOf, jobOf, openBody, mapBody, numberBody, markBody, pairBody, jobAt};
-use spec::Call;
 
 // ---- splitting the input
 
@@ -102,7 +101,35 @@ fn next_at(s: &[u8], at: usize) -> usize
 
 // ---- what a record asks for
 
-// Damaged: 13.
+// A call that a job can ask for, with its arguments. A device's address is guest-physical.
+pub enum Call {
+    Root(u64),
+    Map {
+        guest: u64,
+        host: u64,
+        writable: bool,
+    },
+    Unmap(u64),
+    SetMark {
+        address: u64,
+        level: u64,
+    },
+    ClearMark {
+        address: u64,
+        level: u64,
+    },
+    Load(u64),
+    Store {
+        address: u64,
+        value: u64,
+    },
+    Device {
+        address: u64,
+        value: u64,
+    },
+}
+
+// Bad: 13.
 pub enum Job {
     Open { hosts: u64, shadows: u64 },
     Call(Call),

@@ -9,6 +9,7 @@ use Rattle.record.specs.declared.Record.{Record}
 use Rattle.calls.specs.Calls.{openCall, callOf}
 use Rattle.job_records.specs.declared.Job.{Job}
 use Rattle.job_records.specs.declared.Job.the-variants as job
+use Rattle.job_records.specs.Records.{asked}
 use Rattle.job_run.specs.declared.Ran.{Ran}
 use Rattle.words.specs.After.{After, yields}
 use Rattle.calls.specs.declared.Reply.{Reply}
@@ -23,6 +24,7 @@ isOk (answer.Value v r e) = false
 isOk (answer.Done r e) = false
 isOk (answer.Faulted x r e) = false
 isOk (answer.Refused n) = false
+isOk (answer.Figures r e t) = false
 
 -- a refused opening leaves the earlier record in use
 abbrev pub openedBy : Bool → Record → After Reply → After Ran
@@ -36,5 +38,5 @@ calledBy e = ran true (e .result .unit) (e .result .answer) true (e .memory)
 -- a bad record is 13 and ends the job; a call before any granted opening is 3, and the job goes on
 unfoldable pub runOf : Bool → Record → List ℕ → Job → After Ran
 runOf o r m (job.Open h s) = openedBy o r (openCall m h s)
-runOf o r m (job.Call x) = cond o (calledBy (callOf x r m)) (ran false r (answer.Refused 3) true m)
+runOf o r m (job.Call x) = cond o (calledBy (callOf (asked x) r m)) (ran false r (answer.Refused 3) true m)
 runOf o r m job.Bad = ran o r (answer.Refused 13) false m

@@ -2,12 +2,13 @@
 ghost use mathlib.Core.Path.{_≡_};
 ghost use Rattle.words.specs.After.{yields};
 ghost use Rattle.calls.specs.Calls.{openCall, callOf};
+ghost use Rattle.job_records.specs.Records.{asked};
 ghost use Rattle.job_run.specs.Run.{isOk, openedBy, runOf};
 use calls::Reply;
+use job_records::Call;
 use job_records::Job;
 use record::Record;
 use spec::Answer;
-use spec::Call;
 
 // What a record leaves: whether an open was granted so far, the record in use, the answer, and whether the job goes on.
 pub struct Ran {
@@ -19,7 +20,7 @@ pub struct Ran {
 
 // The unit's call.
 fn run_call(unit: Record, mem: &mut [u64], call: Call) -> Reply
-    ensures { λ r. ⌜ yields r (now (mem .exit)) ≡ callOf call unit (now (mem .entry)) ⌝ }
+    ensures { λ r. ⌜ yields r (now (mem .exit)) ≡ callOf (asked call) unit (now (mem .entry)) ⌝ }
 {
     match call {
         Call::Root(g) => unit::load_root(unit, mem, g),
@@ -55,6 +56,11 @@ fn granted(answer: Answer) -> bool
             exits,
         } => false,
         Answer::Refused(n) => false,
+        Answer::Figures {
+            references,
+            exits,
+            tables,
+        } => false,
     }
 }
 

@@ -14,8 +14,7 @@ use Rattle.spec.specs.Config.{Config}
 use Rattle.spec.specs.Prefix.{any, keep}
 use Rattle.spec.specs.Book.{Mark, Book, markAt, sameMark, isSet, depth}
 use Rattle.spec.specs.Machine.{Machine}
-use Rattle.spec.specs.declared.Call.the-variants.{SetMark as setMark, ClearMark as clearMark}
-use Rattle.spec.specs.Call.{addressIndexes}
+use Rattle.spec.specs.Call.{setMark, clearMark, addressIndexes}
 use Rattle.spec.specs.Refusal.{firstFailed, addressFits, levelFits, markFits, marksFit, allOf, noTwoAlike, tests, refusal}
 use Rattle.entry.specs.Levels.{ofLevels}
 use Rattle.spec.specs.Prefix.{All}

@@ -23,7 +23,7 @@ use Rattle.marks.proofs.Ascending.{and-left, and-right}
 -- ---- the depth
 
 -- a page number of n levels, without its l lowest indexes, is below 2 ^ (9 * (n - l)), also where l is above n
-shifted : (n l p : ℕ) → p < 2 ^ (9 * n) → p / 2 ^ (9 * l) < 2 ^ (9 * (n - l))
+pub shifted : (n l p : ℕ) → p < 2 ^ (9 * n) → p / 2 ^ (9 * l) < 2 ^ (9 * (n - l))
 shifted n l p b =
     let s : 9 * n ≤ 9 * (n - l) + 9 * l = omega arith in
     shr-lt (9 * (n - l)) (9 * l) (omega (arith, pow-mono s))
@@ -74,7 +74,7 @@ fits-key c k =
 -- ---- whether two are alike
 
 -- a key is its two parts
-parts : (k x : ℕ) → (eqb (k % 8) (x % 8) && eqb (k / 8) (x / 8)) ≡ eqb k x
+pub parts : (k x : ℕ) → (eqb (k % 8) (x % 8) && eqb (k / 8) (x / 8)) ≡ eqb k x
 parts k x = go (eqb (k % 8) (x % 8)) refl (eqb (k / 8) (x / 8)) refl
   where
     go : (s : Bool) → eqb (k % 8) (x % 8) ≡ s → (t : Bool) → eqb (k / 8) (x / 8) ≡ t → (s && t) ≡ eqb k x
@@ -138,11 +138,11 @@ fits-keys c (k ∷ ks) =
 
 -- ---- the key of a mark
 module _ (c : Config) (l p : ℕ) (b : p < 2 ^ (9 * c .levels)) (h : l < 8) where
-  level-of : keyOf l p % 8 ≡ l
+  pub level-of : keyOf l p % 8 ≡ l
   unfolding keyOf
   level-of = omega arith
 
-  rest-of : keyOf l p / 8 ≡ p / 2 ^ (9 * l)
+  pub rest-of : keyOf l p / 8 ≡ p / 2 ^ (9 * l)
   unfolding keyOf
   rest-of = omega arith
 

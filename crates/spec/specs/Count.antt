@@ -2,7 +2,7 @@
 -- Assumes nothing.
 use Prim.Native.Nat.{ℕ, zero, suc, _+_, _-_}
 use mathlib.Core.Bool.{Bool, true, false, not, _||_, cond}
-use mathlib.Core.List.{List, [], _∷_}
+use mathlib.Core.List.{List, _∷_}
 use mathlib.Core.Option.{Option, none, some}
 use lib.Dec.{leb}
 use Rattle.spec.specs.declared.Fault.{Fault}
@@ -14,9 +14,7 @@ use Rattle.spec.specs.Walk.{Trace, Result, granted, failed, trace}
 use Rattle.spec.specs.Plain.{Place, upper, shadowPart, directPart}
 use Rattle.spec.specs.Machine.{Machine, world}
 use Rattle.spec.specs.Book.{Mark, Held, Book, markAt, sameMark, depth, find, holding, fill, dropWord, dropMapping, dropPrefix, dropAll, watched}
-use Rattle.spec.specs.declared.Call.{Call}
-use Rattle.spec.specs.declared.Call.the-variants.{Root as root, Map as map, Unmap as unmap, SetMark as setMark, ClearMark as clearMark, Load as load, Store as store, Device as device}
-use Rattle.spec.specs.Call.{addressIndexes, plain, deviceWalk}
+use Rattle.spec.specs.Call.{Call, root, map, unmap, setMark, clearMark, load, store, device, forecast, addressIndexes, plain, deviceWalk}
 
 pub record Counted : Type 0 where
   pub references : ℕ
@@ -102,3 +100,4 @@ bookStep c (store a v) m b =
 bookStep c (device a v) m b =
     let r : Trace Fault Place = deviceWalk c m a in
     storing (wordOf a) (r .result) (unshadowed b r)
+bookStep c (forecast xs) m b = free b

@@ -9,6 +9,8 @@ pub mod Book
 pub mod Call
 pub mod Count
 pub mod Refusal
+pub mod Forecast
 pub mod Run
+pub mod Serving
 pub mod Computing
 pub mod Guest

@@ -9,9 +9,7 @@ use lib.ListN.{length}
 use Rattle.spec.specs.Config.{Config, guestBase, signBit, frameBits}
 use Rattle.spec.specs.Machine.{Machine, with, isMapped, hostTables}
 use Rattle.spec.specs.Book.{Mark, Book, markAt, isSet}
-use Rattle.spec.specs.declared.Call.{Call}
-use Rattle.spec.specs.declared.Call.the-variants.{Root as root, Map as map, Unmap as unmap, SetMark as setMark, ClearMark as clearMark, Load as load, Store as store, Device as device}
-use Rattle.spec.specs.Call.{addressIndexes}
+use Rattle.spec.specs.Call.{Call, root, map, unmap, setMark, clearMark, load, store, device, forecast, addressIndexes}
 
 abbrev pub firstFailed : List (Bool × ℕ) → Option ℕ
 firstFailed [] = none
@@ -99,6 +97,10 @@ deviceFits c a = ltb a (2 ^ (12 + frameBits c))
 abbrev pub wordAligned : ℕ → Bool
 wordAligned a = eqb (a % 8) 0
 
+-- how many addresses a forecast takes; more are refused with 14, whatever they are (document 02, 2)
+abbrev pub forecastRoom : ℕ
+forecastRoom = 256
+
 -- the tests of a call in their order, each with the number that it refuses with
 unfoldable pub tests : Config → Call → Machine → Book → List (Bool × ℕ)
 tests c (load a) m b = (addressFits c a && wordAligned a, 4) ∷ []
@@ -114,6 +116,7 @@ tests c (setMark a n) m b =
 tests c (clearMark a n) m b =
     let set : Bool = isSet (markAt c n (addressIndexes c a)) (b .marks) in
     (addressFits c a, 4) ∷ (levelFits c n, 5) ∷ (set, 6) ∷ []
+tests c (forecast xs) m b = (leb (length xs) forecastRoom, 14) ∷ []
 
 -- the number that a call is refused with on this machine and book: that of its first test that fails
 unfoldable pub refusal : Config → Call → Machine → Book → Option ℕ

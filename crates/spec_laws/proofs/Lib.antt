@@ -11,3 +11,6 @@ pub mod Runs
 pub mod Asks
 pub mod Trail
 pub mod Keeps
+pub mod Added
+pub mod Price
+pub mod Forecast

@@ -1,31 +1,29 @@
 -- What the book keeps over a run: every held path has the depth that the marks say, so none is a proper prefix of another;
 -- and a granted request reads N + N·d words.
 -- Assumes nothing.
-use mathlib.Core.Path.{_≡_, refl, sym, ap, _∙_, subst}
+use mathlib.Core.Path.{_≡_, refl, sym, subst}
 use Prim.Native.Nat.{ℕ, suc, _+_, _*_, _-_, _≤_}
 use native.Mathlib.Omega.{arith}
-use mathlib.Core.Bool.{Bool, true, false, not, _&&_, cond}
+use mathlib.Core.Bool.{Bool, true, false, not, cond}
 use mathlib.Core.List.{List, [], _∷_}
 use mathlib.Core.Option.{Option, none, some}
-use lib.Dec.{T, eqb, eqb-refl, leb, leb→le}
-use lib.ListN.{length, take}
+use lib.Dec.{T, eqb, leb, leb→le}
+use lib.ListN.{length}
 use lib.Seq.{length-take-le}
 use Rattle.spec.specs.declared.Fault.{Fault}
 use Rattle.spec.specs.Config.{Config}
-use Rattle.spec.specs.Entry.{indexes, pageOf, wordOf}
-use Rattle.spec.specs.Prefix.{begins, same, any, keep}
+use Rattle.spec.specs.Entry.{pageOf, wordOf}
+use Rattle.spec.specs.Prefix.{begins, same, keep}
 use Rattle.spec.specs.Walk.{Trace, Result, granted, failed, trace}
-use Rattle.spec.specs.Plain.{Place, upper, shadowPart, directPart}
-use Rattle.spec.specs.Machine.{Machine, world, with, isMapped, hostTables}
-use Rattle.spec.specs.Book.{Mark, Held, Book, markAt, sameMark, isSet, depth, find, holding, fill, shadowTables, dropWord, dropMapping, dropPrefix, usesMapping, readsWord}
-use Rattle.spec.specs.declared.Call.{Call}
-use Rattle.spec.specs.declared.Call.the-variants.{Root as root, Map as map, Unmap as unmap, SetMark as setMark, ClearMark as clearMark, Load as load, Store as store, Device as device}
-use Rattle.spec.specs.Call.{addressIndexes, plain, deviceWalk}
+use Rattle.spec.specs.Plain.{Place, upper, shadowPart}
+use Rattle.spec.specs.Machine.{Machine, world}
+use Rattle.spec.specs.Book.{Mark, Held, Book, markAt, sameMark, depth, find, holding, fill, shadowTables, dropPrefix, usesMapping, readsWord}
+use Rattle.spec.specs.Call.{Call, root, map, unmap, setMark, clearMark, load, store, device, forecast, addressIndexes, plain}
 use Rattle.spec.specs.Count.{Counted, serves, heldBy, shadowed, unshadowed, request, storing, bookStep}
-use Rattle.spec.specs.Refusal.{firstFailed, levelFits, addressFits, tests, refusal}
+use Rattle.spec.specs.Refusal.{firstFailed, levelFits, tests, refusal}
 use Rattle.spec.specs.Run.{State, answered, step, after, opened}
 use Rattle.spec.specs.Prefix.{All}
-use Rattle.spec_laws.proofs.Lists.{all-map, all-keep, not-both, same-is, and-left, and-right}
+use Rattle.spec_laws.proofs.Lists.{all-map, all-keep, not-both, same-is, and-right}
 use Rattle.spec_laws.proofs.Counts.{request-count}
 use Rattle.spec_laws.proofs.Indexes.{indexes-length}
 use Rattle.spec_laws.proofs.Depth.{MarkFits, PathFits, depth-bound, no-proper-prefix, fill-fits, set-fits, clear-fits}
@@ -152,6 +150,7 @@ step-fits x s i = go (refusal (s .config) x (s .machine) (s .book)) refl
     by (load a) e = request-keeps c m b false a i
     by (store a v) e = storing-keeps c (wordOf a) _ _ (request-keeps c m b true a i)
     by (device a v) e = storing-keeps c (wordOf a) _ _ i
+    by (forecast xs) e = i
 
     go : (r : Option ℕ) → refusal c x m b ≡ r → BookFits ((answered x s r) .1 .config) ((answered x s r) .1 .book)
     go (some n) e = i

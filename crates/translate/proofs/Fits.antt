@@ -2,11 +2,13 @@
 -- Assumes nothing.
 use mathlib.Core.Path.{_≡_, refl}
 use mathlib.Core.Logic.{inl, inr}
-use Prim.Native.Nat.{ℕ, pred, _+_, _-_, _<_, _≤_}
+use Prim.Native.Nat.{ℕ, suc, pred, _+_, _-_, _*_, _<_, _≤_}
 use native.Mathlib.Omega.{arith}
+use native.Mathlib.Nat.{mul-suc}
 use mathlib.Core.Bool.{Bool, true, false, cond}
 use mathlib.Core.List.{List, [], _∷_}
 use lib.Dec.{eqb, ltb}
+use lib.ListN.{length}
 use Rattle.spec.specs.declared.Fault.the-variants as fault
 use Rattle.spec.specs.Config.{Config}
 use Rattle.spec.specs.Entry.{present, writable, frameOf, indexes, pageOf, frameLimit}
@@ -25,7 +27,7 @@ use Rattle.walk.specs.Memory.{walkedOf, turn}
 use Rattle.walk.proofs.Laws.{thenWalked, TurnFits, table-fits, turn-fits, levels-step, levels-end, walk-step}
 use Rattle.shadow.specs.Held.{heldOf}
 use Rattle.translate.specs.declared.Held.{Held}
-use Rattle.translate.specs.Translate.{exitBy, pathIndexes, HeldFits, directOf, foundOf}
+use Rattle.translate.specs.Translate.{exitBy, pathIndexes, HeldFits, ReadsMost, directOf, foundOf}
 
 pub exit-small : (r : Walked) → exitBy r ≤ 1
 exit-small (walked.Arrived t w n) = omega arith
@@ -69,6 +71,36 @@ module _ (c : Config) (ht : ℕ) (m : List ℕ) (st : Bool) where
   pub direct-in : (a d t : ℕ) (w : Bool) → InGuestArea c t → ArrivedIn c (directOf c ht m st a d t w)
   unfolding directOf
   direct-in a d t w g = levels-in (indexes d (pageOf a)) (c .levels - d) (0 + d) t w g
+
+-- ---- how many words a walk reads
+
+module _ (c : Config) (ht : ℕ) (m : List ℕ) (st : Bool) where
+  pub levels-most : (is : List ℕ) (n level t : ℕ) (right : Bool) (k : ℕ) → n + (1 + c .levels) * length is ≤ k
+      → ReadsMost k (walkedOf c ht m n (levels c st level t right is))
+  levels-most [] n level t right k l = rw (levels-end c ht m n st level t right) (omega arith)
+  levels-most (i ∷ is) n level t right k l =
+      rw (levels-step c ht m n st level t i is right)
+      (go (walkedOf c ht m n (turn c st level t i right)) (turn-fits c ht m n st level t i right) (λ j u v e. levels-most is j (pred level) u v k e))
+    where
+      one : (1 + c .levels) * suc (length is) ≡ 1 + c .levels + (1 + c .levels) * length is
+      one = let z = mul-suc (1 + c .levels) (length is) in omega (arith, z)
+
+      go : (r : Walked) → TurnFits c (n + 1) r
+          → ((j u : ℕ) (v : Bool) → j + (1 + c .levels) * length is ≤ k → ReadsMost k (walkedOf c ht m j (levels c st (pred level) u v is)))
+          → ReadsMost k (thenWalked r (λ u v j. walkedOf c ht m j (levels c st (pred level) u v is)))
+      go (walked.Arrived p w j) f on = on j (p .0) w (omega (arith, f .1, one, l))
+      go (walked.Faulted x j) f on = omega (arith, f, one, l)
+      go walked.Damaged f on = tt
+
+  pub walk-most : (n root : ℕ) (is : List ℕ) (k : ℕ) → n + c .levels + (1 + c .levels) * length is ≤ k → ReadsMost k (walkedOf c ht m n (walk c st root is))
+  walk-most n root is k l =
+      rw (walk-step c ht m n st root is)
+      (go (walkedOf c ht m n (next false false root true)) (table-fits c ht m n false root true))
+    where
+      go : (r : Walked) → TurnFits c n r → ReadsMost k (thenWalked r (λ u v j. walkedOf c ht m j (levels c st (c .levels) u true is)))
+      go (walked.Arrived p w j) f = levels-most is j (c .levels) (p .0) true k (omega (arith, f .1, l))
+      go (walked.Faulted x j) f = omega (arith, f, l)
+      go walked.Damaged f = tt
 
 -- ---- held paths: what is true of every frame of the guest area, and of the frame in the record, is true of a frame found
 module _ (c : Config) (P : ℕ → Type 0) (all : (f : ℕ) → InGuestArea c f → P f) where

@@ -52,6 +52,12 @@ holding p f = record { pool = p; frame = page f }
 abbrev pub HeldFits : Config → Held → Type 0
 HeldFits c h = (h .pool .fresh ≤ c .shadows) × ((h .frame .0 ≡ 0) ⊎ ((guestBase c ≤ h .frame .0) × (h .frame .0 < c .frames)))
 
+-- a walk that ended after at most k words
+abbrev pub ReadsMost : ℕ → Walked → Type 0
+ReadsMost k (walked.Arrived p w n) = n ≤ k
+ReadsMost k (walked.Faulted x n) = n ≤ k
+ReadsMost k walked.Damaged = Unit {0}
+
 abbrev pub translation : Held → ℕ → Walked → Translated
 translation h e r = record { held = h; exits = e; walked = r }
 

@@ -87,7 +87,7 @@ fn direct(mem: &[u64], space: Space, request: Request, page: HostPhysical, writa
 }
 
 // Through a path that is held or was just filled, after some exits.
-fn serve(
+pub fn serve(
     mem: &[u64],
     space: Space,
     held: Held,
@@ -121,7 +121,7 @@ fn serves(store: bool, depth: u64, writable: bool) -> bool
 }
 
 // The page number of an address without its lowest indexes, as many as the depth.
-fn path_of(address: GuestVirtual, depth: u64) -> u64
+pub fn path_of(address: GuestVirtual, depth: u64) -> u64
     requires { ⌜ depth ≤ 7 ⌝ }
     ensures { λ r. ⌜ r ≡ pathOf depth (address .0) ⌝ }
 {
@@ -129,7 +129,7 @@ fn path_of(address: GuestVirtual, depth: u64) -> u64
 }
 
 // The path held at that depth: a shadow entry, or at the depth of all levels the frame in the record.
-fn found(mem: &[u64], layout: Layout, held: Held, address: GuestVirtual, depth: u64) -> HostWalk
+pub fn found(mem: &[u64], layout: Layout, held: Held, address: GuestVirtual, depth: u64) -> HostWalk
     requires { ⌜ LayoutFits layout ⌝ }
     ensures { λ r. ⌜ r ≡ foundOf (config layout) (now (mem .entry)) held (address .0) depth ⌝ }
 {
@@ -256,7 +256,7 @@ fn missed(
 // ---- translation
 
 // Where nothing is shadowed: the whole plain walk.
-fn plain(
+pub fn plain(
     mem: &[u64],
     space: Space,
     root: GuestPhysical,

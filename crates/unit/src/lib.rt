@@ -1,4 +1,4 @@
-// The unit's nine calls by value: record and memory in, record and answer out. Those that change no mark are a line over the call in
+// The unit's ten calls by value: record and memory in, record and answer out. Those that change no mark are a line over the call in
 // parts.
 ghost use mathlib.Core.Path.{_≡_};
 ghost use mathlib.Core.Bool.{cond};
@@ -6,7 +6,7 @@ ghost use Prim.Native.Nat.{_<_};
 ghost use Rattle.words.specs.After.{yields};
 ghost use Rattle.marks.specs.Table.{keys, setRefusal, clearRefusal, number};
 ghost use Rattle.record.specs.Record.{withMarks};
-ghost use Rattle.calls.specs.Calls.{Promises, Sound, withHeld, servedReply, turnReply, answerOf, openCall, loadCall, storeCall, deviceCall, rootCall, mapCall, unmapCall, heldAfter, markedOf, marksAfter, markCall, setMarkCall, clearMarkCall};
+ghost use Rattle.calls.specs.Calls.{Promises, Sound, withHeld, servedReply, turnReply, answerOf, openCall, loadCall, storeCall, deviceCall, rootCall, mapCall, unmapCall, heldAfter, markedOf, marksAfter, markCall, setMarkCall, clearMarkCall, forecastCall};
 use calls::Reply;
 use calls::Turn;
 use entry::GuestVirtual;
@@ -125,6 +125,17 @@ pub fn unmap(unit: Record, mem: &mut [u64], guest: u64) -> Reply
 {
     let t = calls::unmap_at(unit.head(), &unit.guest.marks.place, mem, guest);
     turned(unit, t)
+}
+
+// What loading these addresses one after the other would cost; record and memory are as they were.
+pub fn forecast(unit: Record, mem: &[u64], addresses: &[u64]) -> Reply
+    ensures { λ r. ⌜ Promises r (now (mem .entry)) (forecastCall unit (now (mem .entry)) (now (addresses .entry))) ⌝ }
+{
+    let answer = calls::forecast_at(unit.head(), &unit.guest.marks.place, mem, addresses);
+    Reply {
+        unit: unit,
+        answer: answer,
+    }
 }
 
 // ---- marks

@@ -1,7 +1,7 @@
 -- What a walk over memory comes to, step by step: the laws that the code is proved by.
 -- Assumes nothing.
 use mathlib.Core.Path.{_≡_, refl, sym, ap, _∙_}
-use Prim.Native.Nat.{ℕ, pred, _+_, _-_, _<_}
+use Prim.Native.Nat.{ℕ, pred, _+_, _-_, _<_, _≤_}
 use native.Mathlib.Nat.{add-assoc}
 use native.Mathlib.Omega.{arith}
 use mathlib.Core.Bool.{Bool, true, false, not, _&&_, _||_, cond}
@@ -190,11 +190,11 @@ walk-step c ht m n st root is =
     ap (walkedOf c ht m n) (sym (bind-assoc (hosted root) (λ r. done (r .0, true)) (λ r. levels c st (c .levels) (r .0) true is)))
     ∙ walked-then c ht m n (hosted root >>= λ r. done (r .0, true)) (λ r. levels c st (c .levels) (r .0) true is)
 
--- ---- where a turn arrives: a frame of the guest area, after one guest word and a host walk
+-- ---- where a turn comes to: a frame of the guest area, after one guest word and a host walk; a fault comes no later
 
 abbrev pub TurnFits : Config → ℕ → Walked → Type 0
 TurnFits c n (walked.Arrived p w k) = InGuestArea c (p .0) × (k ≡ n + c .levels)
-TurnFits c n (walked.Faulted x k) = Unit {0}
+TurnFits c n (walked.Faulted x k) = k ≤ n + c .levels
 TurnFits c n walked.Damaged = Unit {0}
 
 pub table-fits : (c : Config) (ht : ℕ) (m : List ℕ) (n : ℕ) (st : Bool) (g : ℕ) (right : Bool) → TurnFits c n (walkedOf c ht m n (next st false g right))
@@ -202,7 +202,7 @@ table-fits c ht m n st g right = rw (table-step c ht m n st g right) (go (hostWa
   where
     go : (h : HostWalk) → HostFits c h → TurnFits c n (tableBy (c .levels) g right n h)
     go (host.Found p w) f = (f, refl)
-    go (host.Absent k) f = tt
+    go (host.Absent k) f = omega arith
     go host.Damaged f = tt
 
 pub page-fits : (c : Config) (ht : ℕ) (m : List ℕ) (n : ℕ) (st : Bool) (g : ℕ) (right : Bool) → TurnFits c n (walkedOf c ht m n (next st true g right))
@@ -212,16 +212,16 @@ page-fits c ht m n st g right = rw (page-step c ht m n st g right) (first (not s
     found : (b : Bool) (p : HostPhysical) (w : Bool) → InGuestArea c (p .0)
         → TurnFits c n (cond b (walked.Arrived p (right && w) (n + c .levels)) (walked.Faulted (HostReadOnly g) (n + c .levels)))
     found true p w f = (f, refl)
-    found false p w f = tt
+    found false p w f = omega arith
 
     go : (h : HostWalk) → HostFits c h → TurnFits c n (pageBy (c .levels) st g right n h)
     go (host.Found p w) f = found (not st || w) p w f
-    go (host.Absent k) f = tt
+    go (host.Absent k) f = omega arith
     go host.Damaged f = tt
 
     first : (b : Bool) → TurnFits c n (cond b (pageBy (c .levels) st g right n (hostWalkOf c ht m g)) (walked.Faulted (Protected 1) n))
     first true = go (hostWalkOf c ht m g) (host-fits c ht m g)
-    first false = tt
+    first false = omega arith
 
 pub turn-fits : (c : Config) (ht : ℕ) (m : List ℕ) (n : ℕ) (st : Bool) (level t i : ℕ) (right : Bool) → TurnFits c (n + 1) (walkedOf c ht m n (turn c st level t i right))
 turn-fits c ht m n st level t i right = rw (turn-step c ht m n st level t i right) (go (present e) (malformed c level e))
@@ -235,9 +235,9 @@ turn-fits c ht m n st level t i right = rw (turn-step c ht m n st level t i righ
 
     go : (p b : Bool)
         → TurnFits c (n + 1) (cond p (cond b (walked.Faulted (Malformed level) (n + 1)) (walkedOf c ht m (n + 1) (next st (eqb level 1) (frameOf e) (right && writable e)))) (walked.Faulted (Absent level) (n + 1)))
-    go true true = tt
+    go true true = omega arith
     go true false = on (eqb level 1)
-    go false b = tt
+    go false b = omega arith
 
 -- the loop's turn, with k indexes left and the levels below them
 pub loop-step : (c : Config) (ht : ℕ) (m : List ℕ) (n : ℕ) (st : Bool) (below k t path : ℕ) (right : Bool) → 0 < k

@@ -6,8 +6,7 @@ use Prim.Native.Nat.{_^_}
 use mathlib.Core.Bool.{true, false}
 use mathlib.Core.List.{List, [], _∷_, _++_}
 use Rattle.spec.specs.Answer.{ok, value, fault, no}
-use Rattle.spec.specs.declared.Call.{Call}
-use Rattle.spec.specs.declared.Call.the-variants.{Map as map, SetMark as setMark, Load as load, Store as store}
+use Rattle.spec.specs.Call.{Call, map, setMark, load, store}
 use Rattle.spec.specs.Guest.{marksOn}
 use Rattle.spec.specs.Run.{step}
 use Rattle.spec.specs.Computing.{specifying}

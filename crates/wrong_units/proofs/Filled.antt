@@ -5,8 +5,7 @@ use Prim.Native.Nat.{ℕ, _+_, _*_, _^_}
 use mathlib.Core.Bool.{true}
 use mathlib.Core.List.{List, [], _∷_}
 use lib.ListN.{replicate}
-use Rattle.spec.specs.declared.Call.{Call}
-use Rattle.spec.specs.declared.Call.the-variants.{Map as map, SetMark as setMark, Load as load}
+use Rattle.spec.specs.Call.{Call, map, setMark, load}
 use Rattle.spec.specs.declared.Answer.the-variants as answer
 use Rattle.spec.specs.Entry.{entryLimit}
 use Rattle.pool.specs.declared.Area.{Area}

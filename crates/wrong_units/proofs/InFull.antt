@@ -13,7 +13,7 @@ use lib.ListN.{length, set, length-set}
 use Rattle.spec.specs.declared.Answer.{Answer}
 use Rattle.spec.specs.declared.Answer.the-variants as answer
 use Rattle.spec.specs.Answer.{line, value, fault}
-use Rattle.spec.specs.declared.Call.the-variants.{Root as root, Map as map, Unmap as unmap, SetMark as setMark, ClearMark as clearMark, Load as load, Store as store, Device as device}
+use Rattle.spec.specs.Call.{root, map, unmap, setMark, clearMark, load, store, device, forecast}
 use Rattle.spec.specs.Refusal.{allOf}
 use Rattle.spec.specs.Computing.{specifying}
 use Rattle.spec_laws.proofs.Lists.{and-left, and-right}
@@ -44,6 +44,7 @@ rewalked-same : (r : Record) (m : List ℕ) (a : ℕ) (e : After Reply) (w : Wal
 rewalked-same r m a e w answer.Ok p k = refl
 rewalked-same r m a e w (answer.Done n c) p k = refl
 rewalked-same r m a e w (answer.Refused n) p k = refl
+rewalked-same r m a e w (answer.Figures n c t) p k = refl
 rewalked-same r m a e (walked.Arrived t b i) (answer.Value v n c) p k =
     let z = sym (ap line p) ∙ k tt .says in
     cc
@@ -71,6 +72,7 @@ in-full-as-ours s r m i (setMark a n) = refl
 in-full-as-ours s r m i (clearMark a n) = refl
 in-full-as-ours s r m i (store a v) = refl
 in-full-as-ours s r m i (device a v) = refl
+in-full-as-ours s r m i (forecast xs) = refl
 
 pub in-full-demand-3 : Demand-3 (unitBy walksInFull)
 in-full-demand-3 = as-ours-demand-3 walksInFull in-full-as-ours

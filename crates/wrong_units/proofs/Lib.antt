@@ -9,3 +9,4 @@ pub mod Halves
 pub mod Drops
 pub mod Walks
 pub mod InFull
+pub mod Forecasts

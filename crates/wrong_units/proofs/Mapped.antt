@@ -5,7 +5,7 @@ use Prim.Native.Nat.{ℕ, suc, _-_, _*_}
 use mathlib.Core.Bool.{true}
 use mathlib.Core.List.{List, [], _∷_, _++_}
 use lib.ListN.{length, set, replicate}
-use Rattle.spec.specs.declared.Call.the-variants.{Map as map}
+use Rattle.spec.specs.Call.{map}
 use Rattle.spec.specs.declared.Answer.the-variants as answer
 use Rattle.spec.specs.Entry.{bitSet, present, entryLimit}
 use Rattle.spec.specs.Refusal.{openRefusal}
@@ -16,7 +16,7 @@ use Rattle.pool.specs.declared.Way.the-variants.{To, Not}
 use Rattle.pool.specs.declared.Went.{Went}
 use Rattle.pool.specs.Header.{entryAtOf, putEntryOf, headerOf, insideOf}
 use Rattle.pool.specs.Pool.{link, followOf, end, noneOf, withTop}
-use Rattle.area.specs.Tree.{newTableOf, enterOf, downOf, placeOf, insertOf}
+use Rattle.area.specs.Tree.{enterOf, downOf, placeOf, insertOf}
 use Rattle.layout.specs.Layout.{page}
 use Rattle.host.specs.Map.{hostArea}
 use Rattle.marks.specs.Table as marks

@@ -5,13 +5,14 @@ use mathlib.Core.Path.{_≡_, refl, sym, ap, _∙_, subst}
 use Prim.Native.Nat.{ℕ}
 use mathlib.Core.Bool.{true, false, cond}
 use mathlib.Core.List.{List, [], _∷_}
-use lib.ListN.{length}
+use lib.Dec.{leb}
+use lib.ListN.{length, replicate}
 use Rattle.spec.specs.Answer.{Line, line}
-use Rattle.spec.specs.declared.Call.{Call}
-use Rattle.spec.specs.declared.Call.the-variants.{Store as store, Device as device}
+use Rattle.spec.specs.Call.{Call, store, device, forecast}
 use Rattle.spec.specs.Config.{Config}
 use Rattle.spec.specs.Entry.{pageOf}
 use Rattle.spec.specs.Plain.{next}
+use Rattle.spec.specs.Refusal.{forecastRoom}
 use Rattle.spec.specs.Run.{State, step, opened}
 use Rattle.words.specs.After.{After}
 use Rattle.walk.specs.declared.Walked.{Walked}
@@ -24,7 +25,11 @@ use Rattle.translate.specs.declared.Held.{Held}
 use Rattle.translate.specs.declared.Translated.{Translated}
 use Rattle.request.specs.Access.{putWordOf, storeBy, storeOf, deviceBy, deviceOf}
 use Rattle.calls.specs.declared.Reply.{Reply}
-use Rattle.calls.specs.Calls.{hostTop, heldOf, judged, refused, servedBy, addressOk, deviceOk, translatedOf, openCall, callOf, loadCall, storeCall, deviceCall}
+use Rattle.forecast.specs.declared.Outlook.{Outlook}
+use Rattle.forecast.specs.declared.Next.{Next}
+use Rattle.forecast.specs.declared.Next.the-variants.{Go, Damaged}
+use Rattle.forecast.specs.Forecast.{addressOf, onward, listOf, start, forecastOf}
+use Rattle.calls.specs.Calls.{hostTop, heldOf, rootOf, keysOf, ended, judged, refused, servedBy, addressOk, deviceOk, translatedOf, openCall, callOf, loadCall, storeCall, deviceCall, forecastCall}
 use Rattle.claims.specs.Run.{guestArea, unitRun, unitAfter}
 use Rattle.claims.specs.Counted.{SameWords, countedOf, touchedOf}
 use Rattle.claims.proofs.Invariant.{Inv, at}
@@ -34,7 +39,7 @@ use Rattle.claims.specs.Plain.{requestAt, isStore, plainWalk, AsWalked, Unrefus
 use Rattle.claims.proofs.Plain.{demand-2}
 use Rattle.claims.proofs.Counted.{run-counted-load}
 use Rattle.wrong_units.specs.Unit.{runBy, afterBy, Demand-3, Demand-2, Calls, told, unitBy, cangrieb, WordsCounted}
-use Rattle.wrong_units.specs.Wrong.{storeAs, storeWith, deviceAs, deviceWith}
+use Rattle.wrong_units.specs.Wrong.{storeAs, storeWith, deviceAs, deviceWith, ourStep, ourEnd, listWith, forecastWith}
 
 -- a table of calls that does what ours does on every record and memory that stand for a machine and a book
 abbrev pub AsOurs : Calls → Type 0
@@ -115,3 +120,22 @@ unfolding deviceWith callOf deviceCall deviceOf
 device-with-ours r m a v =
     ap (λ s. judged r m (cond (deviceOk r a) (servedBy r s) (refused r 4 m)))
     (device-as-ours (configOf r) m (heldOf r) a v (walkedOf (configOf r) (hostTop r) m 0 (next true true (pageOf a) true)))
+
+list-as-ours : (r : Record) (m ks : List ℕ) (o : Outlook) (xs : List ℕ)
+    → listWith ourStep ourEnd r m ks o xs ≡ listOf (configOf r) (hostTop r) m (heldOf r) (rootOf r) (keysOf r) ks o xs
+unfolding listWith listOf ourStep ourEnd
+list-as-ours r m ks o [] = refl
+list-as-ours r m ks o (a ∷ xs) = go (n .result) (λ u. list-as-ours r m (n .memory) u xs)
+  where
+    n : After Next
+    n = addressOf (configOf r) (hostTop r) m (heldOf r) (rootOf r) (keysOf r) ks o a
+
+    go : (x : Next) → ((u : Outlook) → listWith ourStep ourEnd r m (n .memory) u xs ≡ listOf (configOf r) (hostTop r) m (heldOf r) (rootOf r) (keysOf r) (n .memory) u xs)
+        → onward x (λ u. listWith ourStep ourEnd r m (n .memory) u xs) ≡ onward x (λ u. listOf (configOf r) (hostTop r) m (heldOf r) (rootOf r) (keysOf r) (n .memory) u xs)
+    go (Go u) ih = ih u
+    go Damaged ih = refl
+
+pub forecast-with-ours : (r : Record) (m xs : List ℕ) → forecastWith ourStep ourEnd xs r m ≡ callOf (forecast xs) r m
+unfolding forecastWith callOf forecastCall forecastOf
+forecast-with-ours r m xs =
+    ap (λ x. judged r m (cond (leb (length xs) forecastRoom) (ended r x m) (refused r 14 m))) (list-as-ours r m (replicate forecastRoom 0) (start (r .pools .shadow .used)) xs)

@@ -10,8 +10,7 @@ use lib.ListN.{length}
 use Rattle.spec.specs.declared.Answer.{Answer}
 use Rattle.spec.specs.Answer.{Line, ok, value, line}
 use Rattle.spec.specs.Entry.{wordOf}
-use Rattle.spec.specs.declared.Call.{Call}
-use Rattle.spec.specs.declared.Call.the-variants.{Map as map, SetMark as setMark, Load as load}
+use Rattle.spec.specs.Call.{Call, map, setMark, load}
 use Rattle.spec.specs.Guest.{code, equal}
 use Rattle.spec.specs.Run.{State, step, run, after, opened}
 use Rattle.spec_laws.proofs.Lists.{both, not-both}

@@ -8,7 +8,7 @@ use mathlib.Core.List.{_++_}
 use Rattle.spec.specs.Entry.{wordOf}
 use Rattle.spec.specs.declared.Fault.the-variants.{Absent}
 use Rattle.spec.specs.declared.Answer.the-variants as answer
-use Rattle.spec.specs.declared.Call.the-variants.{Load as load}
+use Rattle.spec.specs.Call.{load}
 use Rattle.words.specs.Words.{wordIn}
 use Rattle.layout.specs.Layout.{page}
 use Rattle.walk.specs.declared.Walked.the-variants as walked

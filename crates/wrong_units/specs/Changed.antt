@@ -4,7 +4,7 @@
 use Prim.Native.Nat.{ℕ}
 use mathlib.Core.Bool.{Bool}
 use mathlib.Core.List.{List}
-use Rattle.spec.specs.declared.Call.the-variants.{Root as root, Map as map, Unmap as unmap, SetMark as setMark, ClearMark as clearMark, Load as load, Store as store, Device as device}
+use Rattle.spec.specs.Call.{root, map, unmap, setMark, clearMark, load, store, device, forecast}
 use Rattle.words.specs.After.{After}
 use Rattle.record.specs.declared.Record.{Record}
 use Rattle.calls.specs.declared.Reply.{Reply}
@@ -23,6 +23,7 @@ onLoads does calls (setMark a n) = calls (setMark a n)
 onLoads does calls (clearMark a n) = calls (clearMark a n)
 onLoads does calls (store a v) = calls (store a v)
 onLoads does calls (device a v) = calls (device a v)
+onLoads does calls (forecast xs) = calls (forecast xs)
 
 abbrev pub onStores : (ℕ → ℕ → Does) → Calls → Calls
 onStores does calls (store a v) = does a v
@@ -33,6 +34,7 @@ onStores does calls (setMark a n) = calls (setMark a n)
 onStores does calls (clearMark a n) = calls (clearMark a n)
 onStores does calls (load a) = calls (load a)
 onStores does calls (device a v) = calls (device a v)
+onStores does calls (forecast xs) = calls (forecast xs)
 
 abbrev pub onDevices : (ℕ → ℕ → Does) → Calls → Calls
 onDevices does calls (device a v) = does a v
@@ -43,6 +45,7 @@ onDevices does calls (setMark a n) = calls (setMark a n)
 onDevices does calls (clearMark a n) = calls (clearMark a n)
 onDevices does calls (load a) = calls (load a)
 onDevices does calls (store a v) = calls (store a v)
+onDevices does calls (forecast xs) = calls (forecast xs)
 
 abbrev pub onMaps : (ℕ → ℕ → Bool → Does) → Calls → Calls
 onMaps does calls (map g f w) = does g f w
@@ -53,6 +56,7 @@ onMaps does calls (clearMark a n) = calls (clearMark a n)
 onMaps does calls (load a) = calls (load a)
 onMaps does calls (store a v) = calls (store a v)
 onMaps does calls (device a v) = calls (device a v)
+onMaps does calls (forecast xs) = calls (forecast xs)
 
 abbrev pub onUnmaps : (ℕ → Does) → Calls → Calls
 onUnmaps does calls (unmap g) = does g
@@ -63,6 +67,7 @@ onUnmaps does calls (clearMark a n) = calls (clearMark a n)
 onUnmaps does calls (load a) = calls (load a)
 onUnmaps does calls (store a v) = calls (store a v)
 onUnmaps does calls (device a v) = calls (device a v)
+onUnmaps does calls (forecast xs) = calls (forecast xs)
 
 abbrev pub onSets : (ℕ → ℕ → Does) → Calls → Calls
 onSets does calls (setMark a n) = does a n
@@ -73,6 +78,7 @@ onSets does calls (clearMark a n) = calls (clearMark a n)
 onSets does calls (load a) = calls (load a)
 onSets does calls (store a v) = calls (store a v)
 onSets does calls (device a v) = calls (device a v)
+onSets does calls (forecast xs) = calls (forecast xs)
 
 abbrev pub onClears : (ℕ → ℕ → Does) → Calls → Calls
 onClears does calls (clearMark a n) = does a n
@@ -83,3 +89,15 @@ onClears does calls (setMark a n) = calls (setMark a n)
 onClears does calls (load a) = calls (load a)
 onClears does calls (store a v) = calls (store a v)
 onClears does calls (device a v) = calls (device a v)
+onClears does calls (forecast xs) = calls (forecast xs)
+
+abbrev pub onForecasts : (List ℕ → Does) → Calls → Calls
+onForecasts does calls (forecast xs) = does xs
+onForecasts does calls (root g) = calls (root g)
+onForecasts does calls (map g f w) = calls (map g f w)
+onForecasts does calls (unmap g) = calls (unmap g)
+onForecasts does calls (setMark a n) = calls (setMark a n)
+onForecasts does calls (clearMark a n) = calls (clearMark a n)
+onForecasts does calls (load a) = calls (load a)
+onForecasts does calls (store a v) = calls (store a v)
+onForecasts does calls (device a v) = calls (device a v)

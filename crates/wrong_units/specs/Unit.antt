@@ -7,8 +7,7 @@ use mathlib.Core.List.{List, [], _∷_}
 use mathlib.Core.Option.{Option}
 use lib.ListN.{length}
 use Rattle.spec.specs.Answer.{Line, line}
-use Rattle.spec.specs.declared.Call.{Call}
-use Rattle.spec.specs.declared.Call.the-variants.{Load as load}
+use Rattle.spec.specs.Call.{Call, load}
 use Rattle.spec.specs.Run.{State, run, after, opened}
 use Rattle.words.specs.After.{After}
 use Rattle.record.specs.declared.Record.{Record}

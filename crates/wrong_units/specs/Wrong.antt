@@ -5,10 +5,10 @@
 -- Assumes nothing.
 use Prim.Native.Nat.{ℕ, suc, _*_, _^_}
 use mathlib.Core.Bool.{Bool, true, false, _&&_, cond}
-use mathlib.Core.List.{List, _++_}
+use mathlib.Core.List.{List, [], _∷_, _++_}
 use lib.Dec.{eqb, leb, ltb}
 use lib.Count.{ones}
-use lib.ListN.{take, drop}
+use lib.ListN.{length, take, drop, replicate}
 use Rattle.spec.specs.declared.Fault.{Fault}
 use Rattle.spec.specs.declared.Fault.the-variants.{Absent, Malformed, Protected, HostAbsent, HostReadOnly}
 use Rattle.spec.specs.declared.Answer.{Answer}
@@ -16,9 +16,10 @@ use Rattle.spec.specs.declared.Answer.the-variants as answer
 use Rattle.spec.specs.Config.{Config, guestBase, signBit}
 use Rattle.spec.specs.Entry.{pageOf, wordOf, indexes}
 use Rattle.spec.specs.Plain.{next}
-use Rattle.spec.specs.Refusal.{alikeFrom, wordAligned}
-use Rattle.spec.specs.declared.Call.the-variants.{Map as map, SetMark as setMark, Load as load, Store as store, Device as device}
-use Rattle.words.specs.After.{After}
+use Rattle.spec.specs.Refusal.{alikeFrom, wordAligned, forecastRoom}
+use Rattle.spec.specs.Call.{map, setMark, load, store, device, forecast}
+use Rattle.spec.specs.Serving.{loads}
+use Rattle.words.specs.After.{After, yields}
 use Rattle.words.specs.Words.{wordIn, setIn}
 use Rattle.pool.specs.declared.Pool.{Pool}
 use Rattle.host.specs.declared.Change.{Change}
@@ -40,10 +41,15 @@ use Rattle.request.specs.declared.Served.{Served}
 use Rattle.request.specs.Access as access
 use Rattle.request.specs.Access.{serving, stored, writtenBy}
 use Rattle.calls.specs.declared.Reply.{Reply}
-use Rattle.calls.specs.Calls.{hostTop, heldOf, rootOf, withHeld, withHost, nothing, ended, refused, judged, servedBy, depthAt, addressOk, deviceOk, translatedOf, markRefusal, markedOf, marksAfter, callOf}
+use Rattle.calls.specs.Calls.{hostTop, heldOf, rootOf, withHeld, withHost, nothing, ended, refused, judged, servedBy, depthAt, addressOk, deviceOk, translatedOf, keysOf, markRefusal, markedOf, marksAfter, callOf}
+use Rattle.forecast.specs.declared.Outlook.{Outlook}
+use Rattle.forecast.specs.declared.Next.{Next}
+use Rattle.forecast.specs.declared.Next.the-variants.{Go, Damaged}
+use Rattle.forecast.specs.Forecast.{addressOf, onward, start}
+use Rattle.claims.specs.Run.{unitAfter}
 use Rattle.claims.specs.Plain.{plainWalk}
 use Rattle.wrong_units.specs.Unit.{Calls}
-use Rattle.wrong_units.specs.Changed.{Does, onLoads, onStores, onDevices, onMaps, onUnmaps, onSets, onClears}
+use Rattle.wrong_units.specs.Changed.{Does, onLoads, onStores, onDevices, onMaps, onUnmaps, onSets, onClears, onForecasts}
 
 -- ---- what is said of a call, changed
 
@@ -58,6 +64,7 @@ flat (answer.Value v n e) = answer.Value v 4 0
 flat (answer.Done n e) = answer.Done 4 0
 flat (answer.Faulted x n e) = answer.Faulted x 4 0
 flat (answer.Refused n) = answer.Refused n
+flat (answer.Figures n e t) = answer.Figures n e t
 
 unfoldable pub flatCounts : Calls
 flatCounts x r m = saying flat (callOf x r m)
@@ -76,6 +83,7 @@ missingIn (answer.Value v n e) = answer.Value v n e
 missingIn (answer.Done n e) = answer.Done n e
 missingIn (answer.Faulted x n e) = answer.Faulted (missing x) n e
 missingIn (answer.Refused n) = answer.Refused n
+missingIn (answer.Figures n e t) = answer.Figures n e t
 
 unfoldable pub readOnlyMissing : Calls
 readOnlyMissing x r m = saying missingIn (callOf x r m)
@@ -87,6 +95,7 @@ always w (answer.Value v n e) = answer.Value w n e
 always w (answer.Done n e) = answer.Done n e
 always w (answer.Faulted x n e) = answer.Faulted x n e
 always w (answer.Refused n) = answer.Refused n
+always w (answer.Figures n e t) = answer.Figures n e t
 
 unfoldable pub oneWord : Calls
 oneWord x r m = saying (always (wordIn m (guestBase (configOf r)) 0)) (callOf x r m)
@@ -214,6 +223,7 @@ ownPage a r m (answer.Value v n e) = ended r (answer.Value v n e) m
 ownPage a r m (answer.Done n e) = leaving r (answer.Done n e) (dropPrefixOf (configOf r) (r .pools .shadow) m (indexes (r .layout .levels) (pageOf a)))
 ownPage a r m (answer.Faulted x n e) = ended r (answer.Faulted x n e) m
 ownPage a r m (answer.Refused n) = ended r (answer.Refused n) m
+ownPage a r m (answer.Figures n e t) = ended r (answer.Figures n e t) m
 
 -- a store drops by its own guest-virtual page alone
 abbrev pub storeByOwnPage : ℕ → ℕ → Does
@@ -247,7 +257,69 @@ rewalked m a w (answer.Value v n e) = walkedTo m a w n e
 rewalked m a w (answer.Done n e) = answer.Done n e
 rewalked m a w (answer.Faulted x n e) = walkedTo m a w n e
 rewalked m a w (answer.Refused n) = answer.Refused n
+rewalked m a w (answer.Figures n e t) = answer.Figures n e t
 
 -- each load walks both sets of tables in full, and reports the counts of the held path
 unfoldable pub walksInFull : Calls
 walksInFull = onLoads (λ a r m. saying (rewalked m a (plainWalk r m false a)) (callOf (load a) r m)) callOf
+
+-- ---- forecasts (document 02, 2), misread. A forecast is ours with what an address does, and what is said at the end, as arguments
+
+-- the outlook after an address: record, memory, the room's keys, the outlook before it
+abbrev pub Steps : Type 0
+Steps = Record → List ℕ → List ℕ → Outlook → ℕ → After Next
+
+unfoldable pub ourStep : Steps
+ourStep r m ks o a = addressOf (configOf r) (hostTop r) m (heldOf r) (rootOf r) (keysOf r) ks o a
+
+unfoldable pub ourEnd : Outlook → Answer
+ourEnd o = answer.Figures (o .sum .references) (o .sum .exits) (o .sum .tables)
+
+unfoldable pub listWith : Steps → (Outlook → Answer) → Record → List ℕ → List ℕ → Outlook → List ℕ → Answer
+listWith does ends r m ks o [] = ends o
+listWith does ends r m ks o (a ∷ xs) =
+    let n : After Next = does r m ks o a in
+    onward (n .result) (λ u. listWith does ends r m (n .memory) u xs)
+
+unfoldable pub forecastWith : Steps → (Outlook → Answer) → List ℕ → Does
+forecastWith does ends xs r m =
+    judged r m (cond (leb (length xs) forecastRoom) (ended r (listWith does ends r m (replicate forecastRoom 0) (start (r .pools .shadow .used)) xs) m) (refused r 14 m))
+
+-- each address is judged by what was held before the list, so that a second one of a path costs an exit again
+abbrev pub stepAlone : Steps
+stepAlone r m ks o a = ourStep r m ks (record { sum = o .sum; paths = (start (r .pools .shadow .used)) .paths }) a
+
+unfoldable pub eachAlone : Calls
+eachAlone = onForecasts (forecastWith stepAlone ourEnd) callOf
+
+-- an overflow forgets the paths that the list filled, and not those that were held before it
+abbrev pub keptStill : Next → Next
+keptStill (Go o) = Go (record { sum = o .sum; paths = record { used = o .paths .used; kept = true; count = o .paths .count } })
+keptStill Damaged = Damaged
+
+abbrev pub stepKeeping : Steps
+stepKeeping r m ks o a = let n : After Next = ourStep r m ks o a in yields (keptStill (n .result)) (n .memory)
+
+unfoldable pub forgetsOwnOnly : Calls
+forgetsOwnOnly = onForecasts (forecastWith stepKeeping ourEnd) callOf
+
+-- the tables in use at the end are said, not the most
+unfoldable pub tablesAtEnd : Calls
+tablesAtEnd = onForecasts (forecastWith ourStep (λ o. answer.Figures (o .sum .references) (o .sum .exits) (o .paths .used))) callOf
+
+-- an address that meets 4 ends the list
+abbrev pub untilIllegal : Record → List ℕ → List ℕ
+untilIllegal r [] = []
+untilIllegal r (a ∷ xs) = cond (addressOk r a) (a ∷ untilIllegal r xs) []
+
+unfoldable pub endsAtFour : Calls
+endsAtFour = onForecasts (λ xs r m. callOf (forecast (untilIllegal r xs)) r m) callOf
+
+-- the list is really served: the figures are right, and its paths stay held
+abbrev pub serveAll : List ℕ → Does
+serveAll xs r m =
+    let e : After Reply = unitAfter (loads xs) r m (ended r answer.Ok m) in
+    ended (e .result .unit) (callOf (forecast xs) r m .result .answer) (e .memory)
+
+unfoldable pub servesForReal : Calls
+servesForReal = onForecasts serveAll callOf

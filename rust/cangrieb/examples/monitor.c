@@ -1,4 +1,4 @@
-/* The six records of document 01's job program, as calls; prints the lines that the program prints. */
+/* The six records of document 01's job program, as calls; prints the lines that the program prints, and a forecast's. */
 #include "cangrieb.h"
 #include <inttypes.h>
 #include <stdio.h>
@@ -15,6 +15,8 @@ static void say(int line, struct cangrieb_answer a)
         printf("done ");
     if (a.kind == CANGRIEB_FAULT)
         printf("fault %c %" PRIu64 " %" PRIu64 " ", (char)a.letter, a.level, a.frame);
+    if (a.kind == CANGRIEB_FIGURES)
+        printf("tables %" PRIu64 " ", a.number);
     if (a.kind == CANGRIEB_OK)
         printf("ok\n");
     else if (a.kind == CANGRIEB_REFUSED)
@@ -34,8 +36,12 @@ int main(void)
     say(4, cangrieb_device_store(head, place, memory, words, 0, 0x1003));
     say(5, cangrieb_load(head, place, memory, words, 0));
     say(6, cangrieb_load(head, place, memory, words, 4));
+    /* What these loads would cost once more, and what none would. */
+    const uint64_t addresses[] = {0, 4};
+    say(7, cangrieb_forecast(head, place, memory, words, addresses, 2));
+    say(8, cangrieb_forecast(head, place, memory, words, NULL, 0));
     /* No memory at all is refused too. */
-    say(7, cangrieb_load(head, place, NULL, 0, 0));
-    say(8, cangrieb_open(head, place, NULL, 0, 4, 4));
+    say(9, cangrieb_load(head, place, NULL, 0, 0));
+    say(10, cangrieb_open(head, place, NULL, 0, 4, 4));
     return 0;
 }

@@ -13,14 +13,20 @@ fn main() {
     for (address, entry) in [(0x0000, 0x1003), (0x1000, 0x2003), (0x2000, 0x3003), (0x3000, 0x4003)] {
         unit.device_store(&mut memory, address, entry);
     }
-    for address in [0, 0, 0x1000] {
+    let addresses = [0, 0, 0x1000];
+    if let Answer::Figures { references, exits, tables } = unit.forecast(&memory, &addresses) {
+        println!("forecast: {references} references, {exits} exits, {tables} shadow tables");
+    }
+    for address in addresses {
         match unit.load(&mut memory, address) {
             Answer::Value { word, references, exits } => {
                 println!("{address:#x}: {word:#x}, {references} references, {exits} exits")
             }
             Answer::Fault { fault, .. } => println!("{address:#x}: {fault}"),
             Answer::Refused(refusal) => println!("{address:#x}: {refusal}"),
-            Answer::Ok | Answer::Done { .. } => unreachable!("no answer to a load"),
+            Answer::Ok | Answer::Done { .. } | Answer::Figures { .. } => {
+                unreachable!("no answer to a load")
+            }
         }
     }
 }

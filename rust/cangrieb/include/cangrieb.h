@@ -4,17 +4,18 @@
    guest area. It also keeps the unit's record, a head and the places of the marks, and lends all three to each call.
    cangrieb_open lays the memory out and writes the record; each later call takes that record and the same memory.
 
-   The pointers must be to a head, to 64 places and to that many words of memory, which do not overlap and which nothing
-   else uses during the call. The number of words may be 0, and the memory's pointer then null. Nothing else is asked: a
-   memory of another length or a record that breaks a rule is refused with 3, a damaged table with 11, and no call reads
-   or writes a word outside the three.
+   The pointers must be to a head, to 64 places and to that many words of memory, those of a forecast also to that many
+   addresses, which do not overlap and which nothing else uses during the call. The number of words or addresses may be 0,
+   and their pointer then null. Nothing else is asked: a memory of another length or a record that breaks a rule is refused
+   with 3, a damaged table with 11, and no call reads or writes a word outside what it is lent.
 
    A refused opening sets head and places to 0, and every later call with such a record is refused with 3. A granted one sets the
    host and shadow frames to 0, but that word 1 of frame 0, the top host table, has bits of the table's header.
 
-   For who links this into a kernel: a call takes at most 8 KiB of stack (a test measures it: 5.5 KiB for marks, 2.1 KiB for all
-   others), allocates nothing and calls nothing but memcpy and memset. By the System V x86-64 convention it may use the SSE registers
-   and the 128 bytes below the stack pointer: a kernel saves the registers, and takes interrupts on another stack. */
+   For who links this into a kernel: a call takes at most 8 KiB of stack (a test measures it: 5.5 KiB for marks, 3.2 KiB for a
+   forecast, 2.1 KiB for all others), allocates nothing and calls nothing but memcpy and memset. By the System V x86-64 convention
+   it may use the SSE registers and the 128 bytes below the stack pointer: a kernel saves the registers, and takes interrupts on
+   another stack. */
 #ifndef CANGRIEB_H
 #define CANGRIEB_H
 
@@ -59,12 +60,13 @@ enum cangrieb_kind {
     CANGRIEB_DONE = 2,    /* references, exits */
     CANGRIEB_FAULT = 3,   /* letter, level or frame, references, exits */
     CANGRIEB_REFUSED = 4, /* number */
+    CANGRIEB_FIGURES = 5, /* number, references, exits */
 };
 
 /* The answer of a call. What its kind does not have is 0. */
 struct cangrieb_answer {
     uint64_t kind;
-    uint64_t number;     /* the word loaded, or the number of the refusal */
+    uint64_t number;     /* the word loaded, the number of the refusal, or a forecast's shadow tables */
     uint64_t letter;     /* in ASCII: A absent, M malformed, P protected, H host absent, W host read-only */
     uint64_t level;      /* the guest level of A, M, P */
     uint64_t frame;      /* the guest frame of H, W */
@@ -82,8 +84,8 @@ _Static_assert(sizeof(struct cangrieb_answer) == 7 * sizeof(uint64_t), "an answe
 /* Refusals of each call in parentheses; of several that apply, the first named.
    1 the words are no multiple of 512, or the frames are 0 or more than 65,536; 2 fewer than 4 host or shadow frames, or no
    guest frame; 3 the memory's length or the record; 4 the address; 5 the mark's level; 6 the mark is set already, or is not
-   set; 7 64 marks are set; 8 the guest frame; 9 the host frame; 10 no host table is free; 12 not mapped; 11 a damaged
-   host or shadow table.
+   set; 7 64 marks are set; 8 the guest frame; 9 the host frame; 10 no host table is free; 12 not mapped; 14 more than 256
+   addresses; 11 a damaged host or shadow table.
    For 4: a guest-virtual address is legal when its bits 48 to 63 all equal bit 47; a device's address, which is
    guest-physical, is below 2^48. Loads and stores are at multiples of 8; a mark's address need not be.
    A refusal leaves the head and the places as given; that of an opening sets them to 0. */
@@ -124,6 +126,13 @@ struct cangrieb_answer cangrieb_set_mark(struct cangrieb_head *head, uint64_t pl
 /* Clears that mark (3, 4, 5, 6, 11). */
 struct cangrieb_answer cangrieb_clear_mark(struct cangrieb_head *head, uint64_t place[64], uint64_t *memory,
                                            size_t words, uint64_t address, uint64_t level);
+
+/* What loads of so many guest-virtual addresses, in this order, would cost (3, 14, 11): the references and exits of all, and
+   as number the greatest number of shadow tables in use before the first and after each. A load that would fault counts
+   what its fault carries, one that would be refused with 4 counts nothing, and the list goes on. Nothing is changed, not by
+   11 either: head, places, memory and addresses are only read. With a count of 0 the addresses' pointer may be null. */
+struct cangrieb_answer cangrieb_forecast(const struct cangrieb_head *head, const uint64_t place[64],
+                                         const uint64_t *memory, size_t words, const uint64_t *addresses, size_t count);
 
 #ifdef __cplusplus
 }

@@ -143,11 +143,20 @@ pub enum Answer {
         /// Calls of the guest's processor to the monitor.
         exits: u64,
     },
+    /// A forecast: what serving its list would cost.
+    Figures {
+        /// Words of tables read, in all.
+        references: u64,
+        /// Calls of the guest's processor to the monitor, in all.
+        exits: u64,
+        /// The greatest number of shadow tables in use, from before the first address on.
+        tables: u64,
+    },
     /// The call was refused; the record is as it was, and so is the memory, but that 11 may have altered host and shadow frames.
     Refused(Refusal),
 }
 
-/// Why a call was refused: its number, from 1 to 12.
+/// Why a call was refused: its number, 1 to 12 or 14.
 ///
 /// For 4: a guest-virtual address is legal when its bits 48 to 63 all equal bit 47; a device's address, which is
 /// guest-physical, is below 2^48. Loads and stores are at multiples of 8; a mark's address need not be.
@@ -169,6 +178,7 @@ impl fmt::Display for Refusal {
             10 => "no host table is free",
             11 => "a host or shadow table is damaged",
             12 => "the guest frame is not mapped",
+            14 => "more than 256 addresses",
             _ => "no number of the unit's",
         };
         write!(out, "refused with {}: {why}", self.0)
@@ -201,6 +211,7 @@ impl Answer {
             1 => Answer::Value { word: raw.number, references, exits },
             2 => Answer::Done { references, exits },
             3 => Answer::Fault { fault: Fault::from_raw(raw), references, exits },
+            5 => Answer::Figures { references, exits, tables: raw.number },
             _ => Answer::Refused(Refusal(raw.number)),
         }
     }
@@ -292,5 +303,38 @@ impl Record {
     #[inline]
     pub fn clear_mark(&mut self, memory: &mut [u64], address: u64, level: u64) -> Answer {
         call!(cangrieb_clear_mark(&mut self.head, &mut self.place, memory, address, level))
+    }
+
+    /// What loads of these guest-virtual addresses, in this order, would cost: 3, 14 for more than 256 addresses, 11.
+    /// A load that would fault counts what its fault carries, one that would be refused with 4 counts nothing, and the list
+    /// goes on. Nothing is changed, not by 11 either.
+    ///
+    /// ```
+    /// use cangrieb::{Answer, Record};
+    ///
+    /// let mut memory = vec![0; 16 * 512];
+    /// let mut unit = Record::open(&mut memory, 4, 4).unwrap();
+    /// unit.map(&mut memory, 0, 8, true);
+    /// unit.device_store(&mut memory, 0, 3);
+    /// // The first load fills the path through four shadow tables, the second finds it; 4 is no multiple of 8.
+    /// let figures = unit.forecast(&memory, &[0, 8, 4]);
+    /// assert_eq!(figures, Answer::Figures { references: 8, exits: 1, tables: 4 });
+    /// assert_eq!(unit.load(&mut memory, 0), Answer::Value { word: 3, references: 4, exits: 1 });
+    /// ```
+    #[inline]
+    pub fn forecast(&self, memory: &[u64], addresses: &[u64]) -> Answer {
+        // Each pointer and its length are those of one slice. All is lent to be read and nothing is written, so that it
+        // does no harm if the two overlap. The function asks for nothing else.
+        let answer = unsafe {
+            raw::cangrieb_forecast(
+                &self.head,
+                &self.place,
+                memory.as_ptr(),
+                memory.len(),
+                addresses.as_ptr(),
+                addresses.len(),
+            )
+        };
+        Answer::from_raw(answer)
     }
 }

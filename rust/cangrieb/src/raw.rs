@@ -9,9 +9,9 @@ use core::mem::size_of;
 #[repr(C)]
 #[derive(Clone, Copy, Debug, PartialEq, Eq)]
 pub struct Answer {
-    /// 0 ok, 1 value, 2 done, 3 fault, 4 refusal.
+    /// 0 ok, 1 value, 2 done, 3 fault, 4 refusal, 5 figures.
     pub kind: u64,
-    /// The word of a value, the number of a refusal.
+    /// The word of a value, the number of a refusal, the shadow tables of figures.
     pub number: u64,
     /// The letter of a fault, in ASCII.
     pub letter: u64,
@@ -107,5 +107,14 @@ extern "C" {
         words: usize,
         address: u64,
         level: u64,
+    ) -> Answer;
+    /// What loads of so many addresses would cost: 3, 14, 11. If there are none, their pointer may be null.
+    pub fn cangrieb_forecast(
+        head: &Head,
+        place: &[u64; 64],
+        memory: *const u64,
+        words: usize,
+        addresses: *const u64,
+        count: usize,
     ) -> Answer;
 }

@@ -3,7 +3,8 @@
 use std::path::{Path, PathBuf};
 use std::process::Command;
 
-const LINES: &str = "1 ok\n2 ok\n3 ok\n4 done 4 0\n5 fault H 0 1 9 1\n6 no 4\n7 no 3\n8 no 1\n";
+const LINES: &str = "1 ok\n2 ok\n3 ok\n4 done 4 0\n5 fault H 0 1 9 1\n6 no 4\n\
+                     7 tables 0 9 1\n8 tables 0 0 0\n9 no 3\n10 no 1\n";
 
 fn package() -> &'static Path {
     Path::new(env!("CARGO_MANIFEST_DIR"))

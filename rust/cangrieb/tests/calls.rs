@@ -26,6 +26,10 @@ fn value(word: u64, references: u64, exits: u64) -> Answer {
     Answer::Value { word, references, exits }
 }
 
+fn figures(references: u64, exits: u64, tables: u64) -> Answer {
+    Answer::Figures { references, exits, tables }
+}
+
 fn refused(number: u64) -> Answer {
     Answer::Refused(Refusal(number))
 }
@@ -122,8 +126,59 @@ fn mappings() {
     assert_eq!(unit.map(&mut memory, 4, 7, true), refused(9));
 }
 
+/// Of each list the references and exits of its loads, and the greatest number of tables.
+#[test]
+fn forecasts() {
+    let (mut unit, mut memory) = guest();
+    assert_eq!(unit.forecast(&memory, &[]), figures(0, 0, 0));
+    assert_eq!(unit.forecast(&memory, &[8, 0]), figures(8, 1, 4));
+    // Five tables do not fit four; an address that would meet 4; H, A of level 1, A of level 4.
+    assert_eq!(unit.forecast(&memory, &[0, 0x20_0000, 0]), figures(12, 3, 4));
+    assert_eq!(unit.forecast(&memory, &[4, 0, 1 << 47, UPPER - 8, 8]), figures(8, 1, 4));
+    assert_eq!(unit.forecast(&memory, &[0x2000, 0x3000, UPPER, 0]), figures(24 + 20 + 5 + 4, 4, 4));
+    // Nothing was filled. Then the path of 0 is held, till the list itself drops it.
+    assert_eq!(unit.load(&mut memory, 0), value(0, 4, 1));
+    assert_eq!(unit.forecast(&memory, &[]), figures(0, 0, 4));
+    assert_eq!(unit.forecast(&memory, &[0, 0x20_0000, 0]), figures(12, 2, 4));
+    assert_eq!(unit.load(&mut memory, 0), value(0, 4, 0));
+    // Through a mark, of two tables; four were in use at the start.
+    assert_eq!(unit.device_store(&mut memory, 256 * 8, 0x1003), Answer::Done { references: 4, exits: 1 });
+    assert_eq!(unit.set_mark(&mut memory, UPPER, 2), Answer::Ok);
+    assert_eq!(unit.forecast(&memory, &[UPPER, UPPER]), figures(24, 1, 4));
+    assert_eq!(unit.set_mark(&mut memory, UPPER, 5), Answer::Ok);
+    assert_eq!(unit.forecast(&memory, &[UPPER, 0]), figures(48, 0, 0));
+}
+
+/// 14 is by the length alone, after 3. No list at all may have a null pointer.
+#[test]
+fn the_length_of_a_list() {
+    let (unit, memory) = guest();
+    assert_eq!(unit.forecast(&memory, &[0; 256]), figures(4 * 256, 1, 4));
+    assert_eq!(unit.forecast(&memory, &[4; 256]), figures(0, 0, 0));
+    assert_eq!(unit.forecast(&memory, &[0; 257]), refused(14));
+    assert_eq!(unit.forecast(&memory, &[4; 257]), refused(14));
+    assert_eq!(unit.forecast(&memory[512..], &[0; 257]), refused(3));
+    let null = std::ptr::null();
+    let none =
+        unsafe { raw::cangrieb_forecast(&unit.head, &unit.place, memory.as_ptr(), memory.len(), null, 0) };
+    assert_eq!((none.kind, none.number, none.references, none.exits), (5, 0, 0, 0));
+}
+
+/// A host entry that names a guest frame as its table: 11, with no figures of what came before in the list.
+#[test]
+fn a_forecast_over_a_damaged_table() {
+    let (mut unit, mut memory) = guest();
+    assert_eq!(unit.load(&mut memory, 0), value(0, 4, 1));
+    memory[0] = memory[0] & !(0xFF_FFFF_FFFF << 12) | 9 << 12;
+    let before = memory.clone();
+    assert_eq!(unit.forecast(&memory, &[0, 0x1000]), refused(11));
+    assert_eq!(unit.forecast(&memory, &[0; 257]), refused(14));
+    assert_eq!(memory, before);
+    assert_eq!(unit.load(&mut memory, 0x1000), refused(11));
+}
+
 /// Every call but the opening through the archive's own functions, each on a copy of the record, with an address and a
-/// guest frame. The record after each, and the kind and number of its answer.
+/// guest frame; a forecast of more addresses than it takes. The record after each, and the kind and number of its answer.
 ///
 /// # Safety
 /// The pointer is to so many words, or there are none.
@@ -133,7 +188,8 @@ unsafe fn every_call(
     words: usize,
     address: u64,
     guest: u64,
-) -> [(Record, (u64, u64)); 8] {
+) -> [(Record, (u64, u64)); 9] {
+    let list = [address; 257];
     let on_a_copy = |call: &dyn Fn(&mut Head, &mut [u64; 64]) -> raw::Answer| {
         let mut after = *record;
         let said = call(&mut after.head, &mut after.place);
@@ -148,6 +204,9 @@ unsafe fn every_call(
         on_a_copy(&|head, place| raw::cangrieb_unmap(head, place, memory, words, guest)),
         on_a_copy(&|head, place| raw::cangrieb_set_mark(head, place, memory, words, address, 1)),
         on_a_copy(&|head, place| raw::cangrieb_clear_mark(head, place, memory, words, address, 1)),
+        on_a_copy(&|head, place| {
+            raw::cangrieb_forecast(head, place, memory, words, list.as_ptr(), list.len())
+        }),
     ]
 }
 
@@ -186,7 +245,7 @@ fn refused_calls() {
     // Neither the address nor the guest frame is one.
     for address in [1 << 48, UPPER - 8] {
         let calls = unsafe { every_call(&unit, memory.as_mut_ptr(), memory.len(), address, 1 << 36) };
-        assert_eq!(calls.map(|(_, said)| said), [4, 4, 4, 8, 8, 8, 4, 4].map(|number| (4, number)));
+        assert_eq!(calls.map(|(_, said)| said), [4, 4, 4, 8, 8, 8, 4, 4, 14].map(|number| (4, number)));
         assert!(calls.iter().all(|(after, _)| *after == unit));
     }
     let mut after = unit;
@@ -240,7 +299,7 @@ fn broken_records() {
 fn texts() {
     assert_eq!(Refusal(12).to_string(), "refused with 12: the guest frame is not mapped");
     assert_eq!(Fault::HostAbsent { frame: 8 }.to_string(), "H: guest frame 8 is not mapped");
-    let texts: Vec<String> = (1..=12).map(|number| Refusal(number).to_string()).collect();
+    let texts: Vec<String> = (1..=12).chain([14]).map(|number| Refusal(number).to_string()).collect();
     assert!(texts.iter().all(|text| !text.contains("no number")));
     assert!(Refusal(13).to_string().contains("no number"));
 }

@@ -50,13 +50,19 @@ impl State {
     /// no word outside the memory changes; a refusal leaves the record, and
     /// but for 11 leaves every word; a store changes one guest word at most, to its
     /// value and at its place in a frame, and any other call none; a load yields a word that stands
-    /// in the guest area, at its place in a frame.
+    /// in the guest area, at its place in a frame; a forecast yields figures, 3, 14 or 11, and leaves
+    /// the record and every word.
     pub fn checked_call(&mut self, before: &mut State, call: &Call, part: usize, counts: &mut Counts) {
         before.record = self.record;
         before.lent.words.copy_from_slice(&self.lent.words);
         let said = answer(&mut self.record, &mut self.lent.memory()[..part], call);
-        *counts.entry(name(&said)).or_insert(0) += 1;
+        *counts.entry(name(call, &said)).or_insert(0) += 1;
         assert!(self.lent.margins_stand(), "{call:?} => {said:?}: a word outside the memory");
+        if let Call::Forecast { addresses } = call {
+            assert!(self.record == before.record, "{call:?} => {said:?}: the record");
+            assert!(self.lent.words == before.lent.words, "{call:?} => {said:?}: a word");
+            return check_figures(addresses.len() as u64, &said);
+        }
         if let Answer::No(number) = said {
             assert!(self.record == before.record, "{call:?} => {said:?}: the record");
             assert!(number == 11 || self.lent.words == before.lent.words, "{call:?} => {said:?}: a word");
@@ -68,24 +74,24 @@ impl State {
         let first = (before.record.head.hosts + before.record.head.shadows) as usize * FRAME;
         let guest = &self.lent.memory()[first..];
         let guest_before = &before.lent.memory()[first..];
-        match (*call, said) {
+        match (call, said) {
             (Call::Store { address, value } | Call::DeviceStore { address, value }, Answer::Done { .. }) => {
                 let changed = guest.iter().zip(guest_before).enumerate().filter(|(_, (now, was))| now != was);
                 let changed: Vec<(usize, u64)> = changed.map(|(at, (now, _))| (at % FRAME, *now)).collect();
-                let stored = (place(address), value);
+                let stored = (place(*address), *value);
                 assert!(
                     changed.iter().all(|word| *word == stored) && changed.len() <= 1,
                     "{call:?}: {changed:?}"
                 );
                 assert!(
-                    guest.iter().skip(stored.0).step_by(FRAME).any(|word| *word == value),
+                    guest.iter().skip(stored.0).step_by(FRAME).any(|word| *word == stored.1),
                     "{call:?}: not stored"
                 );
             }
             (Call::Load { address }, Answer::Value { value, .. }) => {
                 assert!(guest == guest_before, "{call:?} => {said:?}: a guest word");
                 assert!(
-                    guest.iter().skip(place(address)).step_by(FRAME).any(|word| *word == value),
+                    guest.iter().skip(place(*address)).step_by(FRAME).any(|word| *word == value),
                     "{call:?}"
                 );
             }
@@ -115,13 +121,30 @@ fn place(address: u64) -> usize {
     (address / 8) as usize % FRAME
 }
 
-fn name(said: &Answer) -> String {
-    match said {
+/// A plain walk, the longest, reads 24 words, and no load costs more than two exits.
+fn check_figures(length: u64, said: &Answer) {
+    match *said {
+        Answer::Figures { references, exits, .. } => {
+            assert!(length <= 256 && references <= 24 * length && exits <= 2 * length, "{length}: {said:?}")
+        }
+        Answer::No(14) => assert!(length > 256, "{length}: {said:?}"),
+        _ => assert!(matches!(said, Answer::No(3 | 11)), "{said:?} to a forecast"),
+    }
+}
+
+/// The answers to a forecast have names of their own.
+fn name(call: &Call, said: &Answer) -> String {
+    let name = match said {
         Answer::Ok => "ok".into(),
         Answer::Value { .. } => "value".into(),
         Answer::Done { .. } => "done".into(),
         Answer::Fault { fault, .. } => format!("fault {}", fault.letter()),
+        Answer::Figures { .. } => "figures".into(),
         Answer::No(number) => format!("refusal {number}"),
+    };
+    match call {
+        Call::Forecast { .. } => format!("forecast: {name}"),
+        _ => name,
     }
 }
 

@@ -17,6 +17,7 @@ pub fn answer(record: &mut Record, memory: &mut [u64], call: &Call) -> Answer {
         Call::Load { address } => record.load(memory, address),
         Call::Store { address, value } => record.store(memory, address, value),
         Call::DeviceStore { address, value } => record.device_store(memory, address, value),
+        Call::Forecast { ref addresses } => record.forecast(memory, addresses),
     };
     in_walkers_terms(said)
 }
@@ -31,6 +32,9 @@ fn in_walkers_terms(said: cangrieb::Answer) -> Answer {
         cangrieb::Answer::Fault { fault, references, exits } => {
             Answer::Fault { fault: fault_in_walkers_terms(fault), references, exits }
         }
+        cangrieb::Answer::Figures { references, exits, tables } => {
+            Answer::Figures { references, exits, tables }
+        }
         cangrieb::Answer::Refused(refusal) => Answer::No(refusal.0 as u32),
     }
 }
@@ -43,6 +47,22 @@ fn fault_in_walkers_terms(fault: cangrieb::Fault) -> Fault {
         cangrieb::Fault::HostAbsent { frame } => Fault::HostAbsent { frame },
         cangrieb::Fault::HostReadOnly { frame } => Fault::HostReadOnly { frame },
     }
+}
+
+/// What the proved unit really takes to serve the list: a forecast's figures. The tables are those of the record, before
+/// the first load and after each.
+pub fn served(mut record: Record, memory: &mut [u64], addresses: &[u64]) -> Answer {
+    let (mut references, mut exits) = (0, 0);
+    let mut tables = record.head.shadow.used;
+    for address in addresses {
+        let said = answer(&mut record, memory, &Call::Load { address: *address });
+        assert!(!matches!(said, Answer::No(number) if number != 4), "load {address:#x} => {said:?}");
+        let (more_references, more_exits) = said.counts();
+        references += more_references;
+        exits += more_exits;
+        tables = tables.max(record.head.shadow.used);
+    }
+    Answer::Figures { references, exits, tables }
 }
 
 /// The run's memory with random words in the host and shadow frames: an opening clears them.

@@ -4,13 +4,25 @@
 //! return: the call and all that it calls, and nothing of the loop around it. So nothing is subtracted, and the counts are
 //! exact.
 
+use std::collections::BTreeMap;
 use std::fmt::Write as _;
 use std::io::Write as _;
 use std::path::{Path, PathBuf};
 use std::process::Command;
 
-/// How many times a case is run. Each costs the same, so that the total is a multiple.
-const CALLS: u64 = 100;
+/// How many times a case is run: a list of 256 addresses less often. Each costs the same, so that the total is a multiple.
+fn times(case: &str) -> u64 {
+    if case.contains("-256-") {
+        4
+    } else {
+        100
+    }
+}
+
+/// A forecast and the loads that it speaks of. It may take this many times their instructions.
+const FORECASTS: [(&str, &str); 2] =
+    [("forecast-256-missing", "serve-256-missing"), ("forecast-256-spread", "serve-256-spread")];
+const MOST_TIMES: u64 = 4;
 
 /// For the program and what callgrind writes.
 const FOLDER: &str = env!("CARGO_TARGET_TMPDIR");
@@ -46,15 +58,16 @@ fn count(program: &Path, case: &str) -> u64 {
             .args(["--tool=callgrind", "--toggle-collect=counted_*"])
             .arg(format!("--callgrind-out-file={profile}"))
             .arg(program)
-            .args([case, &CALLS.to_string()]),
+            .args([case, &times(case).to_string()]),
     );
     let text = std::fs::read_to_string(&profile).unwrap();
     std::fs::remove_file(&profile).unwrap();
     let total = text.lines().find_map(|line| line.strip_prefix("totals: ")).expect("a line of totals");
     let total: u64 = total.parse().expect(total);
     assert!(total > 0, "{case}: callgrind saw no function counted_*");
-    assert_eq!(total % CALLS, 0, "{case}: {total} in all, so that not each of {CALLS} costs the same");
-    total / CALLS
+    let times = times(case);
+    assert_eq!(total % times, 0, "{case}: {total} in all, so that not each of {times} costs the same");
+    total / times
 }
 
 /// The lines of counts.txt: a case and its bound.
@@ -78,8 +91,10 @@ fn within_their_bounds() {
 
     let mut table = format!("\n{:<22} {:>7} {:>7}\n", "instructions", "count", "bound");
     let mut above = String::new();
+    let mut counts = BTreeMap::new();
     for (case, bound) in bounds {
         let count = count(&program, &case);
+        counts.insert(case.clone(), count);
         let remark = if count > bound {
             writeln!(above, "{case}: {count} instructions, bound {bound}").unwrap();
             "  above its bound"
@@ -92,5 +107,12 @@ fn within_their_bounds() {
     }
     // Shown also where the test passes, as nothing printed by println is.
     std::io::stderr().write_all(table.as_bytes()).unwrap();
+    for (forecast, loads) in FORECASTS {
+        let (most, count) = (MOST_TIMES * counts[loads], counts[forecast]);
+        assert!(
+            count <= most,
+            "{forecast}: {count} instructions, more than {MOST_TIMES} times {loads}: {most}"
+        );
+    }
     assert!(above.is_empty(), "above their bounds in counts.txt:\n{above}");
 }

@@ -40,11 +40,11 @@ fn damaged_run(seed: u64, sizes: Sizes, counts: &mut Counts) {
         let mut state = sound.clone();
         state.damage(&mut random);
         for _ in 0..CALLS {
-            let call = random.pick(later);
+            let call = &later[random.below(later.len() as u64) as usize];
             let words = state.lent.memory().len();
             // Now and then only a part of the memory is lent, or nothing.
             let part = if random.one_in(100) { random.below(words as u64 + 1) as usize } else { words };
-            state.checked_call(&mut before, &call, part, counts);
+            state.checked_call(&mut before, call, part, counts);
         }
     }
 }
@@ -60,7 +60,9 @@ fn damaged_runs(first_seed: u64, calls: u64, sizes: fn(&mut Random) -> Sizes) {
         let refusals = [3, 4, 5, 6, 7, 8, 9, 10, 11, 12].map(|number| format!("refusal {number}"));
         let faults = ["A", "M", "P", "H", "W"].map(|letter| format!("fault {letter}"));
         let others = ["ok", "value", "done"].map(String::from);
-        for name in refusals.iter().chain(&faults).chain(&others) {
+        let forecasts =
+            ["figures", "refusal 3", "refusal 11", "refusal 14"].map(|name| format!("forecast: {name}"));
+        for name in refusals.iter().chain(&faults).chain(&others).chain(&forecasts) {
             assert!(counts.contains_key(name), "no damaged run had: {name}");
         }
     }

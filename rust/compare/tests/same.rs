@@ -1,12 +1,13 @@
-//! Random runs: every answer of the proved unit, with its counts, is the second walker's, and so are the guest words.
+//! Random runs: every answer of the proved unit, with its counts, is the second walker's, and so are the guest words. Each
+//! forecast is also what the unit takes to serve its list, and changes nothing.
 //! TIMES sets how many times as many runs there are; `-- --nocapture` shows how often each thing happened.
 
 use cangrieb::Record;
-use compare::{answer, first_guest_word, memory_before};
-use walker::events::{of_halves, Events};
+use compare::{answer, first_guest_word, memory_before, served};
+use walker::events::{of_forecasts, of_halves, Events};
 use walker::numbers::{different_proper_prefixes, indexes};
 use walker::random::{run, Random, Run, Sizes};
-use walker::Unit;
+use walker::{Answer, Call, Unit};
 
 const CALLS: usize = 1000;
 
@@ -18,10 +19,22 @@ fn same(seed: u64, run: &Run) -> Events {
     let mut record = Record::open(&mut memory, h, s).unwrap();
     let mut walker = Unit::open(levels, run.words.clone(), h, s).unwrap();
     assert!(memory[first..] == *walker.guest_words(), "seed {seed}, {:?}: the opening", run.sizes);
+    let mut copy = memory.clone();
     for (number, call) in run.calls.iter().enumerate() {
+        let before = record;
+        if matches!(call, Call::Forecast { .. }) {
+            copy.copy_from_slice(&memory);
+        }
         let said = answer(&mut record, &mut memory, call);
         let expected = walker.call(call);
         assert_eq!(said, expected, "seed {seed}, {:?}, call {number}: {call:?}", run.sizes);
+        if let Call::Forecast { addresses } = call {
+            let place = format!("seed {seed}, {:?}, forecast {number}: {call:?}", run.sizes);
+            assert!(record == before && memory == copy, "{place}: something changed");
+            if said != Answer::No(14) {
+                assert_eq!(said, served(before, &mut copy, addresses), "{place}: its loads");
+            }
+        }
         if frames <= 24 || number % 100 == 99 {
             let place =
                 format!("seed {seed}, {:?}, words or tables after call {number}: {call:?}", run.sizes);
@@ -48,6 +61,7 @@ fn host_tables(walker: &Unit) -> u64 {
 /// What the runs of each kind of memory must have had; `overflows` if the shadow tables are few.
 fn events(overflows: bool) -> Vec<String> {
     let mut names = of_halves(4);
+    names.extend(of_forecasts(4, overflows));
     let mut add = |name: String| names.push(name);
     for access in ["Load", "Store"] {
         for way in ["path held", "path not held"] {
@@ -116,6 +130,9 @@ fn all_same(first_seed: u64, runs: u64, overflows: bool, sizes: fn(&mut Random) 
         println!("{:>9} {event}", all.count(&event));
         assert!(all.count(&event) > 0, "no run had: {event}");
     }
+    let forecast = all.count("forecast, overflow");
+    println!("{forecast:>9} overflows in forecasts");
+    assert!(!overflows || forecast >= 1000, "{forecast} overflows in forecasts");
 }
 
 #[test]

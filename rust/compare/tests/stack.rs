@@ -54,6 +54,11 @@ fn used(mut run: &mut dyn FnMut()) -> usize {
 fn calls_stay_within_the_bound() {
     let thread = used(&mut || ());
     let mut memory = vec![0; 64 * 512];
+    // Each entry of the guest's one table names it again, so that every address has its word.
+    memory[16 * 512..17 * 512].fill(3);
+    let near: Vec<u64> = (0..256).map(|page| page << 12).collect();
+    // Of these any three need more than eight shadow tables.
+    let far: Vec<u64> = (0..256).map(|index| (index % 128) << 39).collect();
     let mut unit = None;
     let mut most = 0;
     let mut take = |name: &str, bytes: usize| {
@@ -93,6 +98,18 @@ fn calls_stay_within_the_bound() {
         }),
     );
     take(
+        "forecast",
+        used(&mut || {
+            unit.forecast(&memory, &near);
+        }),
+    );
+    take(
+        "forecast that overflows",
+        used(&mut || {
+            unit.forecast(&memory, &far);
+        }),
+    );
+    take(
         "set mark",
         used(&mut || {
             unit.set_mark(&mut memory, 0, 2);
@@ -102,6 +119,12 @@ fn calls_stay_within_the_bound() {
         "load, at depth 2",
         used(&mut || {
             unit.load(&mut memory, 0);
+        }),
+    );
+    take(
+        "forecast, at depth 2",
+        used(&mut || {
+            unit.forecast(&memory, &near);
         }),
     );
     take(

@@ -26,9 +26,11 @@ pub const HOST_TABLES_FULL: u32 = 10;
 pub const NOT_MAPPED: u32 = 12;
 /// "13 and the end, if the length is not its kind's, the kind is unknown or the input is cut"
 pub const BAD_RECORD: u32 = 13;
+/// A forecast of more addresses than it takes; only 3 goes before it.
+pub const TOO_MANY_ADDRESSES: u32 = 14;
 
 /// A call after a granted opening.
-#[derive(Clone, Copy, Debug, PartialEq, Eq)]
+#[derive(Clone, Debug, PartialEq, Eq)]
 pub enum Call {
     Root { frame: u64 },
     Map { guest: u64, host: u64, writable: bool },
@@ -38,6 +40,7 @@ pub enum Call {
     Load { address: u64 },
     Store { address: u64, value: u64 },
     DeviceStore { address: u64, value: u64 },
+    Forecast { addresses: Vec<u64> },
 }
 
 /// A fault with what it carries.
@@ -88,11 +91,26 @@ impl Fault {
     }
 }
 
+/// Figures are a forecast's: sums, and the greatest number of shadow tables in use.
 #[derive(Clone, Copy, Debug, PartialEq, Eq)]
 pub enum Answer {
     Ok,
     Value { value: u64, references: u64, exits: u64 },
     Done { references: u64, exits: u64 },
     Fault { fault: Fault, references: u64, exits: u64 },
+    Figures { references: u64, exits: u64, tables: u64 },
     No(u32),
+}
+
+impl Answer {
+    /// References and exits. What is refused has none.
+    pub fn counts(self) -> (u64, u64) {
+        match self {
+            Answer::Value { references, exits, .. }
+            | Answer::Done { references, exits }
+            | Answer::Fault { references, exits, .. }
+            | Answer::Figures { references, exits, .. } => (references, exits),
+            Answer::Ok | Answer::No(_) => (0, 0),
+        }
+    }
 }

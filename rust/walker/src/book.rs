@@ -23,7 +23,7 @@ pub struct HeldPath {
     pub writable: bool,
 }
 
-#[derive(Clone, Debug)]
+#[derive(Clone, Debug, PartialEq, Eq)]
 pub struct Book {
     levels: u32,
     shadow_frames: u64,

@@ -31,9 +31,20 @@ impl Events {
 
     /// Takes over all counts of another run.
     pub fn join(&mut self, other: &Events) {
+        self.join_as("", other);
+    }
+
+    /// Takes over all counts, with these words before their names.
+    pub fn join_as(&mut self, words: &str, other: &Events) {
         for (name, many) in &other.counts {
-            *self.counts.entry(name.clone()).or_insert(0) += many;
+            *self.counts.entry(format!("{words}{name}")).or_insert(0) += many;
         }
+    }
+
+    /// How often a fill dropped all paths, at whatever depth.
+    pub fn overflows(&self) -> u64 {
+        let named = self.counts.iter().filter(|(name, _)| name.starts_with("overflow at depth "));
+        named.map(|(_, many)| many).sum()
     }
 }
 
@@ -72,5 +83,55 @@ pub fn of_halves(levels: u32) -> Vec<String> {
     }
     add("depth unlike the other half's".into());
     add("like paths of both halves held".into());
+    names
+}
+
+/// What the forecasts of many runs of so many levels must have had; `overflows` if
+/// the shadow tables are few.
+pub fn of_forecasts(levels: u32, overflows: bool) -> Vec<String> {
+    let mut names = Vec::new();
+    let mut add = |name: String| names.push(name);
+    for length in [0, 1, 255, 256] {
+        add(format!("forecast of {length} addresses"));
+    }
+    add("refusal 14".into());
+    add("refusal 14, each address would meet 4".into());
+    // What its list meets, by the names that a load has them under.
+    for why in ["between the halves", "no multiple of 8"] {
+        add(format!("forecast: refusal 4 of Load, {why}"));
+    }
+    for half in ["lower half", "upper half"] {
+        (0..=levels + 1).for_each(|depth| add(format!("forecast: granted Load at depth {depth}, {half}")));
+        ["A", "M", "H"].iter().for_each(|letter| add(format!("forecast: fault {letter}, {half}")));
+    }
+    for depth in 0..=levels {
+        for way in ["path held", "path not held"] {
+            add(format!("forecast: granted Load at depth {depth}, {way}"));
+        }
+        // A and M need an entry in the shadow part.
+        for letter in if depth < levels { &["A", "M", "H"][..] } else { &["H"] } {
+            add(format!("forecast: fault {letter} at depth {depth}, shadow part, path not held"));
+        }
+    }
+    for letter in ["A", "M", "H"] {
+        // With five levels no entry of level 1 is malformed.
+        let least = if letter == "M" && levels > 4 { 2 } else { 1 };
+        for depth in least..=levels {
+            for way in ["path held", "path not held"] {
+                add(format!("forecast: fault {letter} at depth {depth}, direct part, {way}"));
+            }
+        }
+        add(format!("forecast: fault {letter} at depth {}, direct part, no path", levels + 1));
+    }
+    add("forecast, path held before".into());
+    add("forecast, path held by its list alone".into());
+    add("forecast, most tables at the end".into());
+    if overflows {
+        (0..=2).for_each(|depth| add(format!("forecast: overflow at depth {depth}")));
+        add("forecast, several overflows".into());
+        add("forecast, path held before, dropped by its list".into());
+        add("forecast, most tables at the start".into());
+        add("forecast, most tables in between".into());
+    }
     names
 }

@@ -10,7 +10,7 @@ pub const JOB_FRAMES: u64 = 16;
 pub const JOB_LEVELS: u32 = 4;
 
 /// What a record asks for.
-#[derive(Clone, Copy, Debug, PartialEq, Eq)]
+#[derive(Clone, Debug, PartialEq, Eq)]
 pub enum Record {
     Open { h: u16, s: u16 },
     Call(Call),
@@ -133,6 +133,8 @@ pub fn answer_line(answer: &Answer) -> String {
         Answer::Fault { fault, references, exits } => {
             format!("fault {} {} {} {references} {exits}", fault.letter(), fault.level(), fault.frame())
         }
+        // No job has a forecast; src/vectors.rs has.
+        Answer::Figures { references, exits, tables } => format!("figures {references} {exits} {tables}"),
         Answer::No(number) => format!("no {number}"),
     }
 }
@@ -155,6 +157,7 @@ pub fn write_record(record: &Record) -> Vec<u8> {
         Record::Call(Call::DeviceStore { address, value }) => {
             (9, [address.to_le_bytes(), value.to_le_bytes()].concat())
         }
+        Record::Call(Call::Forecast { .. }) => panic!("no kind of record is a forecast"),
     };
     raw_record(body.len() as u16 + 2, kind, &body)
 }

@@ -53,7 +53,7 @@ pub fn words_read(steps: &[Step]) -> u64 {
     steps.iter().map(Step::words).sum()
 }
 
-#[derive(Clone, Debug)]
+#[derive(Clone, Debug, PartialEq, Eq)]
 pub struct Machine {
     pub levels: u32,
     pub host_frames: u64,

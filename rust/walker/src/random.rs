@@ -2,7 +2,8 @@
 //! maps that make them reachable, and calls around a few pages. Frames are
 //! aliased, tables are mapped as pages or map themselves, table frames are
 //! remapped, tables and pages are read-only at times, marks come and go. Pages and
-//! marks are of both halves, and some differ in their half alone.
+//! marks are of both halves, and some differ in their half alone. One call in ten is
+//! a forecast, but not in jobs.
 
 use crate::answer::Call;
 use crate::job::{raw_record, write_record, Record, JOB_FRAMES, JOB_LEVELS};
@@ -90,10 +91,19 @@ pub struct Run {
 /// A run of so many calls. The first ones map the guest's frames and load the root.
 /// The sizes must be those of a granted opening, with four or five levels.
 pub fn run(seed: u64, sizes: Sizes, calls: usize) -> Run {
+    run_by(Guest::next_call, seed, sizes, calls)
+}
+
+/// A run of the calls that a job's records can make.
+pub fn job_run(seed: u64, sizes: Sizes, calls: usize) -> Run {
+    run_by(Guest::next_job_call, seed, sizes, calls)
+}
+
+fn run_by(next: fn(&mut Guest) -> Call, seed: u64, sizes: Sizes, calls: usize) -> Run {
     let mut guest = Guest::new(Random::new(seed), sizes);
     let mut list = guest.setup(calls);
     while list.len() < calls {
-        list.push(guest.next_call());
+        list.push(next(&mut guest));
     }
     list.truncate(calls);
     Run { sizes, words: guest.memory(), calls: list }
@@ -378,6 +388,14 @@ impl Guest {
     }
 
     fn next_call(&mut self) -> Call {
+        if self.random.one_in(10) {
+            self.forecast()
+        } else {
+            self.next_job_call()
+        }
+    }
+
+    fn next_job_call(&mut self) -> Call {
         if self.random.one_in(6) {
             if let Some(call) = self.undo.pop() {
                 return call;
@@ -536,6 +554,48 @@ impl Guest {
         Call::Root { frame: self.guest_frame() }
     }
 
+    /// A list for a forecast. One that is too long may have no legal address.
+    fn forecast(&mut self) -> Call {
+        let length = self.list_length();
+        let none_legal = length > 256 && self.random.one_in(2);
+        let mut addresses = Vec::new();
+        for _ in 0..length {
+            let address = if none_legal { self.illegal_address() } else { self.listed_address(&addresses) };
+            addresses.push(address);
+        }
+        Call::Forecast { addresses }
+    }
+
+    /// Mostly few: each address is a load. The longest lists are about the limit.
+    fn list_length(&mut self) -> u64 {
+        match self.random.below(64) {
+            0 | 1 => 0,
+            2 => 255 + self.random.below(3),
+            3..=5 => 13 + self.random.below(48),
+            _ => 1 + self.random.below(12),
+        }
+    }
+
+    /// Of the pages that calls go to, of one named in the list before, of any page
+    /// that the tables may have, whose paths need many tables, or at the edges.
+    fn listed_address(&mut self, before: &[u64]) -> u64 {
+        match self.random.below(16) {
+            0 => self.illegal_address(),
+            1 => self.address() + 1 + self.random.below(7),
+            2 => self.edge_address(),
+            3..=5 => self.any_page_address(),
+            6..=8 if !before.is_empty() => self.random.pick(before),
+            _ => self.address(),
+        }
+    }
+
+    /// The first address of a page all of whose indexes are ones of entries.
+    fn any_page_address(&mut self) -> u64 {
+        let levels = self.sizes.levels;
+        let list: Vec<u64> = (0..levels).map(|_| self.random.pick(&self.indexes)).collect();
+        address_of(page_from(&list, levels), levels)
+    }
+
     /// Calls at the edges: refused, or only just not.
     fn odd_call(&mut self) -> Call {
         let levels = self.sizes.levels;
@@ -683,7 +743,10 @@ fn refused_open(random: &mut Random) -> Vec<u8> {
 
 /// An open, the guest's words by device stores, and a run.
 pub fn job_part(seed: u64, sizes: Sizes, calls: usize) -> Vec<u8> {
-    let run = run(seed, sizes, calls);
+    let run = job_run(seed, sizes, calls);
+    let records = |list: Vec<Call>| {
+        list.into_iter().flat_map(|call| write_record(&Record::Call(call))).collect::<Vec<u8>>()
+    };
     let mut bytes = write_record(&Record::Open { h: sizes.h as u16, s: sizes.s as u16 });
     for host in sizes.first_guest_frame()..sizes.frames {
         let mut list = vec![Call::Map { guest: 0, host, writable: true }];
@@ -694,9 +757,9 @@ pub fn job_part(seed: u64, sizes: Sizes, calls: usize) -> Vec<u8> {
             }
         }
         list.push(Call::Unmap { guest: 0 });
-        bytes.extend(list.iter().flat_map(|call| write_record(&Record::Call(*call))));
+        bytes.extend(records(list));
     }
-    bytes.extend(run.calls.iter().flat_map(|call| write_record(&Record::Call(*call))));
+    bytes.extend(records(run.calls));
     bytes
 }
 

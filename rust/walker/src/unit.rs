@@ -6,6 +6,9 @@ use crate::events::Events;
 use crate::machine::{words_read, Access, Machine, Mapping, Step, Walk, Word};
 use crate::numbers::*;
 
+/// How many addresses a forecast takes (document 02, request 2).
+pub const MOST_ADDRESSES: usize = 256;
+
 #[derive(Clone, Debug)]
 pub struct Unit {
     machine: Machine,
@@ -74,6 +77,7 @@ impl Unit {
             Call::Load { address } => self.load(address),
             Call::Store { address, value } => self.store(address, value),
             Call::DeviceStore { address, value } => self.device_store(address, value),
+            Call::Forecast { ref addresses } => self.forecast(addresses),
         };
         self.note_answer(call, &answer);
         self.note_address(call, &answer);
@@ -278,6 +282,33 @@ impl Unit {
         Served { last_frame: last_frame(&walk), end: walk.end, references, exits }
     }
 
+    // The forecast.
+
+    /// What serving the list would cost: it is really served, on a copy. An address
+    /// that meets 4 adds nothing, and neither it nor a fault ends the list.
+    fn forecast(&mut self, addresses: &[u64]) -> Answer {
+        if addresses.len() > MOST_ADDRESSES {
+            let none_legal = addresses.iter().all(|address| !self.is_word_address(*address));
+            self.events.add_if(none_legal, "refusal 14, each address would meet 4");
+            return Answer::No(TOO_MANY_ADDRESSES);
+        }
+        let mut copy =
+            Unit { machine: self.machine.clone(), book: self.book.clone(), events: Events::default() };
+        let (mut references, mut exits) = (0, 0);
+        // The tables in use before the first address count too.
+        let mut in_use = vec![copy.book.tables_in_use()];
+        for address in addresses {
+            self.note_listed(&copy, *address);
+            let (more_references, more_exits) = copy.call(&Call::Load { address: *address }).counts();
+            references += more_references;
+            exits += more_exits;
+            in_use.push(copy.book.tables_in_use());
+        }
+        self.note_forecast(&copy.events, &in_use);
+        let tables = in_use.into_iter().max().unwrap_or(0);
+        Answer::Figures { references, exits, tables }
+    }
+
     // Notes of events. They read the state and change only the counters.
 
     /// Whether the frame that a granted store goes to is watched.
@@ -308,7 +339,7 @@ impl Unit {
             Call::SetMark { address, .. } => ("SetMark", address),
             Call::ClearMark { address, .. } => ("ClearMark", address),
             Call::DeviceStore { address, .. } => return self.note_device_address(address, answer),
-            Call::Root { .. } | Call::Map { .. } | Call::Unmap { .. } => return,
+            Call::Root { .. } | Call::Map { .. } | Call::Unmap { .. } | Call::Forecast { .. } => return,
         };
         match answer {
             Answer::No(BAD_ADDRESS) => self.note_refused_address(name, address),
@@ -402,6 +433,35 @@ impl Unit {
     fn note_own_fill(&mut self, watched_before: bool, watched: bool) {
         self.events.add_if(!watched_before && watched, "store's own fill makes its frame watched");
         self.events.add_if(watched_before && !watched, "store's own overflow leaves its frame not watched");
+    }
+
+    /// By whom the path of an address in a forecast's list is held, before the
+    /// copy serves it. An overflow drops what was held before the forecast.
+    fn note_listed(&mut self, copy: &Unit, address: u64) {
+        let path = copy.book.path(address, copy.book.depth(address));
+        let (Some(path), true) = (path, copy.is_word_address(address)) else { return };
+        let before = self.book.held.contains_key(&path);
+        let held = copy.book.held.contains_key(&path);
+        let still = before && copy.events.overflows() == 0;
+        self.events.add_if(still, "forecast, path held before");
+        self.events.add_if(held && !still, "forecast, path held by its list alone");
+        self.events.add_if(before && !held, "forecast, path held before, dropped by its list");
+    }
+
+    /// A forecast that was not refused, by the copy's events and the numbers of
+    /// tables in use.
+    fn note_forecast(&mut self, served: &Events, in_use: &[u64]) {
+        let (start, after) = (in_use[0], &in_use[1..]);
+        let length = after.len();
+        self.events.add_if([0, 1, 255, 256].contains(&length), &format!("forecast of {length} addresses"));
+        self.events.add_if(served.overflows() > 1, "forecast, several overflows");
+        self.events.add_many("forecast, overflow", served.overflows() as usize);
+        if let (Some(most), Some(end)) = (after.iter().max(), after.last()) {
+            self.events.add_if(start > *most, "forecast, most tables at the start");
+            self.events.add_if(start < *most && end < most, "forecast, most tables in between");
+            self.events.add_if(start < *most && end == most, "forecast, most tables at the end");
+        }
+        self.events.join_as("forecast: ", served);
     }
 
     fn note_own_drop(&mut self, address: u64, word: Word) {

@@ -37,6 +37,10 @@ fn call_text(call: &Call) -> String {
         Call::Load { address } => format!("load {address:#x}"),
         Call::Store { address, value } => format!("store {address:#x} {value:#x}"),
         Call::DeviceStore { address, value } => format!("device {address:#x} {value:#x}"),
+        Call::Forecast { addresses } => {
+            let list: String = addresses.iter().map(|address| format!(" {address:#x}")).collect();
+            format!("forecast{list}")
+        }
     }
 }
 

@@ -204,7 +204,7 @@ fn random_jobs_end_with_13_only_if_damaged() {
 fn a_job_answers_as_the_unit_does() {
     let sizes = Sizes { levels: 4, frames: 16, h: 5, s: 4 };
     for seed in 0..50 {
-        let run = random::run(seed, sizes, 60);
+        let run = random::job_run(seed, sizes, 60);
         let mut unit = Unit::open(4, run.words.clone(), sizes.h, sizes.s).unwrap();
         let answers: Vec<String> = run.calls.iter().map(|call| answer_line(&unit.call(call))).collect();
         let output = run_job(&random::job_part(seed, sizes, 60));

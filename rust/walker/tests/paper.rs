@@ -1,5 +1,5 @@
 //! Document 01's own examples and each refusal, by the numbers printed there, with
-//! request 1 of document 02.
+//! requests 1 and 2 of document 02.
 
 use walker::answer::{Answer, Call, Fault};
 use walker::machine::Access;
@@ -50,6 +50,14 @@ fn set_mark(unit: &mut Unit, address: u64, level: u64) -> Answer {
 
 fn clear_mark(unit: &mut Unit, address: u64, level: u64) -> Answer {
     unit.call(&Call::ClearMark { address, level })
+}
+
+fn forecast(unit: &mut Unit, addresses: &[u64]) -> Answer {
+    unit.call(&Call::Forecast { addresses: addresses.to_vec() })
+}
+
+fn figures(references: u64, exits: u64, tables: u64) -> Answer {
+    Answer::Figures { references, exits, tables }
 }
 
 fn value(value: u64, references: u64, exits: u64) -> Answer {
@@ -230,6 +238,169 @@ fn device_addresses_keep_the_old_limit() {
     for address in [1 << 48, UPPER, 0xFFFF_FFFF_FFFF_FFF8] {
         assert_eq!(device(&mut unit, address), Answer::No(4));
     }
+}
+
+// Request 2: "how many references and exits serving them in order would cost, and
+// the greatest number of shadow tables in use from the start on". A page at depth 0
+// is four references through four tables.
+
+#[test]
+fn a_forecast_of_nothing_has_the_tables_in_use() {
+    let mut unit = sixteen_frame_guest();
+    assert_eq!(forecast(&mut unit, &[]), figures(0, 0, 0));
+    load(&mut unit, 0);
+    assert_eq!(forecast(&mut unit, &[]), figures(0, 0, 4));
+    // A mark of level 3 leaves one table above the path 256.
+    let mut unit = guest_with_an_upper_half();
+    set_mark(&mut unit, UPPER, 3);
+    load(&mut unit, UPPER);
+    assert_eq!(forecast(&mut unit, &[]), figures(0, 0, 1));
+}
+
+#[test]
+fn the_first_of_a_path_costs_its_exit() {
+    let mut unit = sixteen_frame_guest();
+    assert_eq!(forecast(&mut unit, &[8]), figures(4, 1, 4));
+    assert_eq!(forecast(&mut unit, &[8, 0xff8]), figures(8, 1, 4));
+    // Another page of the same tables is another path.
+    assert_eq!(forecast(&mut unit, &[0, 0x1000, 8, 0x1008]), figures(16, 2, 4));
+    load(&mut unit, 0);
+    assert_eq!(forecast(&mut unit, &[0, 0x1000, 8, 0x1008]), figures(16, 1, 4));
+    load(&mut unit, 0x1000);
+    assert_eq!(forecast(&mut unit, &[0, 0x1000, 8, 0x1008]), figures(16, 0, 4));
+}
+
+#[test]
+fn a_forecast_overflows_as_its_loads_would() {
+    // "each 4, 1, since five tables do not fit four", and five are never in use.
+    let mut unit = sixteen_frame_guest();
+    assert_eq!(forecast(&mut unit, &[0, 0x200000, 0]), figures(12, 3, 4));
+    assert_eq!(forecast(&mut unit, &[0, 0, 0x200000, 0x200008, 0, 8]), figures(24, 3, 4));
+    // The overflow drops what was held before, too.
+    load(&mut unit, 0);
+    load(&mut unit, 0x1000);
+    assert_eq!(forecast(&mut unit, &[0, 0x1000, 0x200000]), figures(12, 1, 4));
+    assert_eq!(forecast(&mut unit, &[0x200000, 0, 0x1000, 0]), figures(16, 3, 4));
+    // All that is for the list alone.
+    assert_eq!(load(&mut unit, 0x1000), value(0, 4, 0));
+}
+
+#[test]
+fn the_greatest_number_of_tables_stands_anywhere() {
+    // At the mark the path is 256, 0: below the empty prefix, which 0 has too, it has
+    // the table 256. So 0 and it are five tables, and after it alone two stand.
+    let mut unit = guest_with_an_upper_half();
+    set_mark(&mut unit, UPPER, 2);
+    // The end, then in between.
+    assert_eq!(forecast(&mut unit, &[UPPER]), figures(12, 1, 2));
+    assert_eq!(forecast(&mut unit, &[UPPER, 0]), figures(16, 2, 4));
+    assert_eq!(forecast(&mut unit, &[UPPER, 0, UPPER]), figures(28, 3, 4));
+    // The start.
+    assert_eq!(load(&mut unit, 0), value(0, 4, 1));
+    assert_eq!(forecast(&mut unit, &[UPPER]), figures(12, 1, 4));
+    assert_eq!(forecast(&mut unit, &[UPPER, UPPER + 0x1000]), figures(24, 1, 4));
+    assert_eq!(load(&mut unit, UPPER), value(0, 12, 1));
+    assert_eq!(forecast(&mut unit, &[UPPER]), figures(12, 0, 2));
+}
+
+#[test]
+fn an_address_that_would_meet_4_counts_zero_and_the_list_goes_on() {
+    let mut unit = sixteen_frame_guest();
+    let refused = [1 << 48, 4, 0xFFFF_FFFF_FFF8, UPPER - 8, 1 << 47, u64::MAX];
+    for address in refused {
+        assert_eq!(load(&mut unit, address), Answer::No(4));
+        assert_eq!(forecast(&mut unit, &[address]), figures(0, 0, 0));
+        assert_eq!(forecast(&mut unit, &[address, 0, address, 8]), figures(8, 1, 4));
+    }
+    load(&mut unit, 0);
+    assert_eq!(forecast(&mut unit, &refused), figures(0, 0, 4));
+}
+
+#[test]
+fn a_fault_costs_what_it_costs_and_the_list_goes_on() {
+    let mut unit = sixteen_frame_guest();
+    // H: 24, 1. A of level 1: 20, 1. A of level 4: 5, 1. None fills.
+    let faults = [0x2000, 0x3000, 0xFFFF_FFFF_FFFF_FFF8];
+    assert_eq!(forecast(&mut unit, &faults), figures(49, 3, 0));
+    assert_eq!(forecast(&mut unit, &[0x2000, 0x3000, 0, 0x3000, 8]), figures(24 + 20 + 4 + 20 + 4, 4, 4));
+    // M of level 1, in an entry that a device stores.
+    unit.call(&Call::DeviceStore { address: 0x3028, value: 1 << 48 | 3 });
+    assert_eq!(forecast(&mut unit, &[0x5000, 0x5000]), figures(40, 2, 0));
+    // Page 1 may not be stored to, but loads are granted.
+    assert_eq!(forecast(&mut unit, &[0x1000, 0x1000]), figures(8, 1, 4));
+    // In the direct part the path is filled; H costs its exit each time, A none. Three
+    // entries, then the entry of level 1, and for H the four of a host walk.
+    set_mark(&mut unit, 0, 1);
+    assert_eq!(forecast(&mut unit, &[0x2000, 0x2000]), figures(8 + 8, 2 + 1, 3));
+    assert_eq!(forecast(&mut unit, &[0x3000, 0x3000, 0x2000]), figures(4 + 4 + 8, 1 + 1, 3));
+    // The root is not mapped: four words each.
+    unit.call(&Call::Root { frame: 9 });
+    assert_eq!(forecast(&mut unit, &[0, UPPER]), figures(8, 2, 0));
+    // Nothing is: one word each.
+    let mut unit = Unit::open(LEVELS, memory(16), 4, 4).unwrap();
+    assert_eq!(forecast(&mut unit, &[0, 0]), figures(2, 2, 0));
+}
+
+#[test]
+fn a_forecast_goes_by_the_marks() {
+    // A path of 4 - d indexes has as many tables; at depth 5 there is none.
+    for depth in 1..=5 {
+        let mut unit = sixteen_frame_guest();
+        set_mark(&mut unit, 0, depth);
+        let (references, exits, tables) = (4 + 4 * depth, (depth < 5) as u64, 4u64.saturating_sub(depth));
+        assert_eq!(forecast(&mut unit, &[0]), figures(references, exits, tables));
+        // The pages of one table of level 1 have one path.
+        assert_eq!(forecast(&mut unit, &[0, 0x1000, 8]), figures(3 * references, exits, tables));
+        load(&mut unit, 0);
+        assert_eq!(forecast(&mut unit, &[0, 0x1000, 8]), figures(3 * references, 0, tables));
+    }
+    // Two depths in one list: 1 + 15 words at the mark, and four tables in all.
+    let mut unit = guest_with_an_upper_half();
+    set_mark(&mut unit, UPPER, 3);
+    assert_eq!(forecast(&mut unit, &[UPPER, 0, UPPER, 0]), figures(40, 2, 4));
+}
+
+#[test]
+fn refusal_14_looks_at_the_length_alone() {
+    let mut unit = sixteen_frame_guest();
+    assert_eq!(forecast(&mut unit, &[0; 256]), figures(4 * 256, 1, 4));
+    assert_eq!(forecast(&mut unit, &[4; 256]), figures(0, 0, 0));
+    for address in [0, 4, 1 << 48, 0x3000] {
+        for length in [257, 258, 1000] {
+            assert_eq!(forecast(&mut unit, &vec![address; length]), Answer::No(14));
+        }
+    }
+    assert!(unit.book().held.is_empty());
+    // 256 different paths of one table of level 1: its entries name one page.
+    for entry in 0..256 {
+        unit.call(&Call::DeviceStore { address: 0x3000 + 8 * entry, value: 0x4003 });
+    }
+    let pages: Vec<u64> = (0..256).map(|page| page << 12).collect();
+    assert_eq!(forecast(&mut unit, &pages), figures(4 * 256, 256, 4));
+}
+
+#[test]
+fn a_forecast_changes_nothing() {
+    let mut unit = sixteen_frame_guest();
+    let unchanged = |unit: &mut Unit, addresses: &[u64]| {
+        let (book, machine) = (unit.book().clone(), unit.machine().clone());
+        let said = forecast(unit, addresses);
+        assert!(*unit.book() == book && *unit.machine() == machine);
+        assert_eq!(forecast(unit, addresses), said);
+    };
+    let list = [0, 4, 0x200000, 0x2000, 0x1000, 0];
+    unchanged(&mut unit, &list);
+    // The load after it costs as if it had not been.
+    assert_eq!(load(&mut unit, 0), value(0, 4, 1));
+    unchanged(&mut unit, &list);
+    unchanged(&mut unit, &[0; 257]);
+    assert_eq!(load(&mut unit, 0), value(0, 4, 0));
+    assert_eq!(load(&mut unit, 0x200000), value(0, 4, 1));
+    set_mark(&mut unit, 0, 1);
+    unchanged(&mut unit, &list);
+    assert_eq!(load(&mut unit, 0x1000), value(0, 8, 1));
+    unchanged(&mut unit, &list);
+    assert_eq!(load(&mut unit, 0), value(0, 8, 0));
 }
 
 // Openings.
@@ -536,6 +707,8 @@ fn five_levels() {
         assert_eq!(load(&mut unit, 8), value(0, 5 + 5 * depth, (depth < 6) as u64));
         assert_eq!(load(&mut unit, 8), value(0, 5 + 5 * depth, 0));
     }
+    // A forecast of two pages, the second of which the page's table does not have.
+    assert_eq!(forecast(&mut open(), &[8, 0x1000, 0]), figures(5 + 30 + 5, 2, 5));
     let mut unit = open();
     assert_eq!(set_mark(&mut unit, 0, 7), Answer::No(5));
     assert_eq!(unit.call(&Call::Root { frame: 1 << 40 }), Answer::No(8));

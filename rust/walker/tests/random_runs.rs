@@ -6,7 +6,7 @@ mod naive;
 use naive::{Naive, Seen};
 use std::collections::{BTreeMap, BTreeSet};
 use walker::answer::{Answer, Call};
-use walker::events::{of_halves, Events};
+use walker::events::{of_forecasts, of_halves, Events};
 use walker::numbers::{address_of, page_from};
 use walker::random::{run, Random, Run, Sizes};
 use walker::vectors::lines;
@@ -40,6 +40,7 @@ impl Pair {
             Call::Load { address } => self.request(call, address, None),
             Call::Store { address, value } => self.request(call, address, Some(value)),
             Call::DeviceStore { address, value } => self.device_store(call, address, value),
+            Call::Forecast { ref addresses } => self.forecast(call, addresses),
             _ => self.change(call),
         }
         assert_eq!(self.unit.guest_words(), self.naive.guest_words());
@@ -100,7 +101,7 @@ impl Pair {
 
     fn change_naive(&mut self, call: &Call, answer: &Answer) {
         let levels = self.naive.levels;
-        match (*call, answer) {
+        match (call.clone(), answer) {
             (Call::Map { guest, host, writable }, Answer::Ok) => {
                 assert!(self.naive.map(guest, host, writable))
             }
@@ -123,34 +124,62 @@ impl Pair {
     // Loads, stores and device stores.
 
     fn request(&mut self, call: &Call, address: u64, value: Option<u64>) {
-        if address % 8 != 0 || !legal(address, self.naive.levels) {
+        if !self.is_word_address(address) {
             return assert_eq!(self.unit.call(call), Answer::No(4));
         }
-        let levels = self.naive.levels as u64;
-        let seen = self.naive.walk(address, value.is_some());
-        let depth = depth(&self.marks, address, self.naive.levels);
         let mut held = self.held();
-
-        // The counts and the fill, from the naive walk and the paths held before.
-        let (references, mut exits) = if depth > levels {
-            (seen.reads, of_host(seen.end) as u64)
-        } else {
-            self.through_path(address, value.is_some(), depth, &seen, &mut held)
-        };
+        let (end, references, mut exits) = self.translate(address, value.is_some(), &mut held);
         // The write and the drops.
-        if let (Ok(host), Some(value)) = (seen.end, value) {
+        if let (Ok(host), Some(value)) = (end, value) {
             exits += watched(&held, host) as u64;
             self.write(&mut held, host, address, value);
         }
+        let answer = self.unit.call(call);
+        assert_eq!((end_of(&answer), answer.counts()), (end.err(), (references, exits)), "{call:?}");
+        assert_eq!(self.held(), held, "{call:?}");
+        if let (Ok(host), Answer::Value { value, .. }) = (end, answer) {
+            assert_eq!(value, self.naive.memory[place(host, address)]);
+        }
+    }
+
+    fn is_word_address(&self, address: u64) -> bool {
+        address % 8 == 0 && legal(address, self.naive.levels)
+    }
+
+    /// The end, the references and the exits of a request, and its fill, from the
+    /// naive walk and the paths held before.
+    fn translate(&self, address: u64, is_store: bool, held: &mut Held) -> (End, u64, u64) {
+        let levels = self.naive.levels as u64;
+        let seen = self.naive.walk(address, is_store);
+        let depth = depth(&self.marks, address, self.naive.levels);
+        let (references, exits) = if depth > levels {
+            (seen.reads, of_host(seen.end) as u64)
+        } else {
+            self.through_path(address, is_store, depth, &seen, held)
+        };
         if seen.end.is_ok() {
             assert_eq!(references, levels + levels * depth);
         }
+        (seen.end, references, exits)
+    }
+
+    /// The figures are those of the list's loads, one after the other; nothing changes.
+    fn forecast(&mut self, call: &Call, addresses: &[u64]) {
+        let (book, machine) = (self.unit.book().clone(), self.unit.machine().clone());
         let answer = self.unit.call(call);
-        assert_eq!((end_of(&answer), counts(&answer)), (seen.end.err(), (references, exits)), "{call:?}");
-        assert_eq!(self.held(), held, "{call:?}");
-        if let (Ok(host), Answer::Value { value, .. }) = (seen.end, answer) {
-            assert_eq!(value, self.naive.memory[place(host, address)]);
+        assert!(*self.unit.book() == book && *self.unit.machine() == machine, "{call:?}");
+        if addresses.len() > 256 {
+            return assert_eq!(answer, Answer::No(14));
         }
+        let mut held = self.held();
+        let (mut references, mut exits, mut most) = (0, 0, tables(&held));
+        for address in addresses.iter().filter(|address| self.is_word_address(**address)) {
+            let (_, more_references, more_exits) = self.translate(*address, false, &mut held);
+            references += more_references;
+            exits += more_exits;
+            most = most.max(tables(&held));
+        }
+        assert_eq!(answer, Answer::Figures { references, exits, tables: most as u64 }, "{call:?}");
     }
 
     /// References and exits of a request at depth N or less, and the fill.
@@ -200,7 +229,7 @@ impl Pair {
             self.write(&mut held, host, address, value);
         }
         let answer = self.unit.call(call);
-        assert_eq!((end_of(&answer), counts(&answer)), (end.err(), (references, exits)), "{call:?}");
+        assert_eq!((end_of(&answer), answer.counts()), (end.err(), (references, exits)), "{call:?}");
         assert_eq!(self.held(), held, "{call:?}");
     }
 
@@ -295,15 +324,6 @@ fn end_of(answer: &Answer) -> Option<(char, u32, u64)> {
     }
 }
 
-fn counts(answer: &Answer) -> (u64, u64) {
-    match *answer {
-        Answer::Value { references, exits, .. }
-        | Answer::Done { references, exits }
-        | Answer::Fault { references, exits, .. } => (references, exits),
-        _ => panic!("no counts in {answer:?}"),
-    }
-}
-
 fn check_run(run: &Run) -> Events {
     let mut pair = Pair::new(run);
     for call in &run.calls {
@@ -341,12 +361,14 @@ fn long_runs_reach_every_event() {
     let events = check_small_runs(4, 1000..1060, 600);
     assert_all_met(sought_events(), &events);
     assert_all_met(of_halves(4), &events);
+    assert_all_met(of_forecasts(4, true), &events);
 }
 
 #[test]
-fn long_runs_with_five_levels_reach_both_halves() {
+fn long_runs_with_five_levels_reach_both_halves_and_every_forecast() {
     let events = check_small_runs(5, 1000..1060, 600);
     assert_all_met(of_halves(5), &events);
+    assert_all_met(of_forecasts(5, true), &events);
 }
 
 fn assert_all_met(names: Vec<String>, events: &Events) {

@@ -15,8 +15,8 @@ returns c =
     let if1 = c .if1 in
     sym (ap (λ f. refusalBy f (addressOk (recordBy (args .head) (args .place .now)) (args .address .0))) (sym (fits2 .ensures) ∙ not-true (fits2 .result) (if1 .taken)))
 
-address-ok-requires : tie.Need-address-ok-requires
-address-ok-requires c κs =
+names-word-requires : tie.Need-names-word-requires
+names-word-requires c κs =
     let args = c .before .before .args in
     let fits2 = c .before .fits2 in
     let if1 = c .if1 in
@@ -26,17 +26,17 @@ returns-2 : tie.Need-returns-2
 returns-2 c =
     let fits2 = c .before .before .before .fits2 in
     let if1 = c .before .before .if1 in
-    let address-ok = c .before .address-ok in
+    let names-word = c .before .names-word in
     let if2 = c .if2 in
-    sym (ap₂ refusalBy (sym (fits2 .ensures) ∙ not-false (fits2 .result) (if1 .left)) (sym (address-ok .ensures) ∙ not-true (address-ok .result) (if2 .taken)))
+    sym (ap₂ refusalBy (sym (fits2 .ensures) ∙ not-false (fits2 .result) (if1 .left)) (sym (names-word .ensures) ∙ not-true (names-word .result) (if2 .taken)))
 
 returns-3 : tie.Need-returns-3
 returns-3 c =
     let fits2 = c .before .before .before .fits2 in
     let if1 = c .before .before .if1 in
-    let address-ok = c .before .address-ok in
+    let names-word = c .before .names-word in
     let if2 = c .if2 in
-    sym (ap₂ refusalBy (sym (fits2 .ensures) ∙ not-false (fits2 .result) (if1 .left)) (sym (address-ok .ensures) ∙ not-false (address-ok .result) (if2 .left)))
+    sym (ap₂ refusalBy (sym (fits2 .ensures) ∙ not-false (fits2 .result) (if1 .left)) (sym (names-word .ensures) ∙ not-false (names-word .result) (if2 .left)))
 
 pub request-refusal-spec : {M : Type 1} → statement M
-request-refusal-spec = tie.close (tie.spec (λ c κs. search needs) returns address-ok-requires returns-2 returns-3)
+request-refusal-spec = tie.close (tie.spec (λ c κs. search needs) returns names-word-requires returns-2 returns-3)

@@ -23,6 +23,9 @@ returns-4 c =
 returns-5 : tie.Need-returns-5
 returns-5 c = rw (c .before .a4 .given .1)
 
+returns-6 : tie.Need-returns-6
+returns-6 c = rw (c .before .a5 .given .1)
+
 pub answer-of-spec : {M : Type 1} → statement M
 answer-of-spec =
     tie.close
@@ -36,8 +39,10 @@ answer-of-spec =
     (λ c κs. search needs)
     (λ c κs. search needs)
     (λ c. search needs)
+    (λ c. search needs)
     returns
     returns-2
     returns-3
     returns-4
-    returns-5)
+    returns-5
+    returns-6)

@@ -44,11 +44,20 @@ returns-5 c =
     let put-refused = c .before .before .put-refused in
     (omega (arith, put-refused .ensures .0), puts-as (a .out .now) (put-refused .last .0) (a .at) (put-refused .result) _ _ (put-refused .ensures .1) (ap answerText (sym (answer4 .given .1))))
 
+returns-6 : tie.Need-returns-6
+returns-6 c =
+    let a = c .before .before .before .before .before .before .before .before .args in
+    let answer5 = c .before .before .before .before .before .answer5 in
+    let put-figures = c .before .before .put-figures in
+    (omega (arith, put-figures .ensures .0), puts-as (a .out .now) (put-figures .last .0) (a .at) (put-figures .result) _ _ (put-figures .ensures .1) (ap answerText (sym (answer5 .given .1))))
+
 pub put-answer-spec : {M : Type 1} → statement M
 put-answer-spec =
     tie.close
     (tie.spec
     enum-told
+    (λ c. search needs)
+    (λ c κs. search needs)
     (λ c. search needs)
     (λ c κs. search needs)
     (λ c. search needs)
@@ -68,4 +77,6 @@ put-answer-spec =
     (λ c. search needs)
     returns-4
     (λ c. search needs)
-    returns-5)
+    returns-5
+    (λ c. search needs)
+    returns-6)

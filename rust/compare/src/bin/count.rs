@@ -26,6 +26,7 @@ mod counted {
         unmap(guest: u64);
         set_mark(address: u64, level: u64);
         clear_mark(address: u64, level: u64);
+        forecast(addresses: &[u64]);
     }
 }
 
@@ -33,7 +34,7 @@ mod counted {
 /// time costs the same.
 type Case = (&'static str, fn() -> Guest, fn(&mut Record, &mut [u64]));
 
-const CASES: [Case; 25] = [
+const CASES: [Case; 30] = [
     ("load-depth-0", || held(0, 0), load::<0>),
     ("load-depth-0-marks-8", || held(0, 8), load::<0>),
     ("load-depth-0-marks-62", || held(0, 62), load::<0>),
@@ -59,6 +60,11 @@ const CASES: [Case; 25] = [
     ("map-unmap", guest, map_unmap),
     ("mark-set-clear", guest, mark_set_clear),
     ("root-load-fill", || held(0, 0), root_load_fill),
+    ("forecast-256-held", || served(guest(), &near()), |unit, memory| forecast(unit, memory, &near(), 0, 4)),
+    ("forecast-256-missing", guest, |unit, memory| forecast(unit, memory, &near(), 256, 4)),
+    ("serve-256-missing", || served(guest(), &near()), |unit, memory| serve(unit, memory, &near())),
+    ("forecast-256-spread", large_guest, |unit, memory| forecast(unit, memory, &spread(), 256, 85)),
+    ("serve-256-spread", || served(large_guest(), &spread()), |unit, memory| serve(unit, memory, &spread())),
 ];
 
 // What a case does. The answers show that the calls are the ones meant.
@@ -111,11 +117,35 @@ fn root_load_fill(unit: &mut Record, memory: &mut [u64]) {
     assert_eq!(said, Answer::Value { word: WORD, references: 4, exits: 1 });
 }
 
+fn forecast(unit: &mut Record, memory: &mut [u64], addresses: &[u64], exits: u64, tables: u64) {
+    let said = counted::forecast(unit, memory, addresses);
+    assert_eq!(said, Answer::Figures { references: 4 * 256, exits, tables });
+}
+
+/// Loads of which none finds its path held. The root load that drops all paths is not counted.
+fn serve(unit: &mut Record, memory: &mut [u64], addresses: &[u64]) {
+    assert_eq!(unit.root(memory, 0), Answer::Ok);
+    for address in addresses {
+        let said = counted::load(unit, memory, *address);
+        assert_eq!(said, Answer::Value { word: WORD, references: 4, exits: 1 });
+    }
+}
+
+/// 256 pages of one table of level 1.
+fn near() -> [u64; 256] {
+    std::array::from_fn(|page| (page as u64) << 12)
+}
+
+/// 256 pages under 64 tables of level 1, 16 of level 2 and 4 of level 3: the first four indexes of each level.
+fn spread() -> [u64; 256] {
+    std::array::from_fn(|page| (0..4).map(|place| (page as u64 >> (2 * place) & 3) << (12 + 9 * place)).sum())
+}
+
 // The guest.
 
 const HOSTS: u64 = 16;
 const SHADOWS: u64 = 16;
-const FRAMES: u64 = 64;
+const GUESTS: u64 = 32;
 const BASE: u64 = HOSTS + SHADOWS;
 const PAGE: u64 = 4;
 
@@ -127,18 +157,39 @@ struct Guest {
     memory: Vec<u64>,
 }
 
-/// A guest with one page at address 0: its frames 0 to 3 are the tables, 4 is the page. No mark is set and no path held.
-fn guest() -> Guest {
-    let mut memory = vec![0; (FRAMES * 512) as usize];
-    let mut unit = Record::open(&mut memory, HOSTS, SHADOWS).unwrap();
+/// A guest with one page: its frames 0 to 3 are the tables, 4 is the page, at address 0 and wherever else all indexes are
+/// below 256. No mark is set and no path held.
+fn guest_with(shadows: u64) -> Guest {
+    let base = HOSTS + shadows;
+    let mut memory = vec![0; ((base + GUESTS) * 512) as usize];
+    let mut unit = Record::open(&mut memory, HOSTS, shadows).unwrap();
     for guest in 0..=PAGE {
-        assert_eq!(unit.map(&mut memory, guest, BASE + guest, true), Answer::Ok);
+        assert_eq!(unit.map(&mut memory, guest, base + guest, true), Answer::Ok);
     }
     for table in 0..PAGE {
-        memory[((BASE + table) * 512) as usize] = (table + 1) << 12 | 3;
+        let first = ((base + table) * 512) as usize;
+        memory[first..first + 256].fill((table + 1) << 12 | 3);
     }
-    memory[((BASE + PAGE) * 512) as usize] = WORD;
+    memory[((base + PAGE) * 512) as usize] = WORD;
     assert_eq!(unit.root(&mut memory, 0), Answer::Ok);
+    Guest { unit, memory }
+}
+
+fn guest() -> Guest {
+    guest_with(SHADOWS)
+}
+
+/// With room for the shadow tables of `spread`.
+fn large_guest() -> Guest {
+    guest_with(96)
+}
+
+/// The guest with the paths of these addresses held.
+fn served(guest: Guest, addresses: &[u64]) -> Guest {
+    let Guest { mut unit, mut memory } = guest;
+    for address in addresses {
+        assert!(matches!(unit.load(&mut memory, *address), Answer::Value { word: WORD, exits: 1, .. }));
+    }
     Guest { unit, memory }
 }
 

@@ -55,7 +55,7 @@ fn prepared(level: u64, elsewhere: u64, addresses: &[u64]) -> (Record, Vec<u64>)
 fn word(said: Answer) -> u64 {
     match said {
         Answer::Value { word, .. } => word,
-        Answer::Done { references, .. } => references,
+        Answer::Done { references, .. } | Answer::Figures { references, .. } => references,
         Answer::Ok => 0,
         other => panic!("{other:?}"),
     }
@@ -118,17 +118,17 @@ fn nested_load(memory: &[u64], root: u64, address: u64) -> Option<u64> {
 type Way = (String, Box<dyn FnMut(u64) -> u64>);
 
 /// Prints the least time of each way over the rounds, and its ratio to the last way's.
-fn compare(title: &str, addresses: &[u64], ways: &mut [Way]) {
+fn compare(title: &str, addresses: &[u64], calls: usize, ways: &mut [Way]) {
     let mut least = vec![f64::INFINITY; ways.len()];
     for _ in 0..ROUNDS {
         for (way, least) in ways.iter_mut().zip(&mut least) {
             let start = Instant::now();
             let mut sum = 0u64;
-            for at in 0..CALLS {
+            for at in 0..calls {
                 sum = sum.wrapping_add(way.1(addresses[at % addresses.len()]));
             }
             black_box(sum);
-            *least = least.min(start.elapsed().as_nanos() as f64 / CALLS as f64);
+            *least = least.min(start.elapsed().as_nanos() as f64 / calls as f64);
         }
     }
     println!("{title}");
@@ -155,7 +155,7 @@ fn loads(title: &str, addresses: &[u64]) {
     let (_, memory) = prepared(0, 0, addresses);
     let plain = move |address| plain_load(&memory, HOSTS, address).unwrap();
     ways.push(("by hand: load, walk of 4 entries".into(), Box::new(plain)));
-    compare(title, addresses, &mut ways);
+    compare(title, addresses, CALLS, &mut ways);
 }
 
 fn others() {
@@ -183,7 +183,32 @@ fn others() {
     ));
     let (mut unit, mut memory) = guest();
     ways.push(("unit: root".into(), Box::new(move |_| word(unit.root(&mut memory, 0)))));
-    compare("Other calls", &[0, 8, 16, 24], &mut ways);
+    compare("Other calls", &[0, 8, 16, 24], CALLS, &mut ways);
+}
+
+/// 256 pages in a list: its forecast, and the loads themselves. A call stands for the whole list.
+fn lists() {
+    let list: Vec<u64> = (0..256).map(|page| page << 12).collect();
+    let mut ways: Vec<Way> = Vec::new();
+    let (unit, memory) = prepared(0, 0, &list);
+    let addresses = list.clone();
+    ways.push((
+        "unit: forecast, all paths held".into(),
+        Box::new(move |_| word(unit.forecast(&memory, &addresses))),
+    ));
+    let (unit, memory) = guest();
+    let addresses = list.clone();
+    ways.push((
+        "unit: forecast, no path held".into(),
+        Box::new(move |_| word(unit.forecast(&memory, &addresses))),
+    ));
+    let (mut unit, mut memory) = guest();
+    let served = move |_| {
+        let root = word(unit.root(&mut memory, 0));
+        root + list.iter().map(|address| word(unit.load(&mut memory, *address))).sum::<u64>()
+    };
+    ways.push(("unit: root, then its loads, no path held".into(), Box::new(served)));
+    compare("A list of 256 addresses", &[0], CALLS / 256, &mut ways);
 }
 
 fn main() {
@@ -193,6 +218,7 @@ fn main() {
     loads("One page, its path held", &near);
     loads("1,024 pages in random order, their paths held", &far);
     others();
+    lists();
     if let Ok(load) = std::fs::read_to_string("/proc/loadavg") {
         println!("load average: {}", load.trim());
     }

@@ -1,7 +1,7 @@
 -- Where the address has too many bits both sides say no; else both test the remainder by 8.
 use borrow.Author.Needs.{needs}
-use Rattle.calls.proofs.address_ok.Statement.{statement}
-use Rattle.calls.proofs.address_ok.Tie as tie
+use Rattle.entry.proofs.GuestVirtual.names_word.Statement.{statement}
+use Rattle.entry.proofs.GuestVirtual.names_word.Tie as tie
 
 returns : tie.Need-returns
 returns c =
@@ -15,5 +15,5 @@ returns-2 c =
     let if1 = c .if1 in
     rw (← fits2 .ensures, if1 .left)
 
-pub address-ok-spec : {M : Type 1} → statement M
-address-ok-spec = tie.close (tie.spec (λ c κs. search needs) returns returns-2)
+pub names-word-spec : {M : Type 1} → statement M
+names-word-spec = tie.close (tie.spec (λ c κs. search needs) returns returns-2)

@@ -1,0 +1,67 @@
+-- 3 and then 14; where neither applies, the record has its layout and what it holds in range.
+use mathlib.Core.Path.{_≡_, sym, _∙_}
+use native.Mathlib.Omega.{arith}
+use mathlib.Core.Bool.{true}
+use borrow.Author.Tests.{not-true, not-false, lt-leb, le-leb}
+use lib.ListN.{length}
+use Rattle.record.specs.Record.{recordBy, fitsOf}
+use Rattle.calls.specs.Calls.{forecastCall}
+use Rattle.calls.proofs.Laws.{broken, failed, passed}
+use Rattle.calls.proofs.Ranges.{fits-sound, fits-held, fits-used}
+use borrow.Author.Needs.{needs}
+use Rattle.calls.proofs.forecast_at.Statement.{statement}
+use Rattle.calls.proofs.forecast_at.Tie as tie
+
+returns : tie.Need-returns
+unfolding forecastCall
+returns c =
+    let args = c .before .before .before .before .args in
+    let fits2 = c .before .fits2 in
+    broken (recordBy (args .head) (args .place .now)) (args .mem .now) _ (sym (fits2 .ensures) ∙ not-true (fits2 .result) (c .if1 .taken))
+
+returns-2 : tie.Need-returns-2
+unfolding forecastCall
+returns-2 c =
+    let args = c .before .before .before .before .before .args in
+    let fits2 = c .before .before .fits2 in
+    let if1 = c .before .if1 in
+    let r = recordBy (args .head) (args .place .now) in
+    let fits : fitsOf r (length (args .mem .now)) ≡ true = sym (fits2 .ensures) ∙ not-false (fits2 .result) (if1 .left) in
+    failed r (args .mem .now) _ _ _ fits (lt-leb _ _ (c .if2 .taken))
+
+forecast-requires : tie.Need-forecast-requires
+forecast-requires c κs =
+    let args = c .before .before .before .before .before .before .before .args in
+    let fits2 = c .before .before .before .before .fits2 in
+    let if1 = c .before .before .before .if1 in
+    let if2 = c .before .before .if2 in
+    let space-in = c .before .space-in in
+    let r = recordBy (args .head) (args .place .now) in
+    let fits : fitsOf r (length (args .mem .now)) ≡ true = sym (fits2 .ensures) ∙ not-false (fits2 .result) (if1 .left) in
+    rw (space-in .ensures, c .held-in .ensures) (fits-sound r _ fits .0, fits-held r _ fits, fits-used r _ fits, omega (arith, if2 .left))
+
+returns-3 : tie.Need-returns-3
+unfolding forecastCall
+returns-3 c =
+    let args = c .before .before .before .before .before .before .before .before .args in
+    let fits2 = c .before .before .before .before .before .fits2 in
+    let if1 = c .before .before .before .before .if1 in
+    let if2 = c .before .before .before .if2 in
+    let space-in = c .before .before .space-in in
+    let held-in = c .before .held-in in
+    let r = recordBy (args .head) (args .place .now) in
+    let fits : fitsOf r (length (args .mem .now)) ≡ true = sym (fits2 .ensures) ∙ not-false (fits2 .result) (if1 .left) in
+    let told = rw (held-in .ensures, space-in .ensures) at (c .forecast .ensures) in
+    rw told (passed r (args .mem .now) _ _ _ fits (le-leb _ _ (if2 .left)))
+
+pub forecast-at-spec : {M : Type 1} → statement M
+forecast-at-spec =
+    tie.close
+    (tie.spec
+    (λ c κs. search needs)
+    returns
+    returns-2
+    (λ c κs. search needs)
+    (λ c κs. search needs)
+    forecast-requires
+    returns-3)

@@ -1,0 +1,25 @@
+-- The word, the pair of counts and the number of tables, one behind the other.
+use native.Mathlib.Omega.{arith}
+use Rattle.job_lines.specs.Text.{then}
+use borrow.Author.Needs.{needs}
+use Rattle.job_lines.proofs.put_figures.Statement.{statement}
+use Rattle.job_lines.proofs.put_figures.Tie as tie
+
+returns : tie.Need-returns
+returns c =
+    let a = c .before .before .before .before .before .before .before .before .before .before .before .before .before .before .args in
+    let put-text = c .before .before .before .before .before .before .before .before .before .before .put-text in
+    let put-pair = c .before .before .before .before .before .before .put-pair in
+    let put-number = c .before .before .put-number in
+    (omega (arith, put-text .ensures .0, put-pair .ensures .0, put-number .ensures .0), (then (a .out .now) (put-pair .last .0) (put-number .last .0) (a .at) (put-pair .result) (put-number .result) _ _ (then (a .out .now) (put-text .last .0) (put-pair .last .0) (a .at) (put-text .result) (put-pair .result) _ _ (put-text .ensures .1) (put-pair .ensures .1)) (put-number .ensures .1)))
+
+pub put-figures-spec : {M : Type 1} → statement M
+put-figures-spec =
+    tie.close
+    (tie.spec
+    (λ c. search needs)
+    (λ c κs. search needs)
+    (λ c κs. search needs)
+    (λ c κs. search needs)
+    (λ c. search needs)
+    returns)

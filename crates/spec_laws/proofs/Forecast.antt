@@ -1,0 +1,97 @@
+-- Document 02, 2): a forecast changes nothing, and its figures are those of really serving its list.
+-- Assumes nothing.
+use mathlib.Core.Path.{_≡_, refl, sym, ap, ap₂, _∙_}
+use Prim.Native.Nat.{ℕ, _+_, max, _≤_}
+use mathlib.Core.Bool.{false, cond}
+use mathlib.Core.List.{List, [], _∷_}
+use mathlib.Core.Option.{Option, none, some}
+use lib.Dec.{leb, le→leb}
+use lib.ListN.{length}
+use Rattle.spec.specs.declared.Fault.{Fault}
+use Rattle.spec.specs.Answer.{Line}
+use Rattle.spec.specs.Config.{Config}
+use Rattle.spec.specs.Entry.{wordOf}
+use Rattle.spec.specs.Walk.{Result, granted, failed}
+use Rattle.spec.specs.Plain.{Place}
+use Rattle.spec.specs.Machine.{Machine}
+use Rattle.spec.specs.Call.{load, forecast, plain, access, machineStep}
+use Rattle.spec.specs.Count.{Counted, bookStep}
+use Rattle.spec.specs.Refusal.{forecastRoom, tests, refusal}
+use Rattle.spec.specs.Forecast.{Figures, served, servedBy, plus, figuresOf}
+use Rattle.spec.specs.Run.{State, lineOf, figuresLine, answered, step, run}
+use Rattle.spec.specs.Serving.{referencesPaid, exitsPaid, tablesIn, servingFigures}
+use Rattle.spec_laws.proofs.Lists.{is-true}
+
+-- refused or not
+pub forecast-changes-nothing : (xs : List ℕ) (s : State) → (step (forecast xs) s) .1 ≡ s
+unfolding step machineStep bookStep
+forecast-changes-nothing xs s = go (refusal (s .config) (forecast xs) (s .machine) (s .book))
+  where
+    go : (r : Option ℕ) → (answered (forecast xs) s r) .1 ≡ s
+    go (some n) = refl
+    go none = refl
+
+-- ---- one load: a forecast counts it on the machine that it began with
+
+-- and there it stays
+pub load-leaves : (c : Config) (m : Machine) (i : ℕ) (x : Result Fault Place) → (access c m i none x) .1 ≡ m
+unfolding access
+load-leaves c m i (failed x) = refl
+load-leaves c m i (granted p) = refl
+
+-- a load's line says both counts, whether it has a value or a fault
+load-paid : (c : Config) (m : Machine) (i : ℕ) (x : Result Fault Place) (r e : ℕ)
+    → let l = lineOf ((access c m i none x) .0) r e in (referencesPaid l ≡ r) × (exitsPaid l ≡ e)
+unfolding access
+load-paid c m i (failed x) r e = (refl, refl)
+load-paid c m i (granted p) r e = (refl, refl)
+
+-- the step o of a load that is really made in state s pays what the forecast counts for it, and leaves the forecast's book
+pub record Loaded (s : State) (k : Counted) (o : Line × State) : Type 0 where
+  pub references : referencesPaid (o .0) ≡ k .references
+  pub exits : exitsPaid (o .0) ≡ k .exits
+  pub state : o .1 ≡ record { config = s .config; machine = s .machine; book = k .book }
+
+pub load-served : (a : ℕ) (s : State) → Loaded s (served (s .config) (s .machine) a (s .book)) (step (load a) s)
+unfolding step served machineStep bookStep
+load-served a s = go (refusal c (load a) m (s .book))
+  where
+    c : Config
+    c = s .config
+
+    m : Machine
+    m = s .machine
+
+    k : Counted
+    k = bookStep c (load a) m (s .book)
+
+    go : (r : Option ℕ) → Loaded s (servedBy c m a (s .book) r) (answered (load a) s r)
+    go (some n) = record { references = refl; exits = refl; state = refl }
+    go none =
+        let x = (plain c m false a) .result in
+        let p = load-paid c m (wordOf a) x (k .references) (k .exits) in
+        record { references = p .0; exits = p .1; state = ap (λ z. record { config = c; machine = z; book = k .book }) (load-leaves c m (wordOf a) x) }
+
+-- ---- the list
+
+pub forecast-serves : (xs : List ℕ) (s : State) → figuresOf (s .config) (s .machine) xs (s .book) ≡ servingFigures xs s
+unfolding figuresOf servingFigures run
+forecast-serves [] s = refl
+forecast-serves (a ∷ xs) s =
+    let o = step (load a) s in
+    let k = served (s .config) (s .machine) a (s .book) in
+    let l = load-served a s in
+    let f : Figures = servingFigures xs (o .1) in
+    let ih : figuresOf (s .config) (s .machine) xs (k .book) ≡ f =
+    ap (λ (t : State). figuresOf (t .config) (t .machine) xs (t .book)) (sym (l .state)) ∙ forecast-serves xs (o .1) in
+    ap (plus (tablesIn s) k) ih
+    ∙ ap₂ (λ r e. record { references = r + f .references; exits = e + f .exits; tables = max (tablesIn s) (f .tables) }) (sym (l .references)) (sym (l .exits))
+
+-- ---- the call
+
+-- at most 256 addresses: the figures of serving them
+pub forecast-says : (xs : List ℕ) (s : State) → length xs ≤ forecastRoom → (step (forecast xs) s) .0 ≡ figuresLine (servingFigures xs s)
+unfolding step refusal tests
+forecast-says xs s l =
+    ap (λ b. (answered (forecast xs) s (cond b none (some 14))) .0) (is-true (leb (length xs) forecastRoom) (le→leb (length xs) forecastRoom l))
+    ∙ ap figuresLine (forecast-serves xs s)
