@@ -24,7 +24,7 @@ use Rattle.marks.specs.Reading.{markOf, marksOf}
 use Rattle.marks.proofs.Pages.{low-small}
 use Rattle.marks.proofs.Turn.{keys-count}
 use Rattle.marks.proofs.Ascending.{and-left, and-right, ascending-above}
-use Rattle.marks.proofs.Reading.{key-small, ends-key, first-fits, others-fit}
+use Rattle.marks.proofs.Reading.{top-bare, ends-key, first-fits, others-fit}
 use Rattle.marks.proofs.Order.{SameMembers, members-any, members-length}
 use Rattle.marks.proofs.Book.{keysOf, Sorted, sorted-fits, lookup-marks}
 
@@ -35,14 +35,8 @@ module _ (n : ℕ) (small : n < 7) where
   ends-at k e =
       elim (ℕ-discrete (suc n) k) [
         | yes q ↦ eq-eqb (k % 8) (suc n) (omega arith) ∙ sym (eq-eqb (suc n) k q)
-        | no ne ↦ ne-eqb (k % 8) (suc n) (λ q. ne (key-of q)) ∙ sym (ne-eqb (suc n) k ne)
+        | no ne ↦ ne-eqb (k % 8) (suc n) (λ q. ne (omega (arith, top-bare n k e q))) ∙ sym (ne-eqb (suc n) k ne)
       ]
-    where
-      key-of : k % 8 ≡ suc n → suc n ≡ k
-      key-of q =
-          let none : n - k % 8 ≡ 0 = omega arith in
-          let low : k / 8 < 1 = rw none at (key-small n k e) in
-          omega arith
 
   ends-keys : (ks : List ℕ) → keysFit n ks ≡ true → any (ends n) (map (markOf n) ks) ≡ any (eqb (suc n)) ks
   ends-keys [] f = refl

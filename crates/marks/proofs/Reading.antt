@@ -96,7 +96,7 @@ same-kept n l q r s = go (ltb r (2 ^ (9 * (n - l)))) refl
         same-longer (indexes (n - l) q) (indexes (suc n) r) (rw (indexes-length (n - l) q, indexes-length (suc n) r) (λ f. omega arith))
         ∙ sym (ne-eqb q r (λ f. omega (arith, ltb-false r _ e)))
 
-pub key-small : (n k : ℕ) → keyFits n k ≡ true → k / 8 < 2 ^ (9 * (n - k % 8))
+key-small : (n k : ℕ) → keyFits n k ≡ true → k / 8 < 2 ^ (9 * (n - k % 8))
 unfolding keyFits
 key-small n k e = ltb-true (k / 8) _ (and-right (leb 1 (k % 8) && leb (k % 8) (suc n)) _ e)
 
@@ -173,6 +173,13 @@ module _ (n k : ℕ) (e : keyFits n k ≡ true) where
     bound = key-level;
   }
 
+  -- a key of level n + 1 holds no index
+  pub top-bare : k % 8 ≡ suc n → k / 8 ≡ 0
+  top-bare top =
+      let none : n - k % 8 ≡ 0 = omega arith in
+      let low : k / 8 < 1 = rw none at (key-small n k e) in
+      omega arith
+
   -- a level above all n is that of the key of level n + 1, and that key gives it to every page
   pub ends-key : (p : ℕ) → p < 2 ^ (9 * n) → ltb n (levelAt p k) ≡ eqb (k % 8) (suc n)
   unfolding levelAt
@@ -182,9 +189,8 @@ module _ (n k : ℕ) (e : keyFits n k ≡ true) where
         | no gt ↦
             let top : k % 8 ≡ suc n = omega (arith, key-level) in
             let none : n - k % 8 ≡ 0 = omega arith in
-            let q : k / 8 < 1 = rw none at (key-small n k e) in
             let out : p / 2 ^ (9 * (k % 8)) < 1 = rw none at (shifted n (k % 8) p b) in
-            rw (eq-eqb (p / 2 ^ (9 * (k % 8))) (k / 8) (omega arith)) (lt-ltb n (k % 8) (omega arith) ∙ sym (eq-eqb (k % 8) (suc n) top))
+            rw (eq-eqb (p / 2 ^ (9 * (k % 8))) (k / 8) (omega (arith, top-bare top))) (lt-ltb n (k % 8) (omega arith) ∙ sym (eq-eqb (k % 8) (suc n) top))
       ]
     where
       low : (t : Bool) → k % 8 ≤ n → ltb n (cond t (k % 8) 0) ≡ false

@@ -1,9 +1,9 @@
 //! Damage to a record and its memory, and what must hold of a call and of a lookup on them all the same.
 
-use crate::{address_in, answer, places};
+use crate::{address_in, answer, is_set, lookup, places};
 use cangrieb::{Head, Record};
 use std::collections::BTreeMap;
-use walker::book::{Book, Lookup};
+use walker::book::Book;
 use walker::random::Random;
 use walker::{Answer, Call};
 
@@ -139,17 +139,17 @@ fn checked_lookup(record: &Record, address: u64, refused: bool, counts: &mut Cou
     count(counts, "lookup: record not refused".into());
     // The walker takes far longer than the unit.
     if counts["lookup: record not refused"] % 4 == 1 {
-        check_by_walker(record, address, said, counts);
+        check_by_walker(record, address, counts);
     }
 }
 
 /// The walker's lookup, by the marks that stand in the record.
-fn check_by_walker(record: &Record, address: u64, said: cangrieb::Lookup, counts: &mut Counts) {
+fn check_by_walker(record: &Record, address: u64, counts: &mut Counts) {
     let levels = record.head.levels as u32;
     let places = places(record);
     let mut book = Book::new(levels, record.head.shadows);
     book.marks.extend(places.iter().flatten().cloned());
-    let said = Lookup { depth: said.depth as u32, read: said.read as usize };
+    let said = lookup(record, address);
     assert_eq!(Some(said), book.lookup(&places, address), "lookup of {address:#x}: {record:?}");
     count(counts, "lookup: as the walker's".into());
     // No more are read in a run, where the marks are in order.
@@ -160,7 +160,7 @@ fn check_by_walker(record: &Record, address: u64, said: cangrieb::Lookup, counts
 
 /// What no run has: marks that no call sets, or not there, or another number of levels to read them by.
 fn odd_marks(record: &Record) -> Vec<&'static str> {
-    let set = (0..64).filter(|place| record.head.set >> place & 1 == 1);
+    let set = (0..64).filter(|place| is_set(record, *place));
     let words: Vec<u64> = set.map(|place| record.place[place]).collect();
     let is_there = |level: u64| words.iter().any(|word| word & 7 == level);
     let odd = [
@@ -264,11 +264,11 @@ fn damage_pools(record: &mut Record, random: &mut Random) {
 
 /// The marks with one of level 5 at any places. No rule of the record is broken.
 fn move_marks(record: &mut Record, random: &mut Random) {
+    let unset = (0..64).find(|at| !is_set(record, *at));
+    let ends = (0..64).any(|at| is_set(record, at) && record.place[at] == 5);
     let Record { head, place } = record;
-    let is_set = |at: u32| head.set >> at & 1 == 1;
-    let unset = (0..64).find(|at| !is_set(*at));
-    if let (Some(at), false) = (unset, (0..64).any(|at| is_set(at) && place[at as usize] == 5)) {
-        place[at as usize] = 5;
+    if let (Some(at), false) = (unset, ends) {
+        place[at] = 5;
         head.set |= 1 << at;
     }
     for _ in 0..64 {

@@ -86,12 +86,16 @@ pub fn lookup(record: &Record, address: u64) -> Lookup {
     Lookup { depth: said.depth.try_into().unwrap(), read: said.read.try_into().unwrap() }
 }
 
+/// Whether a mark is set at that place.
+pub fn is_set(record: &Record, place: usize) -> bool {
+    record.head.set >> place & 1 == 1
+}
+
 /// The places of the record's marks in order, in the walker's terms: none where no mark is set.
 pub fn places(record: &Record) -> Vec<Option<Mark>> {
-    let is_set = |place: usize| record.head.set >> place & 1 == 1;
     let levels = record.head.levels as u32;
     let places = record.place.iter().enumerate();
-    places.map(|(place, word)| is_set(place).then(|| mark(*word, levels))).collect()
+    places.map(|(place, word)| is_set(record, place).then(|| mark(*word, levels))).collect()
 }
 
 /// A mark as its place holds it: the level in bits 0 to 2, above them the indexes that it keeps, the first one highest.
