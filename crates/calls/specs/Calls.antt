@@ -8,6 +8,7 @@ use lib.Dec.{eqb, leb, ltb}
 use lib.ListN.{length}
 use Rattle.spec.specs.declared.Answer.{Answer}
 use Rattle.spec.specs.declared.Answer.the-variants as answer
+use Rattle.spec.specs.declared.Lookup.{Lookup}
 use Rattle.spec.specs.Answer.{line}
 use Rattle.spec.specs.Call.{Call, root, map, unmap, setMark, clearMark, load, store, device, forecast}
 use Rattle.spec.specs.Entry.{pageOf, indexes}
@@ -24,8 +25,8 @@ use Rattle.layout.specs.Layout.{LayoutFits, page}
 use Rattle.host.specs.Walk.{hostWalkOf}
 use Rattle.host.specs.Map.{mapOf, unmapOf}
 use Rattle.marks.specs.declared.Marks.{Marks}
-use Rattle.marks.specs.Key.{lowPage, keyAt, depthOf}
-use Rattle.marks.specs.Table.{keys, withKey, withoutKey, setRefusal, clearRefusal, number}
+use Rattle.marks.specs.Key.{keyAt}
+use Rattle.marks.specs.Table.{keys, lookupIn, withKey, withoutKey, setRefusal, clearRefusal, number}
 use Rattle.drops.specs.declared.Cut.the-variants.{Names}
 use Rattle.drops.specs.declared.Left.{Left}
 use Rattle.drops.specs.Drop.{scanOf, dropPrefixOf}
@@ -131,8 +132,12 @@ openCall m h s = let t = openOf m h s in openedBy (t .result .unit) (t .result .
 
 -- ---- load, store, device store
 
+-- what the search among the marks finds for an address, and its depth by that
+abbrev pub lookupAt : Record → ℕ → Lookup
+lookupAt r a = lookupIn (r .layout .levels) (r .guest .marks) a
+
 abbrev pub depthAt : Record → ℕ → ℕ
-depthAt r a = depthOf (lowPage (r .layout .levels) a) (keys (r .guest .marks .place) (r .guest .marks .set))
+depthAt r a = lookupAt r a .depth
 
 -- the translation of an address
 unfoldable pub translatedOf : Record → List ℕ → Bool → ℕ → After Translated

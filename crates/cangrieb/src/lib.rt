@@ -3,9 +3,10 @@
 ghost use mathlib.Core.Path.{_≡_};
 ghost use Rattle.words.specs.After.{yields};
 ghost use Rattle.record.specs.Record.{headOf};
-ghost use Rattle.calls.specs.Calls.{headHeld, openCall, loadCall, storeCall, deviceCall, rootCall, mapCall, unmapCall, setMarkCall, clearMarkCall, forecastCall};
+ghost use Rattle.calls.specs.Calls.{headHeld, openCall, loadCall, storeCall, deviceCall, rootCall, mapCall, unmapCall, setMarkCall, clearMarkCall, forecastCall, lookupAt};
 ghost use Rattle.cangrieb.specs.Flat.{headIn, headWords, recordIn, answerOf, flat, leftOf};
 use entry::GuestPhysical;
+use entry::GuestVirtual;
 use entry::HostPhysical;
 use layout::Layout;
 use marks::Marks;
@@ -15,6 +16,7 @@ use record::Head;
 use record::Pools;
 use record::Record;
 use spec::Answer;
+use spec::Lookup;
 use translate::Held;
 
 // An answer (specs/Flat has the kinds). The letter is an ASCII code; what a kind does not have is 0.
@@ -393,4 +395,15 @@ pub extern "C" fn cangrieb_forecast(
     ensures { λ r. ⌜ r ≡ answerOf (forecastCall (recordIn (now (head .entry)) (now (place .entry))) (now (mem .entry)) (now (addresses .entry)) .result .answer) ⌝ }
 {
     answer_of(calls::forecast_at(head_in(head), place, mem, addresses))
+}
+
+// ---- the record's own method
+
+// The depth of an address, and how many marks were read for it. It judges neither the record nor the address, and is no call of a run.
+#[no_mangle]
+pub extern "C" fn cangrieb_depth(head: &[u64; 15], place: &[u64; 64], address: u64) -> Lookup
+    ensures { λ r. ⌜ r ≡ lookupAt (recordIn (now (head .entry)) (now (place .entry))) address ⌝ }
+{
+    let h = head_in(head);
+    depth::lookup(place, h.set, h.layout.levels, GuestVirtual(address))
 }

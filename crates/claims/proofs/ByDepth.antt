@@ -1,11 +1,11 @@
 -- Over runs: a load or a store that is granted reports as many table words read as the depth of its address asks for, the depth being
 -- that of the book's marks then set. Document 01, "Counts".
 -- Assumes nothing.
-use mathlib.Core.Path.{_≡_, refl, sym, ap, _∙_, subst}
+use mathlib.Core.Path.{_≡_, refl, ap, _∙_, subst}
 use Prim.Native.Nat.{ℕ, suc, _+_, _*_, _≤_}
 use native.Mathlib.Omega.{arith}
 use mathlib.Core.Bool.{Bool, true, false}
-use mathlib.Core.List.{List, [], _∷_}
+use mathlib.Core.List.{List}
 use mathlib.Core.Option.{Option, none, some}
 use lib.ListN.{length}
 use Rattle.spec.specs.declared.Answer.{Answer}
@@ -14,8 +14,7 @@ use Rattle.spec.specs.Answer as say
 use Rattle.spec.specs.Answer.{Line, line}
 use Rattle.spec.specs.Book.{depth}
 use Rattle.spec.specs.Call.{Call, addressIndexes}
-use Rattle.spec.specs.Refusal.{refusal}
-use Rattle.spec.specs.Run.{State, answered, step, after, opened}
+use Rattle.spec.specs.Run.{State, after, opened}
 use Rattle.walk.specs.declared.Walked.{Walked}
 use Rattle.walk.specs.declared.Walked.the-variants as walked
 use Rattle.record.specs.declared.Record.{Record}
@@ -24,8 +23,8 @@ use Rattle.record.specs.Open.{refusalOf}
 use Rattle.calls.specs.Calls.{addressOk, depthAt, callOf}
 use Rattle.claims.specs.Run.{runOf}
 use Rattle.claims.proofs.Invariant.{Inv}
-use Rattle.claims.proofs.Demands.{after-run}
-use Rattle.claims.specs.Plain.{Grants, GrantedWith, requestAt, isStore, grantedLine, plainWalk, Faulted, AsWalked, Unrefused}
+use Rattle.claims.proofs.Demands.{after-run, run-config}
+use Rattle.claims.specs.Plain.{Grants, GrantedWith, requestAt, isStore, grantedLine, plainWalk, AsWalked, Unrefused}
 use Rattle.claims.proofs.Plain.{deep, unfit-refused, as-walked}
 use Rattle.words.specs.After.{After}
 use Rattle.calls.specs.declared.Reply.{Reply}
@@ -38,16 +37,6 @@ readsOf (say.done n x) = n
 readsOf (say.fault c l g n x) = 0
 readsOf (say.no n) = 0
 readsOf (say.figures n x t) = 0
-
--- no call changes the configuration
-same-config : (xs : List Call) (s : State) → (after xs s) .config ≡ s .config
-unfolding after step
-same-config [] s = refl
-same-config (x ∷ xs) s = same-config xs ((step x s) .1) ∙ once (refusal (s .config) x (s .machine) (s .book))
-  where
-    once : (o : Option ℕ) → (answered x s o) .1 .config ≡ s .config
-    once none = refl
-    once (some n) = refl
 
 -- ---- one request
 abbrev GrantsLine : Line → Type 0
@@ -121,7 +110,7 @@ run-reads m h s xs g a v =
     let c = configBy (length m) h s in
     let t = after xs (opened c m) in
     let k = after-run m h s xs g in
-    let same : configOf (u .result .unit) ≡ c = sym (k .0) ∙ same-config xs (opened c m) in
+    let same = run-config m h s xs g in
     let e = callOf (requestAt a v) (u .result .unit) (u .memory) in
     subst (λ x. Grants (e .result .answer) → GrantedWith (4 + 4 * depth (t .book .marks) (addressIndexes x a)) (e .result .answer) × (4 + 4 * depth (t .book .marks) (addressIndexes x a) ≤ 24)) same
     (reads t (u .result .unit) (u .memory) (k .1) (ap (λ x. x .levels) same) a v)

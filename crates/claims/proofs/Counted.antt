@@ -97,7 +97,7 @@ module _ (s : State) (r : Record) (m : List ℕ) (inv : Inv s r m) (a : ℕ) whe
   reaches st h = go (leb deep (c .levels)) refl h
     where
       at : depthAt r a ≡ deep
-      at = depth-book c (r .guest .marks) (s .book) (let z = found.rules s r m inv .sizes .deep in omega arith) (inv .word) (inv .marks) a
+      at = depth-book c (r .guest .marks) (s .book) (let z = found.rules s r m inv .sizes .deep in omega arith) (inv .sorted) (inv .marks) a
 
       by : deep ≤ c .levels → (o : Option Held) → find path (s .book .held) ≡ o → T (serves st deep o) → Reaches r st a m
       by low none e k = absurd k

@@ -3,15 +3,17 @@
 use mathlib.Core.Path.{_≡_, refl, sym, ap, ap₂, _∙_, subst}
 use Prim.Native.Nat.{ℕ}
 use mathlib.Core.List.{List, [], _∷_}
+use mathlib.Core.Option.{Option, none, some}
 use lib.ListN.{length}
 use Rattle.spec.specs.Config.{Config}
 use Rattle.spec.specs.Call.{Call, root, map, unmap, setMark, clearMark, load, store, device, forecast}
-use Rattle.spec.specs.Run.{State, step, run, after, opened}
+use Rattle.spec.specs.Refusal.{refusal}
+use Rattle.spec.specs.Run.{State, answered, step, run, after, opened}
 use Rattle.record.specs.declared.Record.{Record}
 use Rattle.record.specs.Record.{configOf, configBy}
 use Rattle.record.specs.Open.{refusalOf, firstOf, grantedOf}
 use Rattle.calls.specs.Calls.{openCall, callOf}
-use Rattle.claims.specs.Run.{unitRun, unitAfter, machineRun}
+use Rattle.claims.specs.Run.{unitRun, unitAfter, runOf, machineRun}
 use Rattle.claims.proofs.Invariant.{Inv, Follows, at}
 use Rattle.claims.proofs.Opens.{opened-inv, granted-call}
 use Rattle.claims.proofs.Remaps.{root-follows, map-follows, unmap-follows}
@@ -77,6 +79,20 @@ after-run m h s xs g =
     let q = granted-call m h s g in
     after-follow xs (opened c m) (o .result .unit) (o .memory) o (sym (ap (λ (e : After Reply). configOf (e .result .unit)) q ∙ opened-config m h s))
     (subst (λ (e : After Reply). Inv (opened c m) (e .result .unit) (e .memory)) (sym q) (opened-inv m h s g)) refl refl
+
+-- no call changes the configuration
+same-config : (xs : List Call) (s : State) → (after xs s) .config ≡ s .config
+unfolding after step
+same-config [] s = refl
+same-config (x ∷ xs) s = same-config xs ((step x s) .1) ∙ once (refusal (s .config) x (s .machine) (s .book))
+  where
+    once : (o : Option ℕ) → (answered x s o) .1 .config ≡ s .config
+    once none = refl
+    once (some n) = refl
+
+-- so the record after a run has that of the opening
+pub run-config : (m : List ℕ) (h s : ℕ) (xs : List Call) → refusalOf (length m) h s ≡ 0 → configOf (runOf m h s xs .result .unit) ≡ configBy (length m) h s
+run-config m h s xs g = sym (after-run m h s xs g .0) ∙ same-config xs (opened (configBy (length m) h s) m)
 
 -- Demand 3. After a granted opening on any memory, over any list of calls: what the unit says at each call (value, fault, refusal,
 -- counts) and the guest area after it are those of the specification's machine and book

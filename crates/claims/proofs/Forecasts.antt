@@ -336,7 +336,7 @@ module _ (s : State) (r : Record) (m : List ℕ) (inv : Inv s r m) where
     -- ---- any address
 
     depth-is : depthAt r a ≡ deep
-    depth-is = depth-book c (r .guest .marks) (s .book) (omega (arith, found.rules s r m inv .sizes .deep)) (inv .word) (inv .marks) a
+    depth-is = depth-book c (r .guest .marks) (s .book) (omega (arith, found.rules s r m inv .sizes .deep)) (inv .sorted) (inv .marks) a
 
     address-advances : (addressFits c a && wordAligned a) ≡ true → Advances o (served c mach a b) (addressOf c ht m hold (rootOf r) (keysOf r) ks o a)
     unfolding served refusal tests bookStep addressOf

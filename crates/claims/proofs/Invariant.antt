@@ -1,7 +1,7 @@
 -- The record and the lent memory stand for machine and book: what every granted opening has and every call keeps.
 -- Assumes nothing.
 use mathlib.Core.Path.{_≡_, refl}
-use Prim.Native.Nat.{ℕ, _*_, _^_, _<_}
+use Prim.Native.Nat.{ℕ, _*_}
 use mathlib.Core.Bool.{true, false}
 use mathlib.Core.List.{List, []}
 use mathlib.Core.Option.{Option, none, some}
@@ -26,6 +26,7 @@ use Rattle.host.proofs.Mapping.{Maps, walk-is, lookup-inside}
 use Rattle.walk.proofs.Stands.{Stands}
 use Rattle.marks.specs.Reading.{marksOf}
 use Rattle.marks.proofs.Order.{SameMembers}
+use Rattle.marks.proofs.Book.{Sorted}
 use Rattle.record.specs.declared.Record.{Record}
 use Rattle.record.specs.Record.{configOf, fitsOf}
 use Rattle.shadow.specs.Held.{shadowArea}
@@ -49,7 +50,7 @@ frames r m = framesAt (configOf r) (hostTop r) m (r .guest .root .0)
 
 pub record Inv (s : State) (r : Record) (m : List ℕ) : Type 0 where
   pub fits : fitsOf r (length m) ≡ true
-  pub word : r .guest .marks .set < 2 ^ 64
+  pub sorted : Sorted (r .layout .levels) (r .guest .marks)
   pub root : r .guest .root .0 ≡ s .machine .root
   pub maps : Maps (configOf r) (s .machine .mappings) (r .pools .host) m
   pub area : drop (512 * guestBase (configOf r)) m ≡ s .machine .area

@@ -15,5 +15,6 @@ pub mod Counted
 pub mod Safety
 pub mod Plain
 pub mod ByDepth
+pub mod Lookups
 pub mod Numbers
 pub mod Serving

@@ -1,53 +1,42 @@
 -- A mark set and a mark cleared follow the specification.
 -- Assumes nothing.
-use mathlib.Core.Path.{_≡_, refl, sym, ap, ap₂, _∙_, subst}
+use mathlib.Core.Path.{_≡_, refl, sym, ap, _∙_, subst}
 use mathlib.Core.Logic.{_⊎_, inl}
-use Prim.Native.Nat.{ℕ, _+_, _-_, _*_, _/_, _^_, _<_, _≤_}
+use Prim.Native.Nat.{ℕ, _-_, _*_, _/_, _^_, _<_}
 use native.Mathlib.Omega.{arith}
 use borrow.Author.Tests.{ltb-true, ltb-false, ne-eqb}
-use mathlib.Core.Bool.{Bool, true, false, not, _&&_, cond}
+use mathlib.Core.Bool.{Bool, true, false, not, cond}
 use mathlib.Core.List.{List, [], _∷_}
 use mathlib.Core.Option.{Option, none, some}
 use lib.Dec.{eqb, ltb}
-use lib.Count.{ones}
-use lib.Pow.{pow-mono, pow-pos}
 use lib.ListN.{length, take}
-use Rattle.spec.specs.Config.{Config}
 use Rattle.spec.specs.Entry.{pageOf, indexes}
-use Rattle.spec.specs.Prefix.{begins, any, keep}
+use Rattle.spec.specs.Prefix.{begins, keep}
 use Rattle.spec.specs.Book.{Mark, Held, markAt, sameMark, find, dropPrefix}
 use Rattle.spec.specs.Answer as say
 use Rattle.spec.specs.Call.{Call, setMark, clearMark, addressIndexes, machineStep}
 use Rattle.spec.specs.Count.{bookStep}
-use Rattle.spec.specs.Refusal.{allOf, markFits, tests, refusal}
+use Rattle.spec.specs.Refusal.{tests, refusal}
 use Rattle.spec.specs.Run.{State, told}
 use Rattle.spec.specs.Prefix.{All}
 use Rattle.spec_laws.proofs.Lists.{all-map, all-any}
 use Rattle.spec_laws.proofs.Keeps.{Valid}
 use Rattle.spec_laws.proofs.Runs.{BookFits}
-use Rattle.entry.specs.Levels.{ofLevels}
 use Rattle.spec_laws.proofs.Indexes.{indexes-length, indexes-above}
 use Rattle.area_laws.proofs.Hosts.{indexes-small}
 use Rattle.layout.proofs.Laws.{InGuestArea}
 use Rattle.walk.proofs.Stands.{Stands}
 use Rattle.marks.specs.declared.Marks.{Marks}
-use Rattle.marks.specs.Key.{lowPage, keyAt, keyFits, keysFit}
-use Rattle.marks.specs.Table.{room, inserted, tableOf, withKey, withoutKey, placeOf, setRefusal, clearRefusal, number}
-use Rattle.marks.specs.Reading.{markOf, marksOf}
-use Rattle.marks.proofs.Turn.{keys-count}
-use Rattle.marks.proofs.Insert.{inserted-length}
-use Rattle.marks.proofs.Ascending.{and-right, level-below}
-use Rattle.marks.proofs.Order.{SameMembers, members-fold, members-map, members-alike}
-use Rattle.marks.proofs.Tables.{keys-with, keys-without, inserted-members, around-members}
-use Rattle.marks.proofs.Reading as reading
-use Rattle.marks.proofs.Reading.{key-fits}
-use Rattle.marks.proofs.Pages.{low-small}
-use Rattle.marks.proofs.Book.{keysOf, marks-fit, may-set, may-clear, set-refused, clear-refused, set-granted, clear-granted}
+use Rattle.marks.specs.Key.{keyAt}
+use Rattle.marks.specs.Table.{withKey, withoutKey, setRefusal, clearRefusal, number}
+use Rattle.marks.specs.Reading.{marksOf}
+use Rattle.marks.proofs.Order.{SameMembers}
+use Rattle.marks.proofs.Book.{keysOf, marks-fit, Sorted, sorted-fits, set-sorted, clear-sorted, set-refused, clear-refused, set-granted, clear-granted}
 use Rattle.record.specs.declared.Record.{Record}
 use Rattle.entry.specs.declared.HostPhysical.{HostPhysical}
 use Rattle.layout.specs.Layout.{page}
 use Rattle.record.specs.Record.{configOf, headTables, withMarks}
-use Rattle.record.proofs.Rules.{Fits, fits-marks, fits-keys, holds-pool}
+use Rattle.record.proofs.Rules.{Fits, fits-marks, holds-pool}
 use Rattle.drops.specs.Drop.{dropPrefixOf}
 use Rattle.drops_laws.proofs.Scan.{Dropped}
 use Rattle.drops_laws.proofs.Held.{leafAt}
@@ -58,65 +47,6 @@ use Rattle.claims.proofs.Invariant.{longer, topBy, Inv, Follows, stands
 use Rattle.drops.specs.declared.Left.{Left}
 use Rattle.claims.proofs.Moves.{Moved, dropped-left, after, follows-no, follows-ok, after-fits, first-positive, invariant, inv-fits, inv-stands, inv-root, inv-shadow, inv-top, fits-held, maps-beside, shadow-drop, shadow-on, top-on, longer-keep, all-longer, all-kept, find-keep}
 use Rattle.words.specs.After.{After}
-
--- ---- the rule of marks, whatever their order
-and-either : (a b r : Bool) → (a && (b && r)) ≡ (b && (a && r))
-and-either true true r = refl
-and-either true false r = refl
-and-either false true r = refl
-and-either false false r = refl
-
-members-fit : (c : Config) {ks js : List ℕ} → SameMembers ks js → keysFit (c .levels) ks ≡ keysFit (c .levels) js
-members-fit c {ks} {js} d =
-    let e = members-map (markOf (c .levels)) d in
-    sym (reading.fits-keys c ks)
-    ∙ ap₂ _&&_ (members-fold (allOf (markFits c)) (λ x t. markFits c x && t) (λ x xs. refl) (λ x y t. and-either (markFits c x) (markFits c y) t) e) (members-alike e)
-    ∙ reading.fits-keys c js
-
--- ---- the table after a mark is set or cleared
-module _ (n : ℕ) (t : Marks) (a level : ℕ) (word : t .set < 2 ^ 64) where
-  k : ℕ
-  k = keyAt n level a
-
-  pub set-word : withKey t (keyAt n level a) .set < 2 ^ 64
-  unfolding withKey tableOf
-  set-word = go (ltb (ones (t .set)) room) refl
-    where
-      more : List ℕ
-      more = inserted (keyAt n level a) (keysOf t)
-
-      go : (b : Bool) → ltb (ones (t .set)) room ≡ b → (cond b (tableOf more) t) .set < 2 ^ 64
-      go true e =
-          let few : length more ≤ 64 = omega (arith, inserted-length (keyAt n level a) (keysOf t), keys-count (t .place) (t .set) word, ltb-true (ones (t .set)) room e) in
-          let top : 2 ^ length more ≤ 2 ^ 64 = pow-mono few in
-          omega (arith, pow-pos (length more))
-      go false e = word
-
-  pub clear-word : withoutKey t (keyAt n level a) .set < 2 ^ 64
-  unfolding withoutKey
-  clear-word = go (placeOf (t .place) (t .set) (keyAt n level a))
-    where
-      go : (i : ℕ) → (cond (ltb i room) (record { set = t .set - 2 ^ i; place = t .place }) t) .set < 2 ^ 64
-      go i = by (ltb i room)
-        where
-          by : (b : Bool) → (cond b (record { set = t .set - 2 ^ i; place = t .place }) t) .set < 2 ^ 64
-          by true = omega arith
-          by false = word
-
-  module _ (small : n < 7) (whole : keysFit n (keysOf t) ≡ true) where
-    pub set-rule : number (setRefusal n (keysOf t) a level) ≡ 0 → keysFit n (keysOf (withKey t (keyAt n level a))) ≡ true
-    unfolding keysFit k
-    set-rule e =
-        let may = may-set n t a level e in
-        let fits = key-fits (ofLevels n) level (lowPage n a) (low-small n a) (omega (arith, level-below n level (may .fits))) (may .fits) in
-        ap (keysFit n) (keys-with t k word (may .free)) ∙ members-fit (ofLevels n) (inserted-members k (keysOf t)) ∙ rw (fits, may .new, whole)
-
-    pub clear-rule : number (clearRefusal n (keysOf t) a level) ≡ 0 → keysFit n (keysOf (withoutKey t (keyAt n level a))) ≡ true
-    unfolding keysFit k
-    clear-rule e =
-        let without = around-members k _ _ (keys-without t k (may-clear n t a level e .held)) in
-        let new = keysOf (withoutKey t k) in
-        and-right (keyFits n k && not (any (eqb k) new)) (keysFit n new) (sym (members-fit (ofLevels n) without) ∙ whole)
 
 -- ---- the prefix of a mark
 
@@ -131,7 +61,7 @@ none-of (i ∷ is) e = absurd (omega arith)
 
 -- ---- the drop, for any table that holds the book's marks after the call
 module _ (s : State) (r : Record) (m : List ℕ) (h : Inv s r m) (a n : ℕ) (t : Marks) (ms : List Mark)
-    (word : t .set < 2 ^ 64) (rule : keysFit (r .layout .levels) (keysOf t) ≡ true) (agree : SameMembers (marksOf (r .layout .levels) t) ms)
+    (sorted : Sorted (r .layout .levels) t) (agree : SameMembers (marksOf (r .layout .levels) t) ms)
     (book : BookFits (configOf r) (record { marks = ms; held = dropPrefix (take ((r .layout .levels) - n) (addressIndexes (configOf r) a)) (s .book .held) })) where
   p : List ℕ
   p = take ((r .layout .levels) - n) (addressIndexes (configOf r) a)
@@ -201,10 +131,10 @@ module _ (s : State) (r : Record) (m : List ℕ) (h : Inv s r m) (a n : ℕ) (t 
       let area = shadow-drop c (d .beside) ∙ h .area in
       let now : Stands c (s .machine) (hostTop r) (d .memory) = stands c (s .machine) (r .pools .host) (d .memory) maps area in
       let staying = all-map _ _ left (λ x v. stays-same c (s .machine) x v) valid in
-      let marks = marks-fit c t word (omega arith) ∙ rule in
+      let marks = marks-fit c t (sorted .word) (omega arith) ∙ sorted-fits (r .layout .levels) t sorted in
       invariant marked (withHeld (withMarks r t) (record { pool = d .pool; frame = top })) (d .memory)
       (subst (Fits (withHeld (withMarks r t) (record { pool = d .pool; frame = top }))) (sym (d .beside .len)) (fits-held (fits-marks (inv-fits h) t marks) (record { pool = d .pool; frame = top }) (holds-pool (d .holds)) top-fits))
-      word (h .root) maps area book valid agree
+      sorted (h .root) maps area book valid agree
       (shadow-on left (s .machine) (s .machine) (hostTop r) (hostTop r) m (d .memory) (inv-stands h) now (inv-root h) (inv-root h) (h .maps .few) staying (d .holds))
       (top-is ∙ top-on c left (s .machine) (s .machine) (hostTop r) (hostTop r) m (d .memory) (inv-stands h) now (inv-root h) (inv-root h) (h .maps .few) staying)
 
@@ -228,32 +158,29 @@ module _ (s : State) (r : Record) (m : List ℕ) (h : Inv s r m) (a n : ℕ) whe
           let above = first-positive (tests (configOf r) x (s .machine) (s .book)) k positive q in
           rw (ne-eqb k 0 (λ z. omega arith)) (follows-no x k h q)
 
-  whole : keysFit (r .layout .levels) (keysOf (r .guest .marks)) ≡ true
-  whole = fits-keys (h .word) (inv-fits h)
-
   few : r .layout .levels < 7
   few = let z = inv-fits h .sizes .deep in omega arith
 
   pub set-mark-follows : Follows (setMark a n) s r (setMarkCall r m a n)
   unfolding setMarkCall tests machineStep bookStep
   set-mark-follows =
-      let same = set-refused (configOf r) (r .guest .marks) (s .book) few (h .word) (h .marks) (s .machine) a n refl in
+      let same = set-refused (configOf r) (r .guest .marks) (s .book) few (h .sorted) (h .marks) (s .machine) a n refl in
       by-refusal (setMark a n) (withKey (r .guest .marks) (keyAt (r .layout .levels) n a)) (setRefusal (r .layout .levels) (keysOf (r .guest .marks)) a n) same
       (omega arith, (omega arith, (omega arith, (omega arith, tt)))) refl
       (λ e.
       let free : number (setRefusal (r .layout .levels) (keysOf (r .guest .marks)) a n) ≡ 0 = ap number (same ∙ e) in
       marked-left s r m h a n (withKey (r .guest .marks) (keyAt (r .layout .levels) n a)) (markAt (configOf r) n (addressIndexes (configOf r) a) ∷ s .book .marks)
-      (set-word (r .layout .levels) (r .guest .marks) a n (h .word)) (set-rule (r .layout .levels) (r .guest .marks) a n (h .word) few whole free)
-      (set-granted (configOf r) (r .guest .marks) (s .book) few (h .word) (h .marks) a n free) (after-fits (configOf r) (setMark a n) s e (h .book)))
+      (set-sorted (r .layout .levels) (r .guest .marks) a n (h .sorted) few free)
+      (set-granted (configOf r) (r .guest .marks) (s .book) few (h .sorted) (h .marks) a n free) (after-fits (configOf r) (setMark a n) s e (h .book)))
 
   pub clear-mark-follows : Follows (clearMark a n) s r (clearMarkCall r m a n)
   unfolding clearMarkCall tests machineStep bookStep
   clear-mark-follows =
-      let same = clear-refused (configOf r) (r .guest .marks) (s .book) few (h .word) (h .marks) (s .machine) a n in
+      let same = clear-refused (configOf r) (r .guest .marks) (s .book) few (h .sorted) (h .marks) (s .machine) a n in
       by-refusal (clearMark a n) (withoutKey (r .guest .marks) (keyAt (r .layout .levels) n a)) (clearRefusal (r .layout .levels) (keysOf (r .guest .marks)) a n) same
       (omega arith, (omega arith, (omega arith, tt))) refl
       (λ e.
       let free : number (clearRefusal (r .layout .levels) (keysOf (r .guest .marks)) a n) ≡ 0 = ap number (same ∙ e) in
       marked-left s r m h a n (withoutKey (r .guest .marks) (keyAt (r .layout .levels) n a)) (keep (λ y. not (sameMark (markAt (configOf r) n (addressIndexes (configOf r) a)) y)) (s .book .marks))
-      (clear-word (r .layout .levels) (r .guest .marks) a n (h .word)) (clear-rule (r .layout .levels) (r .guest .marks) a n (h .word) few whole free)
-      (clear-granted (configOf r) (r .guest .marks) (s .book) few (h .word) (h .marks) a n whole free) (after-fits (configOf r) (clearMark a n) s e (h .book)))
+      (clear-sorted (r .layout .levels) (r .guest .marks) a n (h .sorted) free)
+      (clear-granted (configOf r) (r .guest .marks) (s .book) few (h .sorted) (h .marks) a n free) (after-fits (configOf r) (clearMark a n) s e (h .book)))

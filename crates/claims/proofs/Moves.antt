@@ -37,6 +37,7 @@ use Rattle.walk.specs.Memory.{placeOf, memoryWorld}
 use Rattle.walk.proofs.Stands.{Stands}
 use Rattle.marks.specs.Reading.{marksOf}
 use Rattle.marks.proofs.Order.{SameMembers}
+use Rattle.marks.proofs.Book.{Sorted}
 use Rattle.record.specs.declared.Record.{Record}
 use Rattle.entry.specs.declared.HostPhysical.{HostPhysical}
 use Rattle.record.specs.Record.{configOf, headTables}
@@ -127,16 +128,16 @@ module _ {s : State} {r : Record} {m : List ℕ} (h : Inv s r m) where
   inv-top = subst (λ x. r .guest .held .0 ≡ topBy (framesAt (configOf r) (hostTop r) m x []) (find [] (s .book .held))) (h .root) (h .top)
 
 -- the invariant, by the machine's root
-pub invariant : (s : State) (r : Record) (m : List ℕ) → Fits r (length m) → r .guest .marks .set < 2 ^ 64 → r .guest .root .0 ≡ s .machine .root
+pub invariant : (s : State) (r : Record) (m : List ℕ) → Fits r (length m) → Sorted (r .layout .levels) (r .guest .marks) → r .guest .root .0 ≡ s .machine .root
     → Maps (configOf r) (s .machine .mappings) (r .pools .host) m → drop (512 * guestBase (configOf r)) m ≡ s .machine .area
     → BookFits (configOf r) (s .book) → All (Valid (configOf r) (s .machine)) (s .book .held)
     → SameMembers (marksOf (r .layout .levels) (r .guest .marks)) (s .book .marks)
     → (let F = framesAt (configOf r) (hostTop r) m (s .machine .root) in
     Holds (shadowArea (configOf r)) false (r .pools .shadow) m (leafAt (entryOf (configOf r) F) (longer (s .book .held))) F)
     → r .guest .held .0 ≡ topBy (framesAt (configOf r) (hostTop r) m (s .machine .root) []) (find [] (s .book .held)) → Inv s r m
-invariant s r m fits word root maps area book valid marks shadow top = record {
+invariant s r m fits sorted root maps area book valid marks shadow top = record {
   fits = fits-true r (length m) fits;
-  word = word;
+  sorted = sorted;
   root = root;
   maps = maps;
   area = area;
@@ -242,7 +243,7 @@ top-on c hs s t hm hn m n sm tn bs bt few a = go (find [] hs) refl
 
 -- the invariant asks nothing of the configuration that a state carries
 pub at-inv : {c : Config} {s : State} {r : Record} {m : List ℕ} → Inv s r m → Inv (at c s) r m
-at-inv h = record { fits = h .fits; word = h .word; root = h .root; maps = h .maps; area = h .area; book = h .book; valid = h .valid; marks = h .marks; shadow = h .shadow; top = h .top }
+at-inv h = record { fits = h .fits; sorted = h .sorted; root = h .root; maps = h .maps; area = h .area; book = h .book; valid = h .valid; marks = h .marks; shadow = h .shadow; top = h .top }
 
 -- ---- a call
 -- a refused call leaves record and memory, machine and book as they are

@@ -18,7 +18,7 @@ use Rattle.area_laws.proofs.Whole.{holds-leaves}
 use Rattle.host.proofs.Mapping.{Maps, no-leaves}
 use Rattle.marks.specs.Table.{tableOf}
 use Rattle.marks.proofs.Order.{SameMembers}
-use Rattle.marks.proofs.Book.{no-marks}
+use Rattle.marks.proofs.Book.{no-marks, none-sorted}
 use Rattle.record.specs.Record.{levels, configBy, zeros}
 use Rattle.record.specs.Open.{refusalOf, firstOf, grantedOf}
 use Rattle.record.proofs.Rules.{granted-sized}
@@ -63,7 +63,7 @@ module _ (m : List ℕ) (h s : ℕ) (grant : refusalOf (length m) h s ≡ 0) whe
       let F = framesAt c (hostTop (grantedOf m h s .result)) (grantedOf m h s .memory) 0 in
       record {
         fits = granted-fits m h s grant;
-        word = omega arith;
+        sorted = none-sorted levels (tableOf []) refl;
         root = refl;
         maps = maps;
         area = granted-guest m h s grant;

@@ -56,7 +56,7 @@ module _ (s : State) (r : Record) (m : List ℕ) (inv : Inv s r m) where
 
   module _ (a : ℕ) (ok : addressOk r a ≡ true) where
     pub deep : depthAt r a ≡ depth (s .book .marks) (addressIndexes c a)
-    deep = depth-book c (r .guest .marks) (s .book) (let z = rules s r m inv .sizes .deep in omega arith) (inv .word) (inv .marks) a
+    deep = depth-book c (r .guest .marks) (s .book) (let z = rules s r m inv .sizes .deep in omega arith) (inv .sorted) (inv .marks) a
 
     -- the book's count before a word is stored
     abbrev cost : Bool → Counted

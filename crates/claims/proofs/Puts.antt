@@ -155,7 +155,7 @@ module _ (s : State) (r : Record) (m : List ℕ) (inv : Inv s r m) (t i v : ℕ)
   stored-next p n b h =
       invariant (record { config = c; machine = stored c mach t i v; book = holding (s .book) kept }) (withHeld r (record { pool = p; frame = r .guest .held })) (setIn n t i v)
       (subst (Fits (withHeld r (record { pool = p; frame = r .guest .held }))) (sym (length-set n (t * 512 + i) v ∙ b .len)) (fits-held (found.rules s r m inv) (record { pool = p; frame = r .guest .held }) (holds-pool h) (found.rules s r m inv .held)))
-      (inv .word) (inv .root) maps area (kept-fits c (s .book) (λ h. not (readsWord t i h)) (inv .book)) (all-map (Stays c mach (stored c mach t i v)) _ kept (λ h k. k .after) stays) (inv .marks)
+      (inv .sorted) (inv .root) maps area (kept-fits c (s .book) (λ h. not (readsWord t i h)) (inv .book)) (all-map (Stays c mach (stored c mach t i v)) _ kept (λ h k. k .after) stays) (inv .marks)
       (shadow-on kept mach (stored c mach t i v) ht ht m (setIn n t i v) (found.memory-stands s r m inv) now (found.root-small s r m inv) (found.root-small s r m inv) (found.few s r m inv) stays
       (holds-store (subst (λ x. Holds (shadowArea c) false p n (leafAt (entryOf c (framesAt c ht m x)) (longer kept)) (framesAt c ht m x)) (inv .root) h) t i v word (inr (there .0))))
       top

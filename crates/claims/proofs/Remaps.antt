@@ -81,7 +81,7 @@ root-left s r m h g e =
       says = refl;
       next = invariant (after (configOf r) (root g) s) (withHead r (headRoot (headHeld (headOf r) nothing) g)) m
           (fits-root (fits-held f nothing (holds-pool none) (inl refl)) g (ltb-true g (2 ^ frameBits (configOf r)) e))
-          (h .word) refl (h .maps) (h .area) (after-fits (configOf r) (root g) s (rw e) (h .book)) tt (h .marks) none refl;
+          (h .sorted) refl (h .maps) (h .area) (after-fits (configOf r) (root g) s (rw e) (h .book)) tt (h .marks) none refl;
     }
 
 -- a root is loaded: every path goes
@@ -165,7 +165,7 @@ module _ (s : State) (r : Record) (m : List ℕ) (h : Inv s r m) (g : ℕ) (ys :
       let long : length m ≡ length o = sym (k .len ∙ beside .len) in
       invariant changedState (withHeld (withHost r p) q) o
       (subst (Fits (withHeld (withHost r p) q)) long (fits-held (fits-host old p (holds-pool (after .holds)) (holds-top (after .holds))) q (holds-pool holds) fits))
-      (h .word) (h .root) after area book (all-map _ _ left (λ x v. v .after) staying) (h .marks)
+      (h .sorted) (h .root) after area book (all-map _ _ left (λ x v. v .after) staying) (h .marks)
       (shadow-on left (s .machine) (changedState .machine) (hostTop r) (p .top) m o (inv-stands h) now (inv-root h) (inv-root h) few staying holds)
       (is ∙ top-on c left (s .machine) (changedState .machine) (hostTop r) (p .top) m o (inv-stands h) now (inv-root h) (inv-root h) few staying)
 

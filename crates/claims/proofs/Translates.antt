@@ -372,7 +372,7 @@ module _ (s : State) (r : Record) (m : List ℕ) (inv : Inv s r m) (st : Bool) (
     unfolding headHeld headTables
     filled-next = invariant (after right) (withHeld r (record { pool = placed .pool; frame = r .guest .held })) (placed .memory)
         (subst (Fits (withHeld r (record { pool = placed .pool; frame = r .guest .held }))) (sym (placed .beside .len)) (fits-held (found.rules s r m inv) (record { pool = placed .pool; frame = r .guest .held }) (holds-pool (placed .holds)) (found.rules s r m inv .held)))
-        (inv .word) (inv .root) (maps-beside c (placed .beside) (inv .maps)) (shadow-drop c (placed .beside) ∙ inv .area)
+        (inv .sorted) (inv .root) (maps-beside c (placed .beside) (inv .maps)) (shadow-drop c (placed .beside) ∙ inv .area)
         (fill-book right (omega arith)) (fill-all (Valid c mach) right (new-valid t right e) (inv .valid)) (inv .marks)
         (shadow-on (fill c (new right) (s .book .held)) mach mach ht ht m (placed .memory) (found.memory-stands s r m inv) memory-stands (found.root-small s r m inv) (found.root-small s r m inv) (found.few s r m inv)
         (all-map (Valid c mach) (Stays c mach mach) (fill c (new right) (s .book .held)) (stays-same c mach) (fill-all (Valid c mach) right (new-valid t right e) (inv .valid)))
@@ -426,7 +426,7 @@ module _ (s : State) (r : Record) (m : List ℕ) (inv : Inv s r m) (st : Bool) (
     unfolding headHeld headTables
     top-next = record {
       fits = fits-true (withHeld r (holdingAt (r .pools .shadow) t)) (length m) (fits-held (found.rules s r m inv) (holdingAt (r .pools .shadow) t) (found.rules s r m inv .shadow) (inr (new-here t right e .1)));
-      word = inv .word;
+      sorted = inv .sorted;
       root = inv .root;
       maps = inv .maps;
       area = inv .area;
@@ -531,7 +531,7 @@ module _ (s : State) (r : Record) (m : List ℕ) (inv : Inv s r m) (st : Bool) (
   pub translates : Translates s r m st a (request c mach (s .book) st a deep) (translatedOf r m st a)
   unfolding translatedOf translateOf
   translates =
-      let d : depthAt r a ≡ deep = depth-book c (r .guest .marks) (s .book) (omega (arith, found.rules s r m inv .sizes .deep)) (inv .word) (inv .marks) a in
+      let d : depthAt r a ≡ deep = depth-book c (r .guest .marks) (s .book) (omega (arith, found.rules s r m inv .sizes .deep)) (inv .sorted) (inv .marks) a in
       subst (λ x. Translates s r m st a (request c mach (s .book) st a deep) (translateOf c ht m hold (r .guest .root .0) st a x)) (sym d) (go (ltb (c .levels) deep) refl)
     where
       go : (b : Bool) → ltb (c .levels) deep ≡ b

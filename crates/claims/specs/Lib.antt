@@ -2,3 +2,4 @@ pub mod Run
 pub mod Safety
 pub mod Plain
 pub mod Counted
+pub mod Lookups

@@ -23,7 +23,7 @@ use Rattle.layout.specs.declared.HostWalk.the-variants as host
 use Rattle.walk.specs.declared.Walked.{Walked}
 use Rattle.walk.specs.declared.Walked.the-variants as walked
 use Rattle.walk.specs.Memory.{walkedOf}
-use Rattle.marks.specs.Key.{lowPage, keyAt, depthOf}
+use Rattle.marks.specs.Key.{lowPage, keyAt, searchOf}
 use Rattle.translate.specs.declared.Held.{Held}
 use Rattle.translate.specs.declared.Translated.{Translated}
 use Rattle.translate.specs.Translate.{ReadsMost, pathOf, pathIndexes, directOf, servedOf, plainOf}
@@ -144,6 +144,6 @@ module _ (c : Config) (ht : ℕ) (m : List ℕ) (h : Held) (root : ℕ) (five : 
   unfolding addressOf
   address-fits marks a = go (addressFits c a && wordAligned a)
     where
-      go : (b : Bool) → NextFits (suc i) (cond {A = After Next} b (loadOf c ht m h root ks o a (depthOf (lowPage (c .levels) a) marks)) (yields (Go o) ks) .result)
-      go true = load-fits a (depthOf (lowPage (c .levels) a) marks)
+      go : (b : Bool) → NextFits (suc i) (cond {A = After Next} b (loadOf c ht m h root ks o a (searchOf (c .levels) (lowPage (c .levels) a) marks .depth)) (yields (Go o) ks) .result)
+      go true = load-fits a (searchOf (c .levels) (lowPage (c .levels) a) marks .depth)
       go false = ((omega (arith, fits .0 .0), omega (arith, fits .0 .1)), more)

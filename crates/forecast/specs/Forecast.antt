@@ -21,7 +21,7 @@ use Rattle.layout.specs.declared.HostWalk.the-variants as host
 use Rattle.walk.specs.declared.Walked.{Walked}
 use Rattle.walk.specs.declared.Walked.the-variants as walked
 use Rattle.walk.specs.Memory.{walkedOf}
-use Rattle.marks.specs.Key.{lowPage, keyAt, depthOf}
+use Rattle.marks.specs.Key.{lowPage, keyAt, searchOf}
 use Rattle.translate.specs.declared.Held.{Held}
 use Rattle.translate.specs.declared.Translated.{Translated}
 use Rattle.translate.specs.Translate.{pathIndexes, servedOf, foundOf, plainOf}
@@ -113,7 +113,7 @@ loadOf c ht m h root ks o a d =
 -- an address that would meet 4 costs nothing; marks: the keys of those that are set
 unfoldable pub addressOf : Config → ℕ → List ℕ → Held → ℕ → List ℕ → List ℕ → Outlook → ℕ → After Next
 addressOf c ht m h root marks ks o a =
-    cond (addressFits c a && wordAligned a) (loadOf c ht m h root ks o a (depthOf (lowPage (c .levels) a) marks)) (yields (Go o) ks)
+    cond (addressFits c a && wordAligned a) (loadOf c ht m h root ks o a (searchOf (c .levels) (lowPage (c .levels) a) marks .depth)) (yields (Go o) ks)
 
 -- on with the list, or 11
 abbrev pub onward : Next → (Outlook → Answer) → Answer

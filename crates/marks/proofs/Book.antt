@@ -4,28 +4,33 @@ use mathlib.Core.Path.{_≡_, refl, sym, ap, _∙_}
 use mathlib.Core.Bool.{Bool, true, false, not, cond}
 use mathlib.Core.List.{List, [], _∷_, map, List·Permᴰ·cons, List·Permᴰ·trans, Permᴰ·symm}
 use mathlib.Core.Option.{some}
-use Prim.Native.Nat.{ℕ, _^_, _<_, _≤_}
+use Prim.Native.Nat.{ℕ, _-_, _^_, _<_, _≤_}
 use native.Mathlib.Omega.{arith}
 use borrow.Author.Tests.{ltb-true, le-leb, not-true}
 use lib.Dec.{eqb, ltb}
 use lib.Count.{ones, ones-le}
+use lib.Pow.{pow-mono, pow-pos}
 use lib.ListN.{length, length-map}
 use Rattle.spec.specs.Config.{Config}
 use Rattle.spec.specs.Prefix.{any, keep}
+use Rattle.spec.specs.declared.Lookup.{Lookup}
+use Rattle.spec.specs.Search.{search}
 use Rattle.spec.specs.Book.{Mark, Book, markAt, sameMark, isSet, depth}
 use Rattle.spec.specs.Machine.{Machine}
 use Rattle.spec.specs.Call.{setMark, clearMark, addressIndexes}
 use Rattle.spec.specs.Refusal.{firstFailed, addressFits, levelFits, markFits, marksFit, allOf, noTwoAlike, tests, refusal}
 use Rattle.entry.specs.Levels.{ofLevels}
 use Rattle.spec.specs.Prefix.{All}
+use Rattle.spec_laws.proofs.Search.{search-depth}
 use Rattle.marks.specs.declared.Marks.{Marks}
-use Rattle.marks.specs.Key.{lowPage, keyAt, depthOf, keyFits, keysFit, ascending}
-use Rattle.marks.specs.Table.{room, keys, withKey, withoutKey, setTests, setRefusal, clearTests, clearRefusal, number}
+use Rattle.marks.specs.Key.{lowPage, keyAt, keyFits, keysFit, ascending}
+use Rattle.marks.specs.Table.{room, keys, lookupIn, placeOf, inserted, tableOf, withKey, withoutKey, setTests, setRefusal, clearTests, clearRefusal, number}
 use Rattle.marks.specs.Reading.{markOf, marksOf}
 use Rattle.marks.proofs.Pages.{low-small, low-indexes}
 use Rattle.marks.proofs.Turn.{keys-end, keys-count}
-use Rattle.marks.proofs.Ascending.{and-right, level-below}
-use Rattle.marks.proofs.Reading.{depth-keys, fits-keys, set-keys, mark-key, key-positive, key-fits}
+use Rattle.marks.proofs.Insert.{inserted-length}
+use Rattle.marks.proofs.Ascending.{and-right, level-below, ascending-fits}
+use Rattle.marks.proofs.Reading.{search-keys, fits-marks, fits-keys, set-keys, mark-key, key-positive, key-fits}
 use Rattle.marks.proofs.Order.{SameMembers, members-any, members-length, members-depth, members-map, members-alike, members-without}
 use Rattle.marks.proofs.Tables.{keys-with, keys-without, inserted-members, around-members, ascending-with, ascending-without}
 
@@ -33,12 +38,23 @@ use Rattle.marks.proofs.Tables.{keys-with, keys-without, inserted-membe
 abbrev pub keysOf : Marks → List ℕ
 keysOf t = keys (t .place) (t .set)
 
--- ---- any table, damaged ones too
+-- ---- a table that breaks no rule
 
-pub depth-marks : (c : Config) (t : Marks) (a : ℕ) → depthOf (lowPage (c .levels) a) (keysOf t) ≡ depth (marksOf (c .levels) t) (addressIndexes c a)
+pub lookup-marks : (c : Config) (t : Marks) (a : ℕ) → keysFit (c .levels) (keysOf t) ≡ true
+    → lookupIn (c .levels) t a ≡ search (c .levels) (marksOf (c .levels) t) (addressIndexes c a)
 unfolding marksOf
-depth-marks c t a =
-    depth-keys (c .levels) (lowPage (c .levels) a) (keysOf t) (low-small (c .levels) a) ∙ ap (depth (map (markOf (c .levels)) (keysOf t))) (low-indexes c a)
+lookup-marks c t a fits =
+    search-keys (c .levels) (lowPage (c .levels) a) (keysOf t) (low-small (c .levels) a) fits
+    ∙ ap (search (c .levels) (map (markOf (c .levels)) (keysOf t))) (low-indexes c a)
+
+pub depth-marks : (c : Config) (t : Marks) (a : ℕ) → keysFit (c .levels) (keysOf t) ≡ true
+    → lookupIn (c .levels) t a .depth ≡ depth (marksOf (c .levels) t) (addressIndexes c a)
+unfolding marksOf
+depth-marks c t a fits =
+    ap (λ (f : Lookup). f .depth) (lookup-marks c t a fits)
+    ∙ search-depth (c .levels) (marksOf (c .levels) t) (addressIndexes c a) (fits-marks (c .levels) (keysOf t) fits)
+
+-- ---- any table, damaged ones too
 
 pub marks-count : (n : ℕ) (t : Marks) → t .set < 2 ^ 64 → length (marksOf n t) ≡ ones (t .set)
 unfolding marksOf
@@ -94,10 +110,70 @@ module _ (n : ℕ) (t : Marks) (a level : ℕ) where
       let h = all-held (clearTests n (keysOf t) a level) (omega arith, (omega arith, (omega arith, tt))) e in
       record { fits = h .1 .0; held = h .1 .1 .0 }
 
--- ---- a table that holds the book's marks
-module _ (c : Config) (t : Marks) (b : Book) (small : c .levels < 7) (word : t .set < 2 ^ 64) (agree : SameMembers (marksOf (c .levels) t) (b .marks)) where
-  pub depth-book : (a : ℕ) → depthOf (lowPage (c .levels) a) (keysOf t) ≡ depth (b .marks) (addressIndexes c a)
-  depth-book a = depth-marks c t a ∙ members-depth (addressIndexes c a) agree
+-- ---- a table as every call leaves it
+
+-- its set places are those of a word, and their keys ascend
+pub record Sorted (n : ℕ) (t : Marks) : Type 0 where
+  pub word : t .set < 2 ^ 64
+  pub ascend : ascending n 0 (keysOf t) ≡ true
+
+pub sorted-fits : (n : ℕ) (t : Marks) → Sorted n t → keysFit n (keysOf t) ≡ true
+sorted-fits n t s = ascending-fits n 0 (keysOf t) (s .ascend)
+
+pub none-sorted : (n : ℕ) (t : Marks) → t .set ≡ 0 → Sorted n t
+unfolding ascending
+none-sorted n t e = record { word = omega arith; ascend = ap (ascending n 0) (keys-end (t .place) (t .set) e) }
+
+-- after each set and clear
+module _ (n : ℕ) (t : Marks) (a level : ℕ) (s : Sorted n t) where
+  set-word : withKey t (keyAt n level a) .set < 2 ^ 64
+  unfolding withKey tableOf
+  set-word = go (ltb (ones (t .set)) room) refl
+    where
+      more : List ℕ
+      more = inserted (keyAt n level a) (keysOf t)
+
+      go : (b : Bool) → ltb (ones (t .set)) room ≡ b → (cond b (tableOf more) t) .set < 2 ^ 64
+      go true e =
+          let few : length more ≤ 64 = omega (arith, inserted-length (keyAt n level a) (keysOf t), keys-count (t .place) (t .set) (s .word), ltb-true (ones (t .set)) room e) in
+          let top : 2 ^ length more ≤ 2 ^ 64 = pow-mono few in
+          omega (arith, pow-pos (length more))
+      go false e = s .word
+
+  clear-word : withoutKey t (keyAt n level a) .set < 2 ^ 64
+  unfolding withoutKey
+  clear-word = go (placeOf (t .place) (t .set) (keyAt n level a))
+    where
+      go : (i : ℕ) → (cond (ltb i room) (record { set = t .set - 2 ^ i; place = t .place }) t) .set < 2 ^ 64
+      go i = by (ltb i room)
+        where
+          by : (b : Bool) → (cond b (record { set = t .set - 2 ^ i; place = t .place }) t) .set < 2 ^ 64
+          by true = omega (arith, s .word)
+          by false = s .word
+
+  pub set-sorted : n < 7 → number (setRefusal n (keysOf t) a level) ≡ 0 → Sorted n (withKey t (keyAt n level a))
+  set-sorted small e =
+      let k = keyAt n level a in
+      let m = may-set n t a level e in
+      let fits = key-fits (ofLevels n) level (lowPage n a) (low-small n a) (below-8 n level small (m .fits)) (m .fits) in
+      record {
+        word = set-word;
+        ascend = rw (keys-with t k (s .word) (m .free)) (ascending-with n 0 k (keysOf t) (s .ascend) (key-positive n k fits) fits (m .new));
+      }
+
+  pub clear-sorted : number (clearRefusal n (keysOf t) a level) ≡ 0 → Sorted n (withoutKey t (keyAt n level a))
+  clear-sorted e = record {
+    word = clear-word;
+    ascend = ascending-without n (keyAt n level a) _ _ (keys-without t (keyAt n level a) (may-clear n t a level e .held)) (s .ascend);
+  }
+
+-- ---- such a table that holds the book's marks
+module _ (c : Config) (t : Marks) (b : Book) (small : c .levels < 7) (sorted : Sorted (c .levels) t) (agree : SameMembers (marksOf (c .levels) t) (b .marks)) where
+  whole : keysFit (c .levels) (keysOf t) ≡ true
+  whole = sorted-fits (c .levels) t sorted
+
+  pub depth-book : (a : ℕ) → lookupIn (c .levels) t a .depth ≡ depth (b .marks) (addressIndexes c a)
+  depth-book a = depth-marks c t a whole ∙ members-depth (addressIndexes c a) agree
 
   -- of any address, and a level that fits
   module _ (a n : ℕ) (level : levelFits c n ≡ true) where
@@ -119,12 +195,12 @@ module _ (c : Config) (t : Marks) (b : Book) (small : c .levels < 7) (word : t .
     book-with free =
         let k = keyAt (c .levels) n a in
         let more = members-map (markOf (c .levels)) (inserted-members k (keysOf t)) in
-        rw (keys-with t k word free) (List·Permᴰ·trans more (List·Permᴰ·cons its-mark agree))
+        rw (keys-with t k (sorted .word) free) (List·Permᴰ·trans more (List·Permᴰ·cons its-mark agree))
 
-    book-without : keysFit (c .levels) (keysOf t) ≡ true → any (eqb (keyAt (c .levels) n a)) (keysOf t) ≡ true
+    book-without : any (eqb (keyAt (c .levels) n a)) (keysOf t) ≡ true
         → SameMembers (marksOf (c .levels) (withoutKey t (keyAt (c .levels) n a))) (keep (λ y. not (sameMark (markAt c n (addressIndexes c a)) y)) (b .marks))
     unfolding marksOf
-    book-without whole held =
+    book-without held =
         let k = keyAt (c .levels) n a in
         let marks = map (markOf (c .levels)) (keysOf t) in
         let alone = sym (members-alike agree) ∙ and-right (allOf (markFits c) marks) (noTwoAlike marks) (fits-keys c (keysOf t) ∙ whole) in
@@ -148,7 +224,7 @@ module _ (c : Config) (t : Marks) (b : Book) (small : c .levels < 7) (word : t .
   pub set-refused : (m : Machine) (a n : ℕ) → c .markRoom ≡ room → setRefusal (c .levels) (keysOf t) a n ≡ refusal c (setMark a n) m b
   unfolding setRefusal refusal tests
   set-refused m a n r =
-      let long : length (keysOf t) ≡ length (b .marks) = keys-count (t .place) (t .set) word ∙ sym (marks-count (c .levels) t word) ∙ members-length agree in
+      let long : length (keysOf t) ≡ length (b .marks) = keys-count (t .place) (t .set) (sorted .word) ∙ sym (marks-count (c .levels) t (sorted .word)) ∙ members-length agree in
       rw (r, long) (agree-after a n (λ s. (not s, 6) ∷ (ltb (length (b .marks)) room, 7) ∷ []))
 
   pub clear-refused : (m : Machine) (a n : ℕ) → clearRefusal (c .levels) (keysOf t) a n ≡ refusal c (clearMark a n) m b
@@ -160,26 +236,7 @@ module _ (c : Config) (t : Marks) (b : Book) (small : c .levels < 7) (word : t .
       → SameMembers (marksOf (c .levels) (withKey t (keyAt (c .levels) n a))) (markAt c n (addressIndexes c a) ∷ b .marks)
   set-granted a n e = let m = may-set (c .levels) t a n e in book-with a n (m .fits) (m .free)
 
-  -- and after one is cleared, where the table broke no rule
-  pub clear-granted : (a n : ℕ) → keysFit (c .levels) (keysOf t) ≡ true → number (clearRefusal (c .levels) (keysOf t) a n) ≡ 0
+  -- and after one is cleared
+  pub clear-granted : (a n : ℕ) → number (clearRefusal (c .levels) (keysOf t) a n) ≡ 0
       → SameMembers (marksOf (c .levels) (withoutKey t (keyAt (c .levels) n a))) (keep (λ y. not (sameMark (markAt c n (addressIndexes c a)) y)) (b .marks))
-  clear-granted a n whole e = let m = may-clear (c .levels) t a n e in book-without a n (m .fits) whole (m .held)
-
--- ---- the keys of every table made here ascend: of the table of no mark, and after each set and clear
-pub none-ascend : (n : ℕ) (t : Marks) → t .set ≡ 0 → ascending n 0 (keysOf t) ≡ true
-unfolding ascending
-none-ascend n t e = ap (ascending n 0) (keys-end (t .place) (t .set) e)
-
-module _ (n : ℕ) (t : Marks) (a level : ℕ) (ascend : ascending n 0 (keysOf t) ≡ true) where
-  pub set-ascend : n < 7 → t .set < 2 ^ 64 → number (setRefusal n (keysOf t) a level) ≡ 0
-      → ascending n 0 (keysOf (withKey t (keyAt n level a))) ≡ true
-  set-ascend small word e =
-      let k = keyAt n level a in
-      let m = may-set n t a level e in
-      let fits = key-fits (ofLevels n) level (lowPage n a) (low-small n a) (below-8 n level small (m .fits)) (m .fits) in
-      rw (keys-with t k word (m .free)) (ascending-with n 0 k (keysOf t) ascend (key-positive n k fits) fits (m .new))
-
-  pub clear-ascend : number (clearRefusal n (keysOf t) a level) ≡ 0 → ascending n 0 (keysOf (withoutKey t (keyAt n level a))) ≡ true
-  clear-ascend e =
-      let k = keyAt n level a in
-      ascending-without n k _ _ (keys-without t k (may-clear n t a level e .held)) ascend
+  clear-granted a n e = let m = may-clear (c .levels) t a n e in book-without a n (m .fits) (m .held)

@@ -8,3 +8,4 @@ pub mod Reading
 pub mod Order
 pub mod Tables
 pub mod Book
+pub mod Lookup

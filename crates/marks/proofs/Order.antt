@@ -7,8 +7,8 @@ use Prim.Native.Nat.{ℕ, suc, max}
 use native.Mathlib.Omega.{arith}
 use borrow.Author.Tests.{eq-eqb, not-true}
 use lib.ListN.{length}
-use Rattle.spec.specs.Prefix.{any, keep, begins, same}
-use Rattle.spec.specs.Book.{Mark, sameMark, isSet, depth}
+use Rattle.spec.specs.Prefix.{any, keep, same}
+use Rattle.spec.specs.Book.{Mark, sameMark, isSet, levelFor, depth}
 use Rattle.spec.specs.Refusal.{noTwoAlike}
 use Rattle.spec_laws.proofs.Lists.{is-true, same-refl}
 use Rattle.spec_laws.proofs.Indexes.{eqb-sym}
@@ -42,7 +42,7 @@ members-length {A} d = members-fold {A = A} length (λ x r. suc r) (λ x xs. ref
 
 pub members-depth : (is : List ℕ) {ms ns : List Mark} → SameMembers ms ns → depth ms is ≡ depth ns is
 members-depth is d =
-    members-fold (λ ms. depth ms is) (λ m r. max (cond (begins (m .prefix) is) (m .level) 0) r) (λ m ms. refl) (λ m n r. omega arith) d
+    members-fold (λ ms. depth ms is) (λ m r. max (levelFor m is) r) (λ m ms. refl) (λ m n r. omega arith) d
 
 -- ---- lists made from it
 pub members-map : {A B : Type 0} (f : A → B) {xs ys : List A} → SameMembers xs ys → SameMembers (map f xs) (map f ys)

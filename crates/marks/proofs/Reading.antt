@@ -1,26 +1,29 @@
--- Keys say what marks say: level and prefix, whether they fit, whether they are alike, the depth.
--- Each law holds for any key, damaged ones too. Assumes nothing.
+-- Keys say what marks say: level and prefix, whether they fit, whether they are alike, what a search among them finds.
+-- Each law holds for any key, damaged ones too, where it does not ask that the key fits. Assumes nothing.
 use mathlib.Core.Path.{_≡_, refl, sym, ap, ap₂, _∙_}
 use mathlib.Core.Bool.{Bool, true, false, not, _&&_, _||_, cond, and-false, and-true}
 use mathlib.Core.List.{List, [], _∷_, map}
 use Prim.Native.Nat.{ℕ, suc, _+_, _-_, _*_, _/_, _%_, _^_, _<_, _≤_}
 use native.Mathlib.Omega.{arith}
 use native.Mathlib.Decide.{decLe}
-use borrow.Author.Tests.{eq-eqb, ne-eqb, eqb-true, eqb-false, lt-ltb, ltb-true, ltb-false, leb-true}
+use borrow.Author.Tests.{eq-eqb, ne-eqb, eqb-true, eqb-false, lt-ltb, le-ltb, ltb-true, ltb-false, leb-true}
 use lib.Dec.{eqb, leb, ltb}
 use lib.Pow.{pow-mono, shr-lt}
 use lib.ListN.{length}
+use Rattle.spec.specs.declared.Lookup.{Lookup}
 use Rattle.spec.specs.Config.{Config}
 use Rattle.spec.specs.Entry.{indexes}
-use Rattle.spec.specs.Prefix.{begins, same, any}
-use Rattle.spec.specs.Book.{markAt, sameMark, isSet, depth}
+use Rattle.spec.specs.Prefix.{begins, same, any, All}
+use Rattle.spec.specs.Book.{markAt, sameMark, isSet, levelFor}
+use Rattle.spec.specs.Search.{nothing, more, search}
 use Rattle.spec.specs.Refusal.{allOf, markFits, levelFits, noTwoAlike}
 use Rattle.spec_laws.proofs.Indexes.{indexes-length, indexes-small, indexes-above, indexes-same, begins-longer, same-longer, begins-indexes}
-use Rattle.marks.specs.Key.{keyOf, levelAt, depthOf, keyFits, keysFit}
+use Rattle.spec_laws.proofs.Depth.{MarkFits}
+use Rattle.marks.specs.Key.{keyOf, levelAt, searchOf, keyFits, keysFit}
 use Rattle.marks.specs.Reading.{kept, markOf}
 use Rattle.marks.proofs.Ascending.{and-left, and-right}
 
--- ---- the depth
+-- ---- the level
 
 -- a page number of n levels, without its l lowest indexes, is below 2 ^ (9 * (n - l)), also where l is above n
 pub shifted : (n l p : ℕ) → p < 2 ^ (9 * n) → p / 2 ^ (9 * l) < 2 ^ (9 * (n - l))
@@ -54,10 +57,10 @@ module _ (n p l q : ℕ) (b : p < 2 ^ (9 * n)) where
       go true e = begins-kept (ltb-true q _ e)
       go false e = begins-other (ltb-false q _ e)
 
-pub depth-keys : (n p : ℕ) (ks : List ℕ) → p < 2 ^ (9 * n) → depthOf p ks ≡ depth (map (markOf n) ks) (indexes n p)
-unfolding depthOf levelAt markOf
-depth-keys n p [] b = refl
-depth-keys n p (k ∷ ks) b = rw (begins-key n p (k % 8) (k / 8) b, depth-keys n p ks b)
+-- so a key gives a page the level that its mark gives the address
+level-key : (n p k : ℕ) → p < 2 ^ (9 * n) → levelAt p k ≡ levelFor (markOf n k) (indexes n p)
+unfolding levelAt markOf
+level-key n p k b = rw (begins-key n p (k % 8) (k / 8) b)
 
 -- ---- whether a key fits
 fits-indexes : (n l q : ℕ) (t a : Bool)
@@ -154,3 +157,63 @@ module _ (c : Config) (l p : ℕ) (b : p < 2 ^ (9 * c .levels)) (h : l < 8) wher
   pub key-fits : levelFits c l ≡ true → keyFits (c .levels) (keyOf l p) ≡ true
   unfolding keyFits
   key-fits f = rw (level-of, rest-of, f) (lt-ltb (p / 2 ^ (9 * l)) (2 ^ (9 * (c .levels - l))) (shifted (c .levels) l p b))
+
+-- ---- the search, among keys that fit
+module _ (n k : ℕ) (e : keyFits n k ≡ true) where
+  key-level : k % 8 ≤ suc n
+  unfolding keyFits
+  key-level =
+      let level = and-left (leb 1 (k % 8) && leb (k % 8) (suc n)) _ e in
+      leb-true (k % 8) (suc n) (and-right (leb 1 (k % 8)) (leb (k % 8) (suc n)) level)
+
+  fits-mark : MarkFits n (markOf n k)
+  unfolding markOf
+  fits-mark = record {
+    kept = rw (lt-ltb (k / 8) (2 ^ (9 * (n - k % 8))) (key-small n k e)) (indexes-length (n - k % 8) (k / 8));
+    bound = key-level;
+  }
+
+  -- a key of level n + 1 holds no index
+  pub top-bare : k % 8 ≡ suc n → k / 8 ≡ 0
+  top-bare top =
+      let none : n - k % 8 ≡ 0 = omega arith in
+      let low : k / 8 < 1 = rw none at (key-small n k e) in
+      omega arith
+
+  -- a level above all n is that of the key of level n + 1, and that key gives it to every page
+  pub ends-key : (p : ℕ) → p < 2 ^ (9 * n) → ltb n (levelAt p k) ≡ eqb (k % 8) (suc n)
+  unfolding levelAt
+  ends-key p b =
+      elim (decLe (k % 8) n) [
+        | yes le ↦ low (eqb (p / 2 ^ (9 * (k % 8))) (k / 8)) le ∙ sym (ne-eqb (k % 8) (suc n) (λ q. omega arith))
+        | no gt ↦
+            let top : k % 8 ≡ suc n = omega (arith, key-level) in
+            let none : n - k % 8 ≡ 0 = omega arith in
+            let out : p / 2 ^ (9 * (k % 8)) < 1 = rw none at (shifted n (k % 8) p b) in
+            rw (eq-eqb (p / 2 ^ (9 * (k % 8))) (k / 8) (omega (arith, top-bare top))) (lt-ltb n (k % 8) (omega arith) ∙ sym (eq-eqb (k % 8) (suc n) top))
+      ]
+    where
+      low : (t : Bool) → k % 8 ≤ n → ltb n (cond t (k % 8) 0) ≡ false
+      low true le = le-ltb n (k % 8) le
+      low false le = le-ltb n 0 (omega arith)
+
+-- the rule for the first key and for those after it
+module _ (n k : ℕ) (ks : List ℕ) (f : keysFit n (k ∷ ks) ≡ true) where
+  pub first-fits : keyFits n k ≡ true
+  unfolding keysFit
+  first-fits = and-left (keyFits n k) (not (any (eqb k) ks)) (and-left (keyFits n k && not (any (eqb k) ks)) (keysFit n ks) f)
+
+  pub others-fit : keysFit n ks ≡ true
+  unfolding keysFit
+  others-fit = and-right (keyFits n k && not (any (eqb k) ks)) (keysFit n ks) f
+
+pub fits-marks : (n : ℕ) (ks : List ℕ) → keysFit n ks ≡ true → All (MarkFits n) (map (markOf n) ks)
+fits-marks n [] f = tt
+fits-marks n (k ∷ ks) f = (fits-mark n k (first-fits n k ks f), fits-marks n ks (others-fit n k ks f))
+
+pub search-keys : (n p : ℕ) (ks : List ℕ) → p < 2 ^ (9 * n) → keysFit n ks ≡ true → searchOf n p ks ≡ search n (map (markOf n) ks) (indexes n p)
+unfolding searchOf markOf
+search-keys n p [] b f = refl
+search-keys n p (k ∷ ks) b f =
+    ap (λ (t : Bool). more (levelAt p k) (cond t nothing (searchOf n p ks))) (ends-key n k (first-fits n k ks f) p b)
+    ∙ ap₂ (λ (l : ℕ) (g : Lookup). more l (cond (eqb (k % 8) (suc n)) nothing g)) (level-key n p k b) (search-keys n p ks b (others-fit n k ks f))

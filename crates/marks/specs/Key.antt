@@ -2,12 +2,14 @@
 -- So an address begins with them where its page number, shifted by the levels below, equals that number. The bits of an address
 -- above its indexes, all set in the upper half, are in no key.
 -- Assumes nothing.
-use Prim.Native.Nat.{ℕ, suc, _+_, _-_, _*_, _/_, _%_, _^_, max}
+use Prim.Native.Nat.{ℕ, suc, _+_, _-_, _*_, _/_, _%_, _^_}
 use mathlib.Core.Bool.{Bool, true, not, _&&_, cond}
 use mathlib.Core.List.{List, [], _∷_}
 use lib.Dec.{eqb, leb, ltb}
+use Rattle.spec.specs.declared.Lookup.{Lookup}
 use Rattle.spec.specs.Entry.{pageOf}
 use Rattle.spec.specs.Prefix.{any}
+use Rattle.spec.specs.Search.{nothing, more}
 
 -- the page number in the low bits of an address: those that its n indexes take
 unfoldable pub lowPage : ℕ → ℕ → ℕ
@@ -25,10 +27,11 @@ keyAt levels n a = keyOf n (lowPage levels a)
 unfoldable pub levelAt : ℕ → ℕ → ℕ
 levelAt p k = cond (eqb (p / 2 ^ (9 * (k % 8))) (k / 8)) (k % 8) 0
 
--- the depth at the page p: the greatest level among the keys whose indexes it begins with, 0 if there is none
-unfoldable pub depthOf : ℕ → List ℕ → ℕ
-depthOf p [] = 0
-depthOf p (k ∷ ks) = max (levelAt p k) (depthOf p ks)
+-- the search among the keys at the page p, of n levels: the greatest level among those whose indexes it begins with, 0 if there is none,
+-- and how many were read. It ends once a level is above all n, which only the key of level n + 1 has where all keys fit
+unfoldable pub searchOf : ℕ → ℕ → List ℕ → Lookup
+searchOf n p [] = nothing
+searchOf n p (k ∷ ks) = more (levelAt p k) (cond (ltb n (levelAt p k)) nothing (searchOf n p ks))
 
 -- a key of n levels: its level is 1 to n + 1, and above the level stand only the n − level indexes that it keeps
 unfoldable pub keyFits : ℕ → ℕ → Bool

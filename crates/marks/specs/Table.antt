@@ -7,12 +7,13 @@ use mathlib.Core.Option.{Option, none, some}
 use lib.Dec.{eqb, ltb}
 use lib.Count.{ones}
 use lib.ListN.{length, getD, replicate}
+use Rattle.spec.specs.declared.Lookup.{Lookup}
 use Rattle.spec.specs.Prefix.{any}
 use Rattle.spec.specs.Refusal.{firstFailed, addressFits, levelFits}
 use Rattle.bits.specs.Bit.{places}
 use Rattle.entry.specs.Levels.{ofLevels}
 use Rattle.marks.specs.declared.Marks.{Marks}
-use Rattle.marks.specs.Key.{keyAt}
+use Rattle.marks.specs.Key.{lowPage, keyAt, searchOf}
 
 -- how many marks can be set
 abbrev pub room : ℕ
@@ -21,6 +22,13 @@ room = 64
 -- the keys of the set places, in the order of the places
 unfoldable pub keys : List ℕ → ℕ → List ℕ
 keys place set = map (λ i. getD place i 0) (places room set)
+
+-- what a search among the set places finds for an address, of n levels; and in a table
+abbrev pub lookupAmong : ℕ → List ℕ → ℕ → ℕ → Lookup
+lookupAmong n place set a = searchOf n (lowPage n a) (keys place set)
+
+abbrev pub lookupIn : ℕ → Marks → ℕ → Lookup
+lookupIn n t a = lookupAmong n (t .place) (t .set) a
 
 -- the first of the places that holds the key k; `room` where none does
 unfoldable pub placeIn : List ℕ → ℕ → List ℕ → ℕ

@@ -22,10 +22,9 @@ use Rattle.area_laws.specs.Host.{hostMap}
 use Rattle.area_laws.proofs.Whole.{Holds, holds-leaves, holds-none}
 use Rattle.host.specs.Map.{hostArea}
 use Rattle.host.proofs.Mapping.{Maps, enter-maps}
-use Rattle.marks.specs.Key.{ascending}
 use Rattle.marks.specs.Table.{tableOf, number}
 use Rattle.marks.specs.Reading.{marksOf}
-use Rattle.marks.proofs.Book.{keysOf, no-marks, none-ascend}
+use Rattle.marks.proofs.Book.{no-marks}
 use Rattle.record.specs.declared.Record.{Record}
 use Rattle.record.specs.Record.{levels, layoutOf, configBy, fitsOf, zeros}
 use Rattle.record.specs.Open.{refusalOf, clearedOf, enteredOf, firstOf, grantedOf, granted, openOf}
@@ -138,8 +137,3 @@ module _ (m : List ℕ) (h s : ℕ) (grant : refusalOf (length m) h s ≡ 0) whe
 
   pub granted-fits : fitsOf unit (length memory) ≡ true
   granted-fits = fits-true unit (length memory) rules
-
-  -- its keys ascend, so that the rule of marks takes one pass
-  pub granted-ascend : ascending levels 0 (keysOf (unit .guest .marks)) ≡ true
-  unfolding grantedOf firstOf tableOf
-  granted-ascend = none-ascend levels (tableOf []) refl

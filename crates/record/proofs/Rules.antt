@@ -320,7 +320,7 @@ module _ {r : Record} {len : ℕ} (f : Fits r len) where
     shadow = f .shadow;
   }
 
--- what the depth search and the table of marks ask
+-- the rule of the marks, told by their keys
 pub fits-keys : {r : Record} {len : ℕ} → r .guest .marks .set < 2 ^ 64 → Fits r len → keysFit (r .layout .levels) (keysOf (r .guest .marks)) ≡ true
 fits-keys {r} l f = sym (marks-fit (configOf r) (r .guest .marks) l (omega (arith, f .sizes .deep))) ∙ f .marks
 

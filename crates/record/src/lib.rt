@@ -5,11 +5,11 @@ use entry::HostPhysical;
 use layout::Layout;
 use marks::Marks;
 use pool::Pool;
+use spec::Lookup;
 ghost use mathlib.Core.Path.{_≡_};
 ghost use Rattle.spec.specs.Refusal.{wordsFit, areasFit, topFits};
 ghost use Rattle.layout.specs.Layout.{LayoutFits, config};
-ghost use Rattle.marks.specs.Key.{lowPage, depthOf};
-ghost use Rattle.marks.specs.Table.{keys};
+ghost use Rattle.marks.specs.Table.{lookupIn};
 ghost use Rattle.record.specs.Record.{layoutOf, heldTop, isTable, poolFits, sizesFit, tablesFit, recordBy, headOf, fitsOf, zeros, headRoot, headTables, withHead, withMarks};
 
 // Levels of the guest's tables and of the host's that an opening chooses.
@@ -29,10 +29,10 @@ pub struct Guest {
     pub marks: Marks,
 }
 
-// A record handed back with the depth of an address.
+// A record handed back with the depth of an address and how many marks were read for it.
 pub struct Deep {
     pub unit: Record,
-    pub depth: u64,
+    pub lookup: Lookup,
 }
 
 // What a call is given and hands back.
@@ -241,11 +241,11 @@ impl Record {
         self.head().fits(&self.guest.marks.place, len)
     }
 
-    // The depth of an address.
+    // The depth of an address, and how many marks were read for it.
     pub fn depth(self, address: GuestVirtual) -> Deep
-        ensures { λ r. ⌜ r ≡ record { unit = self; depth = depthOf (lowPage (self .layout .levels) (address .0)) (keys (self .guest .marks .place) (self .guest .marks .set)) } ⌝ }
+        ensures { λ r. ⌜ r ≡ record { unit = self; lookup = lookupIn (self .layout .levels) (self .guest .marks) (address .0) } ⌝ }
     {
-        let depth = depth::depth(
+        let lookup = depth::lookup(
             &self.guest.marks.place,
             self.guest.marks.set,
             self.layout.levels,
@@ -253,7 +253,7 @@ impl Record {
         );
         Deep {
             unit: self,
-            depth: depth,
+            lookup: lookup,
         }
     }
 

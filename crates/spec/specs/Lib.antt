@@ -6,6 +6,7 @@ pub mod Walk
 pub mod Plain
 pub mod Machine
 pub mod Book
+pub mod Search
 pub mod Call
 pub mod Count
 pub mod Refusal

@@ -10,7 +10,7 @@ use lib.Dec.{T, eqb, eqb→eq, leb, leb→le, nleb→lt}
 use lib.ListN.{length, take}
 use lib.Seq.{take-take, length-take-le}
 use Rattle.spec.specs.Prefix.{begins, keep}
-use Rattle.spec.specs.Book.{Mark, depth}
+use Rattle.spec.specs.Book.{Mark, levelFor, depth}
 use Rattle.spec.specs.Prefix.{All}
 use Rattle.spec_laws.proofs.Lists.{and-left, and-right, begins-refl}
 
@@ -39,43 +39,36 @@ pub record MarkFits (n : ℕ) (m : Mark) : Type 0 where
   pub kept : length (m .prefix) ≡ n - m .level
   pub bound : m .level ≤ suc n
 
--- what one mark adds to the depth
-share : Mark → List ℕ → ℕ
-share m is = cond (begins (m .prefix) is) (m .level) 0
-
 max-left : (e a b c : ℕ) → max e a ≡ max e b → max e (max a c) ≡ max e (max b c)
 max-left e a b c h = omega arith
 
 max-right : (e a c d : ℕ) → max e c ≡ max e d → max e (max a c) ≡ max e (max a d)
 max-right e a c d h = omega arith
 
-share-most : (n : ℕ) (m : Mark) (is : List ℕ) → m .level ≤ n → share m is ≤ n
-unfolding share
-share-most n m is h = go (begins (m .prefix) is)
+level-most : (n : ℕ) (m : Mark) (is : List ℕ) → m .level ≤ n → levelFor m is ≤ n
+level-most n m is h = go (begins (m .prefix) is)
   where
     go : (b : Bool) → cond b (m .level) 0 ≤ n
     go true = h
     go false = omega arith
 
 pub depth-bound : (n : ℕ) (ms : List Mark) (is : List ℕ) → All (MarkFits n) ms → depth ms is ≤ suc n
-unfolding share
 depth-bound n [] is a = omega arith
 depth-bound n (m ∷ ms) is a =
-    let h = share-most (suc n) m is (a .0 .bound) in
+    let h = level-most (suc n) m is (a .0 .bound) in
     let k = depth-bound n ms is (a .1) in
     omega arith
 
 module _ (n e : ℕ) (is js : List ℕ) (same : take (n - suc e) is ≡ take (n - suc e) js) where
   -- above level e the marks are the same
-  share-same : (m : Mark) → MarkFits n m → max e (share m is) ≡ max e (share m js)
-  unfolding share
-  share-same m ok = go (leb (suc e) (m .level)) refl
+  level-same : (m : Mark) → MarkFits n m → max e (levelFor m is) ≡ max e (levelFor m js)
+  level-same m ok = go (leb (suc e) (m .level)) refl
     where
       at-most : (b : Bool) → m .level ≤ e → max e (cond b (m .level) 0) ≡ e
       at-most true h = omega arith
       at-most false h = omega arith
 
-      go : (b : Bool) → leb (suc e) (m .level) ≡ b → max e (share m is) ≡ max e (share m js)
+      go : (b : Bool) → leb (suc e) (m .level) ≡ b → max e (levelFor m is) ≡ max e (levelFor m js)
       go true h =
           let l : suc e ≤ m .level = leb→le (suc e) (m .level) (subst T (sym h) tt) in
           let k : length (m .prefix) ≤ n - suc e = omega (arith, ok .kept) in
@@ -86,10 +79,9 @@ module _ (n e : ℕ) (is js : List ℕ) (same : take (n - suc e) is ≡ take (n 
           at-most (begins (m .prefix) is) (omega arith) ∙ sym (at-most (begins (m .prefix) js) (omega arith))
 
   depth-above : (ms : List Mark) → All (MarkFits n) ms → max e (depth ms is) ≡ max e (depth ms js)
-  unfolding share
   depth-above [] a = refl
   depth-above (m ∷ ms) a =
-      max-left e (share m is) (share m js) (depth ms is) (share-same m (a .0)) ∙ max-right e (share m js) (depth ms is) (depth ms js) (depth-above ms (a .1))
+      max-left e (levelFor m is) (levelFor m js) (depth ms is) (level-same m (a .0)) ∙ max-right e (levelFor m js) (depth ms is) (depth ms js) (depth-above ms (a .1))
 
 -- two addresses that agree on the first N − d indexes, d being the depth of one, have the same depth
 pub depth-same : (n : ℕ) (ms : List Mark) (is js : List ℕ) → All (MarkFits n) ms
@@ -139,28 +131,25 @@ module _ (n : ℕ) (ms : List Mark) (p : List ℕ) (f : PathFits n ms p) where
           let l = nleb→lt (length (m .prefix)) (length p) (subst (λ b. T (not b)) (sym e) tt) in
           omega (arith, ok .kept, f .long, f .low)
 
-  share-low : (m : Mark) (is : List ℕ) → MarkFits n m → (T (begins (m .prefix) p) → ⊥) → T (begins p is) → share m is ≤ f .at - 1
-  unfolding share
-  share-low m is ok off hp = go (begins (m .prefix) is) refl
+  level-low : (m : Mark) (is : List ℕ) → MarkFits n m → (T (begins (m .prefix) p) → ⊥) → T (begins p is) → levelFor m is ≤ f .at - 1
+  level-low m is ok off hp = go (begins (m .prefix) is) refl
     where
       go : (b : Bool) → begins (m .prefix) is ≡ b → cond b (m .level) 0 ≤ f .at - 1
       go true e = let l = lower-mark m is ok off hp (subst T (sym e) tt) in omega arith
       go false e = omega arith
 
   pub set-fits : (m : Mark) → MarkFits n m → (T (begins (m .prefix) p) → ⊥) → PathFits n (m ∷ ms) p
-  unfolding share
   set-fits m ok off = record {
     at = f .at;
     low = f .low;
     long = f .long;
-    deep = λ is h. let a = f .deep is h in let b = share-low m is ok off h in omega arith;
+    deep = λ is h. let a = f .deep is h in let b = level-low m is ok off h in omega arith;
   }
 
   -- marks that are taken away, none of which the path begins with, leave the greatest where it is
   kept-depth : (q : Mark → Bool) (ks : List Mark) (is : List ℕ) → All (MarkFits n) ks
       → All (λ m. T (not (q m)) → T (begins (m .prefix) p) → ⊥) ks → T (begins p is)
       → (max (f .at - 1) (depth (keep q ks) is) ≡ max (f .at - 1) (depth ks is)) × (depth (keep q ks) is ≤ depth ks is)
-  unfolding share
   kept-depth q [] is ok off hp = (refl, omega arith)
   kept-depth q (m ∷ ks) is ok off hp = go (q m) refl (kept-depth q ks is (ok .1) (off .1) hp)
     where
@@ -168,9 +157,9 @@ module _ (n : ℕ) (ms : List Mark) (p : List ℕ) (f : PathFits n ms p) where
           → (max (f .at - 1) (depth (keep q ks) is) ≡ max (f .at - 1) (depth ks is)) × (depth (keep q ks) is ≤ depth ks is)
           → (max (f .at - 1) (depth (cond b (m ∷ keep q ks) (keep q ks)) is) ≡ max (f .at - 1) (depth (m ∷ ks) is))
           × (depth (cond b (m ∷ keep q ks) (keep q ks)) is ≤ depth (m ∷ ks) is)
-      go true e ih = (max-right (f .at - 1) (share m is) (depth (keep q ks) is) (depth ks is) (ih .0), omega (arith, ih .1))
+      go true e ih = (max-right (f .at - 1) (levelFor m is) (depth (keep q ks) is) (depth ks is) (ih .0), omega (arith, ih .1))
       go false e ih =
-          let l = share-low m is (ok .0) (off .0 (subst (λ b. T (not b)) (sym e) tt)) hp in
+          let l = level-low m is (ok .0) (off .0 (subst (λ b. T (not b)) (sym e) tt)) hp in
           (omega (arith, ih .0), omega (arith, ih .1))
 
   pub clear-fits : (q : Mark → Bool) → All (MarkFits n) ms → All (λ m. T (not (q m)) → T (begins (m .prefix) p) → ⊥) ms → PathFits n (keep q ms) p

@@ -7,6 +7,7 @@ pub mod Parts
 pub mod Granted
 pub mod Counts
 pub mod Depth
+pub mod Search
 pub mod Runs
 pub mod Asks
 pub mod Trail

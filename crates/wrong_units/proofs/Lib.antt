@@ -10,3 +10,4 @@ pub mod Drops
 pub mod Walks
 pub mod InFull
 pub mod Forecasts
+pub mod Lookups

@@ -29,7 +29,7 @@ use Rattle.forecast.specs.declared.Outlook.{Outlook}
 use Rattle.forecast.specs.declared.Next.{Next}
 use Rattle.forecast.specs.declared.Next.the-variants.{Go, Damaged}
 use Rattle.forecast.specs.Forecast.{addressOf, onward, listOf, start, forecastOf}
-use Rattle.calls.specs.Calls.{hostTop, heldOf, rootOf, keysOf, ended, judged, refused, servedBy, addressOk, deviceOk, translatedOf, openCall, callOf, loadCall, storeCall, deviceCall, forecastCall}
+use Rattle.calls.specs.Calls.{hostTop, heldOf, rootOf, keysOf, ended, judged, refused, servedBy, addressOk, deviceOk, lookupAt, translatedOf, openCall, callOf, loadCall, storeCall, deviceCall, forecastCall}
 use Rattle.claims.specs.Run.{guestArea, unitRun, unitAfter}
 use Rattle.claims.specs.Counted.{SameWords, countedOf, touchedOf}
 use Rattle.claims.proofs.Invariant.{Inv, at}
@@ -38,7 +38,9 @@ use Rattle.claims.proofs.Demands.{follows, at-self, opened-config, demand-3}
 use Rattle.claims.specs.Plain.{requestAt, isStore, plainWalk, AsWalked, Unrefused}
 use Rattle.claims.proofs.Plain.{demand-2}
 use Rattle.claims.proofs.Counted.{run-counted-load}
-use Rattle.wrong_units.specs.Unit.{runBy, afterBy, Demand-3, Demand-2, Calls, told, unitBy, cangrieb, WordsCounted}
+use Rattle.claims.specs.Lookups.{LooksUp}
+use Rattle.claims.proofs.Lookups.{run-lookup}
+use Rattle.wrong_units.specs.Unit.{runBy, afterBy, specified, Demand-3, Demand-2, Calls, told, unitBy, cangrieb, WordsCounted, Lookups}
 use Rattle.wrong_units.specs.Wrong.{storeAs, storeWith, deviceAs, deviceWith, ourStep, ourEnd, listWith, forecastWith}
 
 -- a table of calls that does what ours does on every record and memory that stand for a machine and a book
@@ -96,6 +98,15 @@ cangrieb-words-counted m h s xs g a k =
     Same : Record × List ℕ → Type 0
     Same e = (n : List ℕ) → length n ≡ length (e .1) → SameWords (e .1) n (countedOf (e .0) (e .1) false a) → SameWords (e .1) n (touchedOf (e .0) (e .1) false a)
         → line (loadCall (e .0) n a .result .answer) ≡ line (loadCall (e .0) (e .1) a .result .answer)
+
+pub cangrieb-lookups : Lookups lookupAt
+unfolding Lookups
+cangrieb-lookups m h s xs g a =
+    let o = openCall m h s in
+    subst Looks (sym (after-is xs (o .result .unit) (o .memory) o refl refl)) (run-lookup m h s xs g a)
+  where
+    Looks : Record × List ℕ → Type 0
+    Looks e = LooksUp (configBy (length m) h s) ((specified m h s xs) .book) (e .0) a (lookupAt (e .0) a)
 
 -- ---- the calls of specs/Wrong.antt that take an argument for what is changed are ours with our own argument
 

@@ -6,6 +6,7 @@ use mathlib.Core.Bool.{false}
 use mathlib.Core.List.{List, [], _∷_}
 use mathlib.Core.Option.{Option}
 use lib.ListN.{length}
+use Rattle.spec.specs.declared.Lookup.{Lookup}
 use Rattle.spec.specs.Answer.{Line, line}
 use Rattle.spec.specs.Call.{Call, load}
 use Rattle.spec.specs.Run.{State, run, after, opened}
@@ -17,6 +18,7 @@ use Rattle.calls.specs.declared.Reply.{Reply}
 use Rattle.calls.specs.Calls.{openCall, callOf}
 use Rattle.claims.specs.Run.{guestArea, machineRun}
 use Rattle.claims.specs.Plain.{requestAt, isStore, plainWalk, AsWalked, Unrefused}
+use Rattle.claims.specs.Lookups.{LooksUp}
 use Rattle.claims.specs.Counted.{SameWords, HeldOrPlain, countedOf, touchedOf}
 
 -- ---- any unit
@@ -88,3 +90,16 @@ WordsCounted f =
     HeldOrPlain ((specified m h s xs) .config) ((specified m h s xs) .book) false a
     → (n : List ℕ) → length n ≡ length (e .1) → SameWords (e .1) n (countedOf (e .0) (e .1) false a) → SameWords (e .1) n (touchedOf (e .0) (e .1) false a)
     → line (f (load a) (e .0) n .result .answer) ≡ line (f (load a) (e .0) (e .1) .result .answer)
+
+-- ---- the search among the marks
+
+-- what it finds for an address in a record
+abbrev pub Searches : Type 0
+Searches = Record → ℕ → Lookup
+
+-- lookups: in the record after any run it finds the depth by the book's marks, and reads what it should
+unfoldable pub Lookups : Searches → Type 0
+Lookups f =
+    (m : List ℕ) (h s : ℕ) (xs : List Call) → refusalOf (length m) h s ≡ 0 → (a : ℕ)
+    → let r : Record = (afterBy cangrieb xs (cangrieb .opens m h s)) .0 in
+    LooksUp (configBy (length m) h s) ((specified m h s xs) .book) r a (f r a)

@@ -3,7 +3,7 @@
 -- goes stale in them are real shadow entries. Their runs are computed word by word on a memory of 12 frames; only clearing a frame that
 -- is clear, which would take most of the time, goes by a law (proofs/Clear.antt).
 -- Assumes nothing.
-use Prim.Native.Nat.{ℕ, suc, _*_, _^_}
+use Prim.Native.Nat.{ℕ, suc, _-_, _*_, _^_, min}
 use mathlib.Core.Bool.{Bool, true, false, _&&_, cond}
 use mathlib.Core.List.{List, [], _∷_, _++_}
 use lib.Dec.{eqb, leb, ltb}
@@ -11,13 +11,15 @@ use lib.Count.{ones}
 use lib.ListN.{length, take, drop, replicate}
 use Rattle.spec.specs.declared.Fault.{Fault}
 use Rattle.spec.specs.declared.Fault.the-variants.{Absent, Malformed, Protected, HostAbsent, HostReadOnly}
+use Rattle.spec.specs.declared.Lookup.{Lookup}
 use Rattle.spec.specs.declared.Answer.{Answer}
 use Rattle.spec.specs.declared.Answer.the-variants as answer
 use Rattle.spec.specs.Config.{Config, guestBase, signBit}
 use Rattle.spec.specs.Entry.{pageOf, wordOf, indexes}
 use Rattle.spec.specs.Plain.{next}
-use Rattle.spec.specs.Refusal.{alikeFrom, wordAligned, forecastRoom}
+use Rattle.spec.specs.Refusal.{alikeFrom, addressFits, wordAligned, forecastRoom}
 use Rattle.spec.specs.Call.{map, setMark, load, store, device, forecast}
+use Rattle.spec.specs.Search.{nothing as none, more}
 use Rattle.spec.specs.Serving.{loads}
 use Rattle.words.specs.After.{After, yields}
 use Rattle.words.specs.Words.{wordIn, setIn}
@@ -27,7 +29,8 @@ use Rattle.host.specs.Map.{mapOf, unmapOf}
 use Rattle.walk.specs.declared.Walked.{Walked}
 use Rattle.walk.specs.declared.Walked.the-variants as walked
 use Rattle.walk.specs.Memory.{walkedOf}
-use Rattle.marks.specs.Key.{keyOf, keyAt}
+use Rattle.marks.specs.Key.{lowPage, keyOf, keyAt, levelAt}
+use Rattle.marks.specs.Table.{room, placeOf}
 use Rattle.record.specs.declared.Record.{Record}
 use Rattle.record.specs.Record.{configOf, withMarks}
 use Rattle.shadow.specs.Watch.{watchedOf}
@@ -41,14 +44,14 @@ use Rattle.request.specs.declared.Served.{Served}
 use Rattle.request.specs.Access as access
 use Rattle.request.specs.Access.{serving, stored, writtenBy}
 use Rattle.calls.specs.declared.Reply.{Reply}
-use Rattle.calls.specs.Calls.{hostTop, heldOf, rootOf, withHeld, withHost, nothing, ended, refused, judged, servedBy, depthAt, addressOk, deviceOk, translatedOf, keysOf, markRefusal, markedOf, marksAfter, callOf}
+use Rattle.calls.specs.Calls.{hostTop, heldOf, rootOf, withHeld, withHost, nothing, ended, refused, judged, servedBy, lookupAt, depthAt, addressOk, deviceOk, translatedOf, keysOf, markRefusal, markedOf, marksAfter, callOf}
 use Rattle.forecast.specs.declared.Outlook.{Outlook}
 use Rattle.forecast.specs.declared.Next.{Next}
 use Rattle.forecast.specs.declared.Next.the-variants.{Go, Damaged}
 use Rattle.forecast.specs.Forecast.{addressOf, onward, start}
 use Rattle.claims.specs.Run.{unitAfter}
 use Rattle.claims.specs.Plain.{plainWalk}
-use Rattle.wrong_units.specs.Unit.{Calls}
+use Rattle.wrong_units.specs.Unit.{Calls, Searches}
 use Rattle.wrong_units.specs.Changed.{Does, onLoads, onStores, onDevices, onMaps, onUnmaps, onSets, onClears, onForecasts}
 
 -- ---- what is said of a call, changed
@@ -126,10 +129,13 @@ marksFull = onSets (λ a n r m. elim (ltb (ones (r .guest .marks .set)) 4) [ tru
 
 -- ---- addresses of both halves (document 02, 1), misread
 
--- a load by another test of its address
+-- a load by another test of its address, and by another depth
+abbrev pub loadBy : (Config → ℕ → Bool) → (Record → ℕ → ℕ) → ℕ → Does
+loadBy legal deep a r m =
+    judged r m (cond (legal (configOf r) a && wordAligned a) (servedBy r (access.loadOf (configOf r) (hostTop r) m (heldOf r) (rootOf r) a (deep r a))) (refused r 4 m))
+
 abbrev pub loadIf : (Config → ℕ → Bool) → ℕ → Does
-loadIf legal a r m =
-    judged r m (cond (legal (configOf r) a && wordAligned a) (servedBy r (access.loadOf (configOf r) (hostTop r) m (heldOf r) (rootOf r) a (depthAt r a))) (refused r 4 m))
+loadIf legal = loadBy legal depthAt
 
 -- the limit of document 01
 unfoldable pub lowerHalfOnly : Calls
@@ -323,3 +329,28 @@ serveAll xs r m =
 
 unfoldable pub servesForReal : Calls
 servesForReal = onForecasts serveAll callOf
+
+-- ---- the search among the marks (document 02, 3), misread
+
+-- our search, with the level that ends it as an argument
+unfoldable pub searchTo : ℕ → ℕ → List ℕ → Lookup
+searchTo last p [] = none
+searchTo last p (k ∷ ks) = more (levelAt p k) (cond (leb last (levelAt p k)) none (searchTo last p ks))
+
+-- it ends at a mark of level N
+unfoldable pub endsAtN : Searches
+endsAtN r a = searchTo (r .layout .levels) (lowPage (r .layout .levels) a) (keysOf r)
+
+-- and loads take their depth from it
+unfoldable pub loadsEndAtN : Calls
+loadsEndAtN = onLoads (loadBy addressFits (λ r a. endsAtN r a .depth)) callOf
+
+-- places are counted, also those at which no mark is set
+unfoldable pub countsPlaces : Searches
+countsPlaces r a =
+    let last : ℕ = placeOf (r .guest .marks .place) (r .guest .marks .set) (suc (r .layout .levels)) in
+    record { depth = depthAt r a; read = min room (suc last) }
+
+-- the mark that ends it is not counted
+unfoldable pub lastNotCounted : Searches
+lastNotCounted r a = let f : Lookup = lookupAt r a in record { depth = f .depth; read = cond (ltb (r .layout .levels) (f .depth)) (f .read - 1) (f .read) }

@@ -1,4 +1,5 @@
-/* The six records of document 01's job program, as calls; prints the lines that the program prints, and a forecast's. */
+/* The six records of document 01's job program, as calls; prints the lines that the program prints, a forecast's, and what
+   a search among the marks finds. */
 #include "cangrieb.h"
 #include <inttypes.h>
 #include <stdio.h>
@@ -25,6 +26,11 @@ static void say(int line, struct cangrieb_answer a)
         printf("%" PRIu64 " %" PRIu64 "\n", a.references, a.exits);
 }
 
+static void say_lookup(int line, struct cangrieb_lookup found)
+{
+    printf("%d depth %" PRIu64 ", %" PRIu64 " read\n", line, found.depth, found.read);
+}
+
 int main(void)
 {
     struct cangrieb_record unit;
@@ -40,8 +46,14 @@ int main(void)
     const uint64_t addresses[] = {0, 4};
     say(7, cangrieb_forecast(head, place, memory, words, addresses, 2));
     say(8, cangrieb_forecast(head, place, memory, words, NULL, 0));
+    /* The depth of address 0, and how many marks are read for it: both, and of three those up to that of level 5. */
+    say(9, cangrieb_set_mark(head, place, memory, words, 0, 1));
+    say(10, cangrieb_set_mark(head, place, memory, words, 0x200000, 1));
+    say_lookup(11, cangrieb_depth(head, place, 0));
+    say(12, cangrieb_set_mark(head, place, memory, words, 0, 5));
+    say_lookup(13, cangrieb_depth(head, place, 0));
     /* No memory at all is refused too. */
-    say(9, cangrieb_load(head, place, NULL, 0, 0));
-    say(10, cangrieb_open(head, place, NULL, 0, 4, 4));
+    say(14, cangrieb_load(head, place, NULL, 0, 0));
+    say(15, cangrieb_open(head, place, NULL, 0, 4, 4));
     return 0;
 }

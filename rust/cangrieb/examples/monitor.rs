@@ -13,6 +13,8 @@ fn main() {
     for (address, entry) in [(0x0000, 0x1003), (0x1000, 0x2003), (0x2000, 0x3003), (0x3000, 0x4003)] {
         unit.device_store(&mut memory, address, entry);
     }
+    let lookup = unit.depth(0);
+    println!("address 0 has depth {}, by {} marks", lookup.depth, lookup.read);
     let addresses = [0, 0, 0x1000];
     if let Answer::Figures { references, exits, tables } = unit.forecast(&memory, &addresses) {
         println!("forecast: {references} references, {exits} exits, {tables} shadow tables");

@@ -74,11 +74,18 @@ struct cangrieb_answer {
     uint64_t exits;      /* calls of the guest's processor to the monitor */
 };
 
-/* The library has these as rows of 15, 64 and 7 words. */
+/* What the search among the marks finds for an address. */
+struct cangrieb_lookup {
+    uint64_t depth; /* the greatest level among the marks that hold for it, or 0 */
+    uint64_t read;  /* how many marks were read to find it */
+};
+
+/* The library has these as rows of 15, 64, 7 and 2 words. */
 #if defined __STDC_VERSION__ && __STDC_VERSION__ >= 201112L
 _Static_assert(sizeof(struct cangrieb_head) == 15 * sizeof(uint64_t), "a head has 15 words");
 _Static_assert(sizeof(struct cangrieb_record) == 79 * sizeof(uint64_t), "a record has 15 words and 64 places");
 _Static_assert(sizeof(struct cangrieb_answer) == 7 * sizeof(uint64_t), "an answer has 7 words");
+_Static_assert(sizeof(struct cangrieb_lookup) == 2 * sizeof(uint64_t), "a lookup has 2 words");
 #endif
 
 /* Refusals of each call in parentheses; of several that apply, the first named.
@@ -133,6 +140,13 @@ struct cangrieb_answer cangrieb_clear_mark(struct cangrieb_head *head, uint64_t 
    11 either: head, places, memory and addresses are only read. With a count of 0 the addresses' pointer may be null. */
 struct cangrieb_answer cangrieb_forecast(const struct cangrieb_head *head, const uint64_t place[64],
                                          const uint64_t *memory, size_t words, const uint64_t *addresses, size_t count);
+
+/* The depth of a guest-virtual address by the marks that are set, and how many marks a load or store reads to find it: in the
+   order of their places those up to one of level 5 and with it, or all that are set. This looks at the marks alone. It is no
+   call to the unit, takes no memory and refuses nothing; the bits of the address above its indexes are not read. Of a record
+   that a call would refuse with 3 the two numbers mean nothing, but that the depth is at most 7 and no more marks were read
+   than are set. */
+struct cangrieb_lookup cangrieb_depth(const struct cangrieb_head *head, const uint64_t place[64], uint64_t address);
 
 #ifdef __cplusplus
 }

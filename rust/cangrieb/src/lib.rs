@@ -83,6 +83,17 @@ pub struct Record {
     pub place: [u64; 64],
 }
 
+/// What the search among the marks finds for an address.
+#[repr(C)]
+#[derive(Clone, Copy, Debug, Default, PartialEq, Eq)]
+pub struct Lookup {
+    /// The depth: the greatest level among the marks that hold for the address, or 0.
+    pub depth: u64,
+    /// How many marks were read to find it: in the order of their places those up to one of level 5 and with it, or all
+    /// that are set.
+    pub read: u64,
+}
+
 /// Why a walk ended before its word.
 #[derive(Clone, Copy, Debug, PartialEq, Eq)]
 pub enum Fault {
@@ -336,5 +347,30 @@ impl Record {
             )
         };
         Answer::from_raw(answer)
+    }
+
+    /// The depth of a guest-virtual address by the marks that are set, and how many marks a load or store reads to find it.
+    ///
+    /// This looks at the marks alone: it is no call to the unit, takes no memory and refuses nothing. The bits of the address
+    /// above its indexes are not read. Of a record that a call would refuse with 3 the two numbers mean nothing, but that
+    /// the depth is at most 7 and no more marks were read than are set.
+    ///
+    /// ```
+    /// use cangrieb::{Lookup, Record};
+    ///
+    /// let mut memory = vec![0; 16 * 512];
+    /// let mut unit = Record::open(&mut memory, 4, 4).unwrap();
+    /// for page in 0..10 {
+    ///     unit.set_mark(&mut memory, page << 21, 1);
+    /// }
+    /// assert_eq!(unit.depth(0), Lookup { depth: 1, read: 10 });
+    /// // A mark of level 5 holds for every address and ends the search: only marks of the first table stand before it.
+    /// unit.set_mark(&mut memory, 0, 5);
+    /// assert_eq!(unit.depth(0), Lookup { depth: 5, read: 2 });
+    /// ```
+    #[inline]
+    pub fn depth(&self, address: u64) -> Lookup {
+        // Both parts are lent to be read. The function asks for nothing else.
+        unsafe { raw::cangrieb_depth(&self.head, &self.place, address) }
     }
 }

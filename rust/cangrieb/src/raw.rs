@@ -2,7 +2,7 @@
 //! lent. The memory is a pointer and a number of words; if there are none, the pointer may be null. The answer comes
 //! back by value.
 
-use crate::Head;
+use crate::{Head, Lookup};
 use core::mem::size_of;
 
 /// An answer in numbers. What a kind does not have is 0.
@@ -25,8 +25,9 @@ pub struct Answer {
     pub exits: u64,
 }
 
-/// The library has these as rows of 15 and 7 words.
-const _: () = assert!(size_of::<Head>() == 15 * 8 && size_of::<Answer>() == 7 * 8);
+/// The library has these as rows of 15, 7 and 2 words.
+const _: () =
+    assert!(size_of::<Head>() == 15 * 8 && size_of::<Answer>() == 7 * 8 && size_of::<Lookup>() == 2 * 8);
 
 extern "C" {
     /// Lays the memory out and writes the record: 1, 2. A refusal sets the record to 0.
@@ -117,4 +118,6 @@ extern "C" {
         addresses: *const u64,
         count: usize,
     ) -> Answer;
+    /// The depth of an address, and how many marks are read to find it. Nothing is refused.
+    pub fn cangrieb_depth(head: &Head, place: &[u64; 64], address: u64) -> Lookup;
 }

@@ -1,6 +1,6 @@
 //! Document 01's sixteen-frame guest through the archive, with addresses of both halves, and the edges of the interface.
 
-use cangrieb::{raw, Answer, Fault, Head, Record, Refusal};
+use cangrieb::{raw, Answer, Fault, Head, Lookup, Record, Refusal};
 
 /// "H = S = 4; guest frames 0 to 7 at 8 to 15, writable; root 0" and the guest's words.
 fn guest() -> (Record, Vec<u64>) {
@@ -110,6 +110,51 @@ fn marks() {
     assert_eq!(unit.load(&mut memory, 0), value(0, 24, 0));
     assert_eq!(unit.clear_mark(&mut memory, 0, 5), Answer::Ok);
     assert_eq!(unit.clear_mark(&mut memory, 0, 5), refused(6));
+}
+
+/// The depth by the marks that are set, and how many were read for it: all, or those up to one of level 5 and with it. The
+/// marks stand in the order of the indexes that they keep, as one number, and of their levels.
+#[test]
+fn lookups() {
+    let (mut unit, mut memory) = guest();
+    let found = |unit: &Record, address| {
+        let Lookup { depth, read } = unit.depth(address);
+        (depth, read)
+    };
+    assert_eq!(found(&unit, 0), (0, 0));
+    for (address, level) in [(UPPER, 3), (0x20_0000, 1), (0, 2), (0, 1)] {
+        assert_eq!(unit.set_mark(&mut memory, address, level), Answer::Ok);
+    }
+    // Each is read, also for an address that none holds for. The bits below a page do not matter.
+    assert_eq!(found(&unit, 0), (2, 4));
+    assert_eq!(found(&unit, 0x20_0FFF), (2, 4));
+    assert_eq!(found(&unit, UPPER + 7), (3, 4));
+    assert_eq!(found(&unit, 1 << 39), (0, 4));
+    // One of level 4 ends nothing; one of level 5 stands behind those of levels 1, 2 and 4 at address 0.
+    assert_eq!(unit.set_mark(&mut memory, 0, 4), Answer::Ok);
+    assert_eq!(found(&unit, 1 << 39), (4, 5));
+    assert_eq!(unit.set_mark(&mut memory, UPPER, 5), Answer::Ok);
+    assert_eq!(found(&unit, 0), (5, 4));
+    assert_eq!(found(&unit, UPPER), (5, 4));
+    // A cleared mark leaves its place empty, and is not read.
+    assert_eq!(unit.clear_mark(&mut memory, 0, 1), Answer::Ok);
+    assert_eq!(found(&unit, 0), (5, 3));
+    assert_eq!(unit.clear_mark(&mut memory, 0, 5), Answer::Ok);
+    assert_eq!(found(&unit, 0), (4, 4));
+    // Loads go by the same depth.
+    assert_eq!(unit.load(&mut memory, 0), value(0, 4 + 4 * 4, 1));
+}
+
+/// A lookup of a record that every call refuses ends too: nothing is set; a level that no mark has, and one above other
+/// indexes than the address has, at all 64 places.
+#[test]
+fn lookups_in_broken_records() {
+    assert_eq!(Record::zeros().depth(0), Lookup { depth: 0, read: 0 });
+    let (unit, _) = guest();
+    let full = |key| Record { head: Head { set: u64::MAX, ..unit.head }, place: [key; 64] };
+    assert_eq!(full(7).depth(0), Lookup { depth: 7, read: 1 });
+    assert_eq!(full(15).depth(0), Lookup { depth: 0, read: 64 });
+    assert_eq!(full(0).depth(0), Lookup { depth: 0, read: 64 });
 }
 
 #[test]

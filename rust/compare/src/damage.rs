@@ -1,8 +1,9 @@
-//! Damage to a record and its memory, and what must hold of a call on them all the same.
+//! Damage to a record and its memory, and what must hold of a call and of a lookup on them all the same.
 
-use crate::answer;
+use crate::{address_in, answer, is_set, lookup, places};
 use cangrieb::{Head, Record};
 use std::collections::BTreeMap;
+use walker::book::Book;
 use walker::random::Random;
 use walker::{Answer, Call};
 
@@ -42,7 +43,7 @@ pub struct State {
     pub lent: Lent,
 }
 
-/// How often each answer came.
+/// How often each answer came, and each sort of damage to the marks.
 pub type Counts = BTreeMap<String, u64>;
 
 impl State {
@@ -56,8 +57,9 @@ impl State {
         before.record = self.record;
         before.lent.words.copy_from_slice(&self.lent.words);
         let said = answer(&mut self.record, &mut self.lent.memory()[..part], call);
-        *counts.entry(name(call, &said)).or_insert(0) += 1;
+        count(counts, name(call, &said));
         assert!(self.lent.margins_stand(), "{call:?} => {said:?}: a word outside the memory");
+        checked_lookup(&self.record, address_in(call), said == Answer::No(3), counts);
         if let Call::Forecast { addresses } = call {
             assert!(self.record == before.record, "{call:?} => {said:?}: the record");
             assert!(self.lent.words == before.lent.words, "{call:?} => {said:?}: a word");
@@ -100,9 +102,9 @@ impl State {
     }
 
     /// One to four kinds of damage.
-    pub fn damage(&mut self, random: &mut Random) {
+    pub fn damage(&mut self, random: &mut Random, counts: &mut Counts) {
         for _ in 0..1 + random.below(4) {
-            match random.below(12) {
+            match random.below(14) {
                 0 => damage_record(&mut self.record, random),
                 1 => damage_fields(&mut self.record, random),
                 2 | 3 => damage_pools(&mut self.record, random),
@@ -110,10 +112,67 @@ impl State {
                 5 => spoil_frame(&self.record.clone(), self.lent.memory(), random),
                 6 | 7 => swap_entries(&self.record.clone(), self.lent.memory(), random),
                 8 | 9 => bend_entries(&self.record.clone(), self.lent.memory(), random),
-                _ => close_cycles(&self.record.clone(), self.lent.memory(), random),
+                10 | 11 => close_cycles(&self.record.clone(), self.lent.memory(), random),
+                12 => move_marks(&mut self.record, random),
+                _ => damage_marks(&mut self.record, random),
             }
         }
+        odd_marks(&self.record).iter().for_each(|odd| count(counts, format!("record with {odd}")));
     }
+}
+
+fn count(counts: &mut Counts, name: String) {
+    *counts.entry(name).or_insert(0) += 1;
+}
+
+/// A lookup, and what must hold of it whatever the record is: it leaves the record, yields a level as a place can hold it, and
+/// reads no more marks than are set. If no rule of the record is broken, it is the walker's, by the marks that stand there.
+fn checked_lookup(record: &Record, address: u64, refused: bool, counts: &mut Counts) {
+    let before = *record;
+    let said = record.depth(address);
+    assert!(*record == before, "lookup of {address:#x} => {said:?}: the record");
+    let set = record.head.set.count_ones() as u64;
+    assert!(said.depth <= 7 && said.read <= set, "lookup of {address:#x} => {said:?}: {record:?}");
+    if refused {
+        return count(counts, "lookup: record refused".into());
+    }
+    count(counts, "lookup: record not refused".into());
+    // The walker takes far longer than the unit.
+    if counts["lookup: record not refused"] % 4 == 1 {
+        check_by_walker(record, address, counts);
+    }
+}
+
+/// The walker's lookup, by the marks that stand in the record.
+fn check_by_walker(record: &Record, address: u64, counts: &mut Counts) {
+    let levels = record.head.levels as u32;
+    let places = places(record);
+    let mut book = Book::new(levels, record.head.shadows);
+    book.marks.extend(places.iter().flatten().cloned());
+    let said = lookup(record, address);
+    assert_eq!(Some(said), book.lookup(&places, address), "lookup of {address:#x}: {record:?}");
+    count(counts, "lookup: as the walker's".into());
+    // No more are read in a run, where the marks are in order.
+    if said.depth > levels && said.read > levels as usize + 1 {
+        count(counts, "lookup: as the walker's, ended far behind".into());
+    }
+}
+
+/// What no run has: marks that no call sets, or not there, or another number of levels to read them by.
+fn odd_marks(record: &Record) -> Vec<&'static str> {
+    let set = (0..64).filter(|place| is_set(record, *place));
+    let words: Vec<u64> = set.map(|place| record.place[place]).collect();
+    let is_there = |level: u64| words.iter().any(|word| word & 7 == level);
+    let odd = [
+        (is_there(0), "a mark of level 0"),
+        (is_there(6), "a mark of level 6"),
+        (is_there(7), "a mark of level 7"),
+        (words.iter().any(|word| word >> 3 >= 1 << 27), "a mark of more than three indexes"),
+        (words.windows(2).any(|two| two[0] == two[1]), "two marks alike"),
+        (words.windows(2).any(|two| two[0] > two[1]), "marks out of order"),
+        (record.head.levels != 4, "another number of levels"),
+    ];
+    odd.iter().filter(|(is_so, _)| *is_so).map(|(_, name)| *name).collect()
 }
 
 /// The place of an address's word in its frame.
@@ -200,6 +259,40 @@ fn damage_pools(record: &mut Record, random: &mut Random) {
         }
         6 => head.host.top = (random.below(hosts + 1) << 12) | 1,
         _ => head.shadow.top = ((hosts + random.below(shadows + 1)) << 12) | random.below(2),
+    }
+}
+
+/// The marks with one of level 5 at any places. No rule of the record is broken.
+fn move_marks(record: &mut Record, random: &mut Random) {
+    let unset = (0..64).find(|at| !is_set(record, *at));
+    let ends = (0..64).any(|at| is_set(record, at) && record.place[at] == 5);
+    let Record { head, place } = record;
+    if let (Some(at), false) = (unset, ends) {
+        place[at] = 5;
+        head.set |= 1 << at;
+    }
+    for _ in 0..64 {
+        let (one, other) = (random.below(64), random.below(64));
+        place.swap(one as usize, other as usize);
+        let differ = (head.set >> one ^ head.set >> other) & 1;
+        head.set ^= differ << one | differ << other;
+    }
+}
+
+/// Places set and not set at will, and marks of any level and with any indexes, out of order or twice.
+fn damage_marks(record: &mut Record, random: &mut Random) {
+    let Record { head, place } = record;
+    let sets = [head.set, head.set << 1, head.set >> 1, !head.set, 0, u64::MAX, random.word()];
+    head.set = random.pick(&sets);
+    for _ in 0..random.below(8) {
+        let (at, other) = (random.below(64) as usize, random.below(64) as usize);
+        match random.below(5) {
+            0 | 1 => place[at] = place[at] & !7 | random.below(8),
+            2 => place[at] = random.word() >> random.below(64),
+            3 => place.swap(at, other),
+            _ => place[at] = place[other],
+        }
+        head.set |= random.below(2) << at;
     }
 }
 

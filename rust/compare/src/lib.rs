@@ -3,6 +3,8 @@
 pub mod damage;
 
 use cangrieb::Record;
+use walker::book::{Lookup, Mark};
+use walker::numbers::{indexes, page_from};
 use walker::random::{Random, Run};
 use walker::{Answer, Call, Fault};
 
@@ -63,6 +65,46 @@ pub fn served(mut record: Record, memory: &mut [u64], addresses: &[u64]) -> Answ
         tables = tables.max(record.head.shadow.used);
     }
     Answer::Figures { references, exits, tables }
+}
+
+/// An address to look up about a call: its own, or that of its frame.
+pub fn address_in(call: &Call) -> u64 {
+    match *call {
+        Call::Load { address }
+        | Call::Store { address, .. }
+        | Call::DeviceStore { address, .. }
+        | Call::SetMark { address, .. }
+        | Call::ClearMark { address, .. } => address,
+        Call::Root { frame } | Call::Map { guest: frame, .. } | Call::Unmap { guest: frame } => frame << 12,
+        Call::Forecast { ref addresses } => addresses.first().copied().unwrap_or(u64::MAX),
+    }
+}
+
+/// The proved unit's lookup, in the walker's terms.
+pub fn lookup(record: &Record, address: u64) -> Lookup {
+    let said = record.depth(address);
+    Lookup { depth: said.depth.try_into().unwrap(), read: said.read.try_into().unwrap() }
+}
+
+/// Whether a mark is set at that place.
+pub fn is_set(record: &Record, place: usize) -> bool {
+    record.head.set >> place & 1 == 1
+}
+
+/// The places of the record's marks in order, in the walker's terms: none where no mark is set.
+pub fn places(record: &Record) -> Vec<Option<Mark>> {
+    let levels = record.head.levels as u32;
+    let places = record.place.iter().enumerate();
+    places.map(|(place, word)| is_set(record, place).then(|| mark(*word, levels))).collect()
+}
+
+/// A mark as its place holds it: the level in bits 0 to 2, above them the indexes that it keeps, the first one highest.
+fn mark(word: u64, levels: u32) -> Mark {
+    let level = (word & 7) as u32;
+    let kept = levels.saturating_sub(level);
+    let prefix = indexes(word >> 3, kept);
+    assert_eq!(page_from(&prefix, kept), word >> 3, "{word:#x}: more than the indexes that its level keeps");
+    Mark { level, prefix }
 }
 
 /// The run's memory with random words in the host and shadow frames: an opening clears them.

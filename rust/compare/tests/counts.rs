@@ -19,10 +19,13 @@ fn times(case: &str) -> u64 {
     }
 }
 
-/// A forecast and the loads that it speaks of. It may take this many times their instructions.
-const FORECASTS: [(&str, &str); 2] =
-    [("forecast-256-missing", "serve-256-missing"), ("forecast-256-spread", "serve-256-spread")];
-const MOST_TIMES: u64 = 4;
+/// A case, and how many times the instructions of another it may take: a forecast those of the loads that it speaks of, a
+/// search that a mark of level 5 ends those of one among fewer marks.
+const AT_MOST: [(&str, u64, &str); 3] = [
+    ("forecast-256-missing", 4, "serve-256-missing"),
+    ("forecast-256-spread", 4, "serve-256-spread"),
+    ("depth-top-and-63", 1, "depth-top-and-5"),
+];
 
 /// For the program and what callgrind writes.
 const FOLDER: &str = env!("CARGO_TARGET_TMPDIR");
@@ -107,12 +110,9 @@ fn within_their_bounds() {
     }
     // Shown also where the test passes, as nothing printed by println is.
     std::io::stderr().write_all(table.as_bytes()).unwrap();
-    for (forecast, loads) in FORECASTS {
-        let (most, count) = (MOST_TIMES * counts[loads], counts[forecast]);
-        assert!(
-            count <= most,
-            "{forecast}: {count} instructions, more than {MOST_TIMES} times {loads}: {most}"
-        );
+    for (case, times, other) in AT_MOST {
+        let (count, most) = (counts[case], times * counts[other]);
+        assert!(count <= most, "{case}: {count} instructions, more than {times} times {other}: {most}");
     }
     assert!(above.is_empty(), "above their bounds in counts.txt:\n{above}");
 }

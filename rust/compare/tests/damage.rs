@@ -1,4 +1,4 @@
-//! A million calls on damaged records and memories: each ends, and leaves what it may not change.
+//! A million calls on damaged records and memories, and a lookup after each: each ends, and leaves what it may not change.
 //! DAMAGED_CALLS sets another number, MARGIN the words on each side of the lent memory.
 
 use cangrieb::Record;
@@ -38,7 +38,7 @@ fn damaged_run(seed: u64, sizes: Sizes, counts: &mut Counts) {
     let mut before = sound.clone();
     for _ in 0..DAMAGES {
         let mut state = sound.clone();
-        state.damage(&mut random);
+        state.damage(&mut random, counts);
         for _ in 0..CALLS {
             let call = &later[random.below(later.len() as u64) as usize];
             let words = state.lent.memory().len();
@@ -62,7 +62,21 @@ fn damaged_runs(first_seed: u64, calls: u64, sizes: fn(&mut Random) -> Sizes) {
         let others = ["ok", "value", "done"].map(String::from);
         let forecasts =
             ["figures", "refusal 3", "refusal 11", "refusal 14"].map(|name| format!("forecast: {name}"));
-        for name in refusals.iter().chain(&faults).chain(&others).chain(&forecasts) {
+        let lookups =
+            ["record refused", "record not refused", "as the walker's", "as the walker's, ended far behind"];
+        let lookups = lookups.map(|name| format!("lookup: {name}"));
+        let odd = [
+            "a mark of level 0",
+            "a mark of level 6",
+            "a mark of level 7",
+            "a mark of more than three indexes",
+            "two marks alike",
+            "marks out of order",
+            "another number of levels",
+        ];
+        let odd = odd.map(|odd| format!("record with {odd}"));
+        let answers = refusals.iter().chain(&faults).chain(&others).chain(&forecasts);
+        for name in answers.chain(&lookups).chain(&odd) {
             assert!(counts.contains_key(name), "no damaged run had: {name}");
         }
     }

@@ -1,12 +1,14 @@
 //! Random runs: every answer of the proved unit, with its counts, is the second walker's, and so are the guest words. Each
-//! forecast is also what the unit takes to serve its list, and changes nothing.
+//! forecast is also what the unit takes to serve its list, and changes nothing. The unit's places hold the walker's marks, and
+//! lookups about them are the walker's.
 //! TIMES sets how many times as many runs there are; `-- --nocapture` shows how often each thing happened.
 
 use cangrieb::Record;
-use compare::{answer, first_guest_word, memory_before, served};
-use walker::events::{of_forecasts, of_halves, Events};
-use walker::numbers::{different_proper_prefixes, indexes};
-use walker::random::{run, Random, Run, Sizes};
+use compare::{address_in, answer, first_guest_word, lookup, memory_before, places, served};
+use walker::book::Mark;
+use walker::events::{of_forecasts, of_halves, of_lookups, Events};
+use walker::numbers::{address_of, different_proper_prefixes, indexes, page_from, sign_bit};
+use walker::random::{mark_run, run, Random, Run, Sizes};
 use walker::{Answer, Call, Unit};
 
 const CALLS: usize = 1000;
@@ -20,6 +22,7 @@ fn same(seed: u64, run: &Run) -> Events {
     let mut walker = Unit::open(levels, run.words.clone(), h, s).unwrap();
     assert!(memory[first..] == *walker.guest_words(), "seed {seed}, {:?}: the opening", run.sizes);
     let mut copy = memory.clone();
+    let mut lookups = Events::default();
     for (number, call) in run.calls.iter().enumerate() {
         let before = record;
         if matches!(call, Call::Forecast { .. }) {
@@ -35,6 +38,10 @@ fn same(seed: u64, run: &Run) -> Events {
                 assert_eq!(said, served(before, &mut copy, addresses), "{place}: its loads");
             }
         }
+        if number % 17 == 16 || changes_marks(call, &said) {
+            let after = format!("seed {seed}, {:?}, after call {number}: {call:?}", run.sizes);
+            same_lookups(&record, &walker, call, number as u64, &mut lookups, &after);
+        }
         if frames <= 24 || number % 100 == 99 {
             let place =
                 format!("seed {seed}, {:?}, words or tables after call {number}: {call:?}", run.sizes);
@@ -43,7 +50,43 @@ fn same(seed: u64, run: &Run) -> Events {
             assert_eq!(record.head.host.used, host_tables(&walker), "{place}");
         }
     }
-    walker.events().clone()
+    lookups.join(walker.events());
+    lookups
+}
+
+fn changes_marks(call: &Call, said: &Answer) -> bool {
+    matches!((call, said), (Call::SetMark { .. } | Call::ClearMark { .. }, Answer::Ok))
+}
+
+/// Some lookups after a call. They leave the record. The unit has its marks in ascending order, where of each lower level only
+/// the mark with no index but 0 comes before one of level N + 1: so that this ends a lookup after N others at most.
+fn same_lookups(record: &Record, walker: &Unit, call: &Call, number: u64, events: &mut Events, after: &str) {
+    let levels = walker.machine().levels;
+    let before = *record;
+    let places = places(record);
+    let ends = places.iter().flatten().any(|mark| mark.level == levels + 1);
+    for address in addresses_about(call, &places, number, levels) {
+        let said = lookup(record, address);
+        assert_eq!(Some(said), walker.book().lookup(&places, address), "{after}: lookup of {address:#x}");
+        assert!(!ends || said.read <= levels as usize + 1, "{after}: {said:?}");
+        events.add_lookup(levels, &places, address, said);
+    }
+    assert!(*record == before, "{after}: a lookup changed the record");
+}
+
+/// The call's own address, the one like it in the other half or with the same indexes and other bits above them, and
+/// the two pages at an end of what some mark holds for: one within, one beside it.
+fn addresses_about(call: &Call, places: &[Option<Mark>], number: u64, levels: u32) -> [u64; 4] {
+    let own = address_in(call);
+    let marks: Vec<&Mark> = places.iter().flatten().collect();
+    let prefix = if marks.is_empty() { &[][..] } else { &marks[number as usize % marks.len()].prefix };
+    let first = page_from(prefix, levels);
+    let pages = 512u64.pow(levels);
+    let behind = first + pages / 512u64.pow(prefix.len() as u32);
+    let end = if number % 2 == 1 { first } else { behind };
+    let [below, above] = [end + pages - 1, end].map(|page| address_of(page % pages, levels) + number % 4096);
+    let flipped = own ^ u64::MAX << (sign_bit(levels) as u64 + number % 2);
+    [own, flipped, below, above]
 }
 
 /// "Shadow tables in use are the different proper prefixes of held paths."
@@ -62,6 +105,7 @@ fn host_tables(walker: &Unit) -> u64 {
 fn events(overflows: bool) -> Vec<String> {
     let mut names = of_halves(4);
     names.extend(of_forecasts(4, overflows));
+    names.extend(of_lookups(4));
     let mut add = |name: String| names.push(name);
     for access in ["Load", "Store"] {
         for way in ["path held", "path not held"] {
@@ -119,17 +163,31 @@ fn events(overflows: bool) -> Vec<String> {
     names
 }
 
+/// How a run is made from a seed.
+type Sort = fn(u64, Sizes, usize) -> Run;
+
 /// So many runs, and that they had every event of the list.
-fn all_same(first_seed: u64, runs: u64, overflows: bool, sizes: fn(&mut Random) -> Sizes) {
+fn same_with(
+    names: &[String],
+    first_seed: u64,
+    runs: u64,
+    sort: Sort,
+    sizes: fn(&mut Random) -> Sizes,
+) -> Events {
     let mut all = Events::default();
     let times: u64 = std::env::var("TIMES").map_or(1, |text| text.parse().expect("TIMES is a number"));
     for seed in first_seed..first_seed + runs * times {
-        all.join(&same(seed, &run(seed, sizes(&mut Random::new(seed.wrapping_add(1))), CALLS)));
+        all.join(&same(seed, &sort(seed, sizes(&mut Random::new(seed.wrapping_add(1))), CALLS)));
     }
-    for event in events(overflows) {
-        println!("{:>9} {event}", all.count(&event));
-        assert!(all.count(&event) > 0, "no run had: {event}");
+    for event in names {
+        println!("{:>9} {event}", all.count(event));
+        assert!(all.count(event) > 0, "no run had: {event}");
     }
+    all
+}
+
+fn all_same(first_seed: u64, runs: u64, overflows: bool, sizes: fn(&mut Random) -> Sizes) {
+    let all = same_with(&events(overflows), first_seed, runs, run, sizes);
     let forecast = all.count("forecast, overflow");
     println!("{forecast:>9} overflows in forecasts");
     assert!(!overflows || forecast >= 1000, "{forecast} overflows in forecasts");
@@ -158,4 +216,12 @@ fn few_shadow_tables() {
 #[test]
 fn few_host_tables() {
     all_same(40_000, 400, false, |random| Sizes { levels: 4, frames: 60, h: 4 + random.below(3), s: 24 });
+}
+
+/// The mark of level 5 stands behind as many others as it can.
+#[test]
+fn marks_that_come_and_go() {
+    let mut names = of_lookups(4);
+    names.extend((1..=5).map(|read| format!("lookup ended, {read} read")));
+    same_with(&names, 50_000, 100, mark_run, |random| Sizes::small(random, 4));
 }

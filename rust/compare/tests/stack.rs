@@ -116,6 +116,12 @@ fn calls_stay_within_the_bound() {
         }),
     );
     take(
+        "depth",
+        used(&mut || {
+            unit.depth(0);
+        }),
+    );
+    take(
         "load, at depth 2",
         used(&mut || {
             unit.load(&mut memory, 0);

@@ -15,6 +15,13 @@ pub struct Mark {
     pub prefix: Vec<u64>,
 }
 
+/// What the depth search yields: the depth, and "how many marks it read".
+#[derive(Clone, Copy, Debug, PartialEq, Eq)]
+pub struct Lookup {
+    pub depth: u32,
+    pub read: usize,
+}
+
 /// What the shadow part of a held path used, and its writable bit.
 #[derive(Clone, Debug, PartialEq, Eq)]
 pub struct HeldPath {
@@ -53,6 +60,26 @@ impl Book {
         let indexes = self.indexes(address);
         let begun_with = self.marks.iter().filter(|mark| indexes.starts_with(&mark.prefix));
         begun_with.map(|mark| mark.level).max().unwrap_or(0)
+    }
+
+    /// The depth, which stays as it was, and how many marks are read to find it: "in
+    /// the order of their places, those up to and with that one" of level 5, "or else
+    /// all that are set". With N levels that one has level N + 1.
+    ///
+    /// Which place a mark has is the unit's own affair. So its places are given, in
+    /// order and with none where no mark is set; if they do not hold the book's marks,
+    /// there is no lookup.
+    pub fn lookup(&self, places: &[Option<Mark>], address: u64) -> Option<Lookup> {
+        let in_order: Vec<&Mark> = places.iter().flatten().collect();
+        let ending = in_order.iter().position(|mark| mark.level == self.levels + 1);
+        let read = ending.map_or(in_order.len(), |before| before + 1);
+        self.has_just(in_order).then(|| Lookup { depth: self.depth(address), read })
+    }
+
+    /// Whether these are the book's marks, each once.
+    fn has_just(&self, mut marks: Vec<&Mark>) -> bool {
+        marks.sort();
+        marks.into_iter().eq(&self.marks)
     }
 
     /// "A path is the first 4 - d indexes of an address (none for d = 4)."

@@ -1,7 +1,8 @@
 //! Counters of what happened in a run, by name. They show what random runs reach;
 //! nothing in the answers rests on them.
 
-use crate::numbers::{device_limit, sign_bit};
+use crate::book::{Lookup, Mark};
+use crate::numbers::{device_limit, frame_of, in_upper_half, indexes, is_legal, sign_bit};
 use std::collections::BTreeMap;
 
 #[derive(Clone, Debug, Default)]
@@ -46,6 +47,59 @@ impl Events {
         let named = self.counts.iter().filter(|(name, _)| name.starts_with("overflow at depth "));
         named.map(|(_, many)| many).sum()
     }
+
+    /// A lookup at the unit's places, by the names of `of_lookups`.
+    pub fn add_lookup(&mut self, levels: u32, places: &[Option<Mark>], address: u64, lookup: Lookup) {
+        let half = if in_upper_half(address, levels) { "upper half" } else { "lower half" };
+        self.add("lookup");
+        self.add(format!("lookup, depth {}, {half}", lookup.depth));
+        let set: Vec<usize> = (0..places.len()).filter(|place| places[*place].is_some()).collect();
+        let read: Vec<&Mark> = places.iter().flatten().take(lookup.read).collect();
+        let Some(last) = read.last() else { return self.add("lookup, no mark set") };
+        let way = if last.level == levels + 1 { "ended" } else { "all read" };
+        let at_places = met_at_places(&set, places.len(), read.len());
+        let by_address = met_by_address(levels, &read, address);
+        for (_, what) in at_places.iter().chain(&by_address).filter(|(is_met, _)| *is_met) {
+            self.add(format!("lookup {way}, {what}"));
+        }
+        if way == "ended" {
+            self.add(format!("lookup ended, {} read", read.len()));
+            let behind = read.iter().any(|mark| mark.level == levels);
+            self.add_if(behind, &format!("lookup ended, behind one of level {levels}"));
+        }
+    }
+}
+
+/// What a lookup met, by the places that are set and how many of them it read.
+fn met_at_places(set: &[usize], places: usize, read: usize) -> [(bool, &'static str); 10] {
+    let (first, last) = (set[0], set[read - 1]);
+    let several = set.len() > 1;
+    [
+        (!several, "one mark set"),
+        (several, "several marks set"),
+        (set.len() >= 40, "40 marks set or more"),
+        (set.len() == places, "every place set"),
+        (first > 0, "unset place before the first mark"),
+        (last - first >= read, "unset place between marks read"),
+        (several && read == 1, "at the first mark"),
+        (read > 1, "behind other marks"),
+        (several && read == set.len(), "at the last mark"),
+        (read < set.len(), "marks left unread"),
+    ]
+}
+
+/// What a lookup met, by its address and the marks that it read.
+fn met_by_address(levels: u32, read: &[&Mark], address: u64) -> [(bool, &'static str); 5] {
+    let indexes = indexes(frame_of(address), levels);
+    let hold = read.iter().filter(|mark| indexes.starts_with(&mark.prefix));
+    let hold: Vec<u32> = hold.map(|mark| mark.level).collect();
+    [
+        (hold.len() < read.len(), "mark read that does not hold"),
+        (hold.windows(2).any(|two| two[0] < two[1]), "mark that holds before a deeper one"),
+        (hold.windows(2).any(|two| two[0] > two[1]), "mark that holds behind a deeper one"),
+        (address % 8 != 0, "address no multiple of 8"),
+        (!is_legal(address, levels), "address between the halves"),
+    ]
 }
 
 /// What many runs of so many levels must have had in each half of the addresses,
@@ -133,5 +187,37 @@ pub fn of_forecasts(levels: u32, overflows: bool) -> Vec<String> {
         add("forecast, most tables at the start".into());
         add("forecast, most tables in between".into());
     }
+    names
+}
+
+/// What the lookups of many runs of so many levels must have had.
+pub fn of_lookups(levels: u32) -> Vec<String> {
+    let mut names = vec!["lookup".into(), "lookup, no mark set".into()];
+    let mut add = |name: String| names.push(name);
+    for half in ["lower half", "upper half"] {
+        (0..=levels + 1).for_each(|depth| add(format!("lookup, depth {depth}, {half}")));
+    }
+    for way in ["all read", "ended"] {
+        let of_both = [
+            "one mark set",
+            "several marks set",
+            "40 marks set or more",
+            "every place set",
+            // The number of places up to the last mark read is another one.
+            "unset place before the first mark",
+            "unset place between marks read",
+            "mark read that does not hold",
+            "mark that holds before a deeper one",
+            "address no multiple of 8",
+            "address between the halves",
+        ];
+        of_both.iter().for_each(|what| add(format!("lookup {way}, {what}")));
+    }
+    add("lookup all read, mark that holds behind a deeper one".into());
+    for what in ["at the first mark", "behind other marks", "at the last mark", "marks left unread"] {
+        add(format!("lookup ended, {what}"));
+    }
+    // A search that ended at level N would end too early.
+    add(format!("lookup ended, behind one of level {levels}"));
     names
 }

@@ -3,7 +3,7 @@
 //! aliased, tables are mapped as pages or map themselves, table frames are
 //! remapped, tables and pages are read-only at times, marks come and go. Pages and
 //! marks are of both halves, and some differ in their half alone. One call in ten is
-//! a forecast, but not in jobs.
+//! a forecast, but not in jobs. Runs of another sort mostly set and clear marks.
 
 use crate::answer::Call;
 use crate::job::{raw_record, write_record, Record, JOB_FRAMES, JOB_LEVELS};
@@ -92,6 +92,11 @@ pub struct Run {
 /// The sizes must be those of a granted opening, with four or five levels.
 pub fn run(seed: u64, sizes: Sizes, calls: usize) -> Run {
     run_by(Guest::next_call, seed, sizes, calls)
+}
+
+/// A run in which most calls set or clear a mark.
+pub fn mark_run(seed: u64, sizes: Sizes, calls: usize) -> Run {
+    run_by(Guest::next_mark_call, seed, sizes, calls)
 }
 
 /// A run of the calls that a job's records can make.
@@ -392,6 +397,22 @@ impl Guest {
             self.forecast()
         } else {
             self.next_job_call()
+        }
+    }
+
+    /// Each mark about the pages and at the edges is set half of the time, so that often
+    /// those of all levels at address 0 are.
+    fn next_mark_call(&mut self) -> Call {
+        if self.random.one_in(4) {
+            return self.next_call();
+        }
+        let word = if self.random.one_in(2) { self.edge_address() } else { self.page_address() };
+        let address = word + self.random.below(8);
+        let level = 1 + self.random.below(self.sizes.levels as u64 + 1);
+        if self.random.one_in(2) {
+            Call::SetMark { address, level }
+        } else {
+            Call::ClearMark { address, level }
         }
     }
 

@@ -1,7 +1,8 @@
 //! Document 01's own examples and each refusal, by the numbers printed there, with
-//! requests 1 and 2 of document 02.
+//! requests 1 to 3 of document 02.
 
 use walker::answer::{Answer, Call, Fault};
+use walker::book::{Lookup, Mark};
 use walker::machine::Access;
 use walker::Unit;
 
@@ -403,6 +404,153 @@ fn a_forecast_changes_nothing() {
     assert_eq!(load(&mut unit, 0), value(0, 8, 0));
 }
 
+// Request 3: "it also yields how many marks it read: in the order of their places,
+// those up to and with that one, or else all that are set." Each line says the places.
+
+/// A place at which a mark is set.
+fn at(level: u32, prefix: &[u64]) -> Option<Mark> {
+    Some(Mark { level, prefix: prefix.to_vec() })
+}
+
+fn lookup(unit: &Unit, places: &[Option<Mark>], address: u64) -> Option<Lookup> {
+    unit.book().lookup(places, address)
+}
+
+fn found(depth: u32, read: usize) -> Option<Lookup> {
+    Some(Lookup { depth, read })
+}
+
+#[test]
+fn a_lookup_with_no_mark_reads_none() {
+    let unit = sixteen_frame_guest();
+    for address in [0, 4, UPPER, u64::MAX] {
+        assert_eq!(lookup(&unit, &[], address), found(0, 0));
+        assert_eq!(lookup(&unit, &vec![None; 64], address), found(0, 0));
+    }
+}
+
+#[test]
+fn a_lookup_without_level_5_reads_all_that_are_set() {
+    let mut unit = sixteen_frame_guest();
+    set_mark(&mut unit, 0x200000, 1);
+    set_mark(&mut unit, 0x40000000, 2);
+    set_mark(&mut unit, UPPER, 3);
+    let (one, two, three) = (at(1, &[0, 0, 1]), at(2, &[0, 1]), at(3, &[256]));
+    // Those that do not hold for the address are read too, and no place that is not set.
+    let places = [None, three.clone(), None, None, one.clone(), two.clone(), None];
+    let depths = [
+        (0, 0),
+        (0x1FFFFF, 0),
+        (0x200000, 1),
+        (0x3FFFFF, 1),
+        (0x400000, 0),
+        (0x40000000, 2),
+        (0x7FFFFFFF, 2),
+        (0x80000000, 0),
+        (UPPER, 3),
+        (UPPER + 0x7F_FFFF_FFFF, 3),
+        (UPPER + 0x80_0000_0000, 0),
+    ];
+    for (address, depth) in depths {
+        assert_eq!(lookup(&unit, &places, address), found(depth, 3), "{address:#x}");
+    }
+    // The first page of 0x200000 now has marks of levels 1 and 3, whichever is read first.
+    set_mark(&mut unit, 0, 3);
+    let low = at(3, &[0]);
+    for places in [[&low, &one, &two, &three], [&one, &two, &three, &low], [&two, &one, &low, &three]] {
+        let places = places.map(|place| place.clone());
+        assert_eq!(lookup(&unit, &places, 0x200000), found(3, 4));
+        assert_eq!(lookup(&unit, &places, 0x80_0000_0000), found(0, 4));
+    }
+    // One of level 4 holds for all addresses too, but ends nothing.
+    set_mark(&mut unit, 0, 4);
+    for address in [0, 0x200000, UPPER, u64::MAX] {
+        let first = [at(4, &[]), low.clone(), one.clone(), two.clone(), three.clone()];
+        assert_eq!(lookup(&unit, &first, address), found(4, 5));
+        let last = [low.clone(), one.clone(), two.clone(), three.clone(), None, at(4, &[])];
+        assert_eq!(lookup(&unit, &last, address), found(4, 5));
+    }
+}
+
+#[test]
+fn a_lookup_ends_at_the_mark_of_level_5() {
+    let mut unit = sixteen_frame_guest();
+    for level in [1, 3, 4, 5] {
+        set_mark(&mut unit, 0, level);
+    }
+    let (one, three, four, five) = (at(1, &[0, 0, 0]), at(3, &[0]), at(4, &[]), at(5, &[]));
+    let orders = [
+        (vec![&five, &one, &three, &four], 1),
+        (vec![&None, &None, &five, &None, &one, &three, &four], 1),
+        (vec![&one, &five, &three, &four], 2),
+        (vec![&four, &five, &one, &three], 2),
+        (vec![&None, &one, &None, &None, &five, &three, &four], 2),
+        (vec![&four, &three, &None, &five, &one], 3),
+        (vec![&one, &three, &four, &five, &None], 4),
+    ];
+    for (places, read) in orders {
+        let places: Vec<Option<Mark>> = places.into_iter().cloned().collect();
+        // For some of these only levels 4 and 5 hold. Address 3 is within a word.
+        for address in [0, 3, 8, 0x200000, 1 << 40, UPPER, u64::MAX] {
+            assert_eq!(lookup(&unit, &places, address), found(5, read), "{address:#x}");
+        }
+    }
+    // Once it is cleared the others are all read, those behind its place too.
+    clear_mark(&mut unit, UPPER, 5);
+    let places = [one.clone(), None, four, three.clone()];
+    assert_eq!(lookup(&unit, &places, 0), found(4, 3));
+    assert_eq!(lookup(&unit, &places, UPPER), found(4, 3));
+    clear_mark(&mut unit, 0, 4);
+    let places = [one, None, None, three];
+    assert_eq!(lookup(&unit, &places, 0), found(3, 2));
+    assert_eq!(lookup(&unit, &places, 1 << 40), found(0, 2));
+    assert_eq!(lookup(&unit, &places, UPPER), found(0, 2));
+}
+
+#[test]
+fn a_lookup_among_64_marks() {
+    let mut unit = sixteen_frame_guest();
+    for number in 0..64 {
+        set_mark(&mut unit, number << 21, 1);
+    }
+    let mut places: Vec<Option<Mark>> = (0..64).map(|number| at(1, &[0, 0, number])).collect();
+    for (address, depth) in [(0, 1), (63 << 21, 1), (64 << 21, 0), (UPPER, 0)] {
+        assert_eq!(lookup(&unit, &places, address), found(depth, 64));
+    }
+    // The mark of level 5 in each place, in turn.
+    for place in 0..64 {
+        let before = unit.clone();
+        clear_mark(&mut unit, (place as u64) << 21, 1);
+        set_mark(&mut unit, 0, 5);
+        let one = std::mem::replace(&mut places[place], at(5, &[]));
+        assert_eq!(lookup(&unit, &places, 0), found(5, place + 1));
+        assert_eq!(lookup(&unit, &places, UPPER), found(5, place + 1));
+        (unit, places[place]) = (before, one);
+    }
+}
+
+#[test]
+fn the_places_must_hold_the_books_marks() {
+    let mut unit = sixteen_frame_guest();
+    set_mark(&mut unit, 0x200000, 1);
+    set_mark(&mut unit, 0, 5);
+    let (one, five) = (at(1, &[0, 0, 1]), at(5, &[]));
+    assert_eq!(lookup(&unit, &[one.clone(), five.clone()], 0), found(5, 2));
+    let others = [
+        vec![],
+        vec![five.clone()],
+        vec![five.clone(), five.clone()],
+        vec![one.clone(), five.clone(), five.clone()],
+        vec![one.clone(), five.clone(), at(4, &[])],
+        vec![at(1, &[0, 0, 0]), five.clone()],
+        vec![at(2, &[0, 0]), five],
+        vec![one, at(4, &[])],
+    ];
+    for places in others {
+        assert_eq!(lookup(&unit, &places, 0), None);
+    }
+}
+
 // Openings.
 
 #[test]
@@ -730,4 +878,26 @@ fn five_levels() {
     // Bits 48 to 51 are frame bits.
     unit.call(&Call::DeviceStore { address: 0, value: 1 << 51 | 3 });
     assert_eq!(load(&mut unit, 0), fault(Fault::HostAbsent { frame: 1 << 39 }, 7, 1));
+}
+
+/// "With five, marks reach 6, the lookup of 3) ends only at one of level 6".
+#[test]
+fn five_levels_end_a_lookup_at_level_6() {
+    let mut unit = Unit::open(5, memory(24), 5, 5).unwrap();
+    // Bits 48 to 56 are the first index. Level 4 keeps it, levels 5 and 6 keep none.
+    set_mark(&mut unit, 1 << 48, 4);
+    set_mark(&mut unit, 0, 5);
+    set_mark(&mut unit, 0, 6);
+    let (four, five, six) = (at(4, &[1]), at(5, &[]), at(6, &[]));
+    for address in [0, 1 << 48, 0xFF00_0000_0000_0000] {
+        assert_eq!(lookup(&unit, &[four.clone(), five.clone(), None, six.clone()], address), found(6, 3));
+        assert_eq!(lookup(&unit, &[five.clone(), six.clone(), four.clone()], address), found(6, 2));
+        assert_eq!(lookup(&unit, &[None, six.clone(), four.clone(), five.clone()], address), found(6, 1));
+    }
+    clear_mark(&mut unit, 0, 6);
+    assert_eq!(lookup(&unit, &[five.clone(), four.clone()], 0), found(5, 2));
+    assert_eq!(lookup(&unit, &[four.clone(), five], 1 << 48), found(5, 2));
+    clear_mark(&mut unit, 0, 5);
+    assert_eq!(lookup(&unit, &[four.clone(), None], 0x1_FFFF_FFFF_FFFF), found(4, 1));
+    assert_eq!(lookup(&unit, &[None, four], 0), found(0, 1));
 }

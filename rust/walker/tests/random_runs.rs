@@ -1,14 +1,15 @@
-//! Random runs: the walker beside a separate plain walk over real host tables, and
-//! the rules of the book checked after each call.
+//! Random runs: the walker beside a separate plain walk over real host tables, the
+//! rules of the book checked after each call, and lookups beside a search that stops.
 
 mod naive;
 
 use naive::{Naive, Seen};
 use std::collections::{BTreeMap, BTreeSet};
 use walker::answer::{Answer, Call};
-use walker::events::{of_forecasts, of_halves, Events};
+use walker::book::{Lookup, Mark};
+use walker::events::{of_forecasts, of_halves, of_lookups, Events};
 use walker::numbers::{address_of, page_from};
-use walker::random::{run, Random, Run, Sizes};
+use walker::random::{mark_run, run, Random, Run, Sizes};
 use walker::vectors::lines;
 use walker::Unit;
 
@@ -26,13 +27,17 @@ struct Pair {
     unit: Unit,
     naive: Naive,
     marks: Marks,
+    /// A place for each mark, as a unit might choose it.
+    places: Vec<Option<Mark>>,
+    lookups: Events,
 }
 
 impl Pair {
     fn new(run: &Run) -> Pair {
         let Sizes { levels, h, s, .. } = run.sizes;
         let unit = Unit::open(levels, run.words.clone(), h, s).unwrap();
-        Pair { unit, naive: Naive::open(levels, run.words.clone(), h, s), marks: Marks::new() }
+        let naive = Naive::open(levels, run.words.clone(), h, s);
+        Pair { unit, naive, marks: Marks::new(), places: vec![None; 64], lookups: Events::default() }
     }
 
     fn step(&mut self, call: &Call) {
@@ -112,12 +117,37 @@ impl Pair {
             (Call::Root { frame }, Answer::Ok) => self.naive.root = frame,
             (Call::Unmap { guest }, Answer::Ok) => self.naive.unmap(guest),
             (Call::SetMark { address, level }, Answer::Ok) => {
-                assert!(self.marks.insert(mark(address, level, levels)))
+                assert!(self.marks.insert(mark(address, level, levels)));
+                self.put_in_place(address, level as u32);
+                self.check_lookups(address);
             }
             (Call::ClearMark { address, level }, Answer::Ok) => {
-                assert!(self.marks.remove(&mark(address, level, levels)))
+                assert!(self.marks.remove(&mark(address, level, levels)));
+                let mark = mark_in_place(address, level as u32, levels);
+                self.places.iter_mut().filter(|place| **place == mark).for_each(|place| *place = None);
+                self.check_lookups(address);
             }
             other => panic!("{other:?}"),
+        }
+    }
+
+    // Lookups.
+
+    /// In any of the places that are not set.
+    fn put_in_place(&mut self, address: u64, level: u32) {
+        let unset: Vec<usize> = (0..64).filter(|place| self.places[*place].is_none()).collect();
+        let place = unset[address as usize % 61 % unset.len()];
+        self.places[place] = mark_in_place(address, level, self.naive.levels);
+    }
+
+    /// Each is what a search finds that really stops, in both halves and between them.
+    fn check_lookups(&mut self, about: u64) {
+        let levels = self.naive.levels;
+        for address in [about, about ^ 0xFFF, about ^ 1 << 12 << 9, !about, about ^ 1 << 63, 0] {
+            let found = stopping_search(&self.places, address, levels);
+            assert_eq!(self.unit.book().lookup(&self.places, address), Some(found), "{address:#x}");
+            assert_eq!(found.depth as u64, depth(&self.marks, address, levels), "{address:#x}");
+            self.lookups.add_lookup(levels, &self.places, address, found);
         }
     }
 
@@ -287,6 +317,26 @@ fn depth(marks: &Marks, address: u64, levels: u32) -> u64 {
     (1..=levels as u64 + 1).rev().find(at_address).unwrap_or(0)
 }
 
+/// The mark of this level at an address, as a place has it.
+fn mark_in_place(address: u64, level: u32, levels: u32) -> Option<Mark> {
+    Some(Mark { level, prefix: path_of(address, levels, levels.saturating_sub(level) as usize) })
+}
+
+/// The depth search as a loop over the places that ends at a mark of level N + 1.
+fn stopping_search(places: &[Option<Mark>], address: u64, levels: u32) -> Lookup {
+    let (mut depth, mut read) = (0, 0);
+    for mark in places.iter().flatten() {
+        read += 1;
+        if mark.prefix == path_of(address, levels, mark.prefix.len()) {
+            depth = depth.max(mark.level);
+        }
+        if depth == levels + 1 {
+            break;
+        }
+    }
+    Lookup { depth, read }
+}
+
 fn path_of(address: u64, levels: u32, length: usize) -> Vec<u64> {
     (0..length as u32).map(|place| (address >> (12 + 9 * (levels - 1 - place))) & 511).collect()
 }
@@ -329,7 +379,8 @@ fn check_run(run: &Run) -> Events {
     for call in &run.calls {
         pair.step(call);
     }
-    pair.unit.events().clone()
+    pair.lookups.join(pair.unit.events());
+    pair.lookups
 }
 
 fn check_small_runs(levels: u32, seeds: std::ops::Range<u64>, calls: usize) -> Events {
@@ -369,6 +420,18 @@ fn long_runs_with_five_levels_reach_both_halves_and_every_forecast() {
     let events = check_small_runs(5, 1000..1060, 600);
     assert_all_met(of_halves(5), &events);
     assert_all_met(of_forecasts(5, true), &events);
+}
+
+#[test]
+fn lookups_among_marks_that_come_and_go() {
+    for levels in [4, 5] {
+        let mut events = Events::default();
+        for seed in 2000..2030 {
+            let sizes = Sizes::small(&mut Random::new(seed + 1), levels);
+            events.join(&check_run(&mark_run(seed, sizes, 600)));
+        }
+        assert_all_met(of_lookups(levels), &events);
+    }
 }
 
 fn assert_all_met(names: Vec<String>, events: &Events) {

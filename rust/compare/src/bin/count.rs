@@ -1,11 +1,17 @@
 //! Makes one of the main calls so many times, for callgrind to count: `count CASE CALLS`. `count` alone names the cases.
 //! tests/counts.rs counts what runs from entry to return of the functions of `counted`, and nothing around them.
 
-use cangrieb::{Answer, Record};
+use cangrieb::{Answer, Lookup, Record};
 
 /// One call of the wrapper each. As they are exported, they are compiled for any arguments and callers, not for those here.
 mod counted {
-    use cangrieb::{Answer, Record};
+    use cangrieb::{Answer, Lookup, Record};
+
+    #[export_name = "counted_depth"]
+    #[inline(never)]
+    pub fn depth(unit: &Record, address: u64) -> Lookup {
+        unit.depth(address)
+    }
 
     macro_rules! calls {
         ($($call:ident($($argument:ident: $sort:ty),*);)*) => {$(
@@ -34,7 +40,7 @@ mod counted {
 /// time costs the same.
 type Case = (&'static str, fn() -> Guest, fn(&mut Record, &mut [u64]));
 
-const CASES: [Case; 30] = [
+const CASES: [Case; 35] = [
     ("load-depth-0", || held(0, 0), load::<0>),
     ("load-depth-0-marks-8", || held(0, 8), load::<0>),
     ("load-depth-0-marks-62", || held(0, 62), load::<0>),
@@ -53,6 +59,11 @@ const CASES: [Case; 30] = [
     ("load-depth-5", || held(5, 0), load::<5>),
     ("load-depth-5-marks-8", || held(5, 8), load::<5>),
     ("load-depth-5-marks-62", || held(5, 62), load::<5>),
+    ("depth-no-mark", || held(0, 0), |unit, _| depth(unit, 0, 0)),
+    ("depth-marks-8", || held(0, 8), |unit, _| depth(unit, 0, 8)),
+    ("depth-marks-62", || held(0, 62), |unit, _| depth(unit, 0, 62)),
+    ("depth-top-and-5", || below_top(1), |unit, _| depth(unit, 5, 5)),
+    ("depth-top-and-63", || below_top(59), |unit, _| depth(unit, 5, 5)),
     ("store", || held(0, 0), store),
     ("device-store", || held(0, 0), device_store),
     ("root", guest, root),
@@ -74,6 +85,11 @@ const WORD: u64 = 7;
 fn load<const DEPTH: u64>(unit: &mut Record, memory: &mut [u64]) {
     let said = counted::load(unit, memory, 0);
     assert_eq!(said, Answer::Value { word: WORD, references: 4 + 4 * DEPTH, exits: 0 });
+}
+
+/// The search alone, by its depth and how many marks it reads.
+fn depth(unit: &Record, depth: u64, read: u64) {
+    assert_eq!(counted::depth(unit, 0), Lookup { depth, read });
 }
 
 fn store(unit: &mut Record, memory: &mut [u64]) {
@@ -204,6 +220,16 @@ fn held(depth: u64, elsewhere: u64) -> Guest {
         assert_eq!(unit.set_mark(&mut memory, (1 << 40) + (number << 21), 1), Answer::Ok);
     }
     assert!(matches!(unit.load(&mut memory, 0), Answer::Value { word: WORD, .. }));
+    Guest { unit, memory }
+}
+
+/// The guest with marks of all five levels at its page and so many elsewhere. The four lower ones are all that can stand
+/// before the one of level 5.
+fn below_top(elsewhere: u64) -> Guest {
+    let Guest { mut unit, mut memory } = held(5, elsewhere);
+    for level in 1..5 {
+        assert_eq!(unit.set_mark(&mut memory, 0, level), Answer::Ok);
+    }
     Guest { unit, memory }
 }
 

@@ -158,6 +158,17 @@ fn loads(title: &str, addresses: &[u64]) {
     compare(title, addresses, CALLS, &mut ways);
 }
 
+/// The search among the marks alone: without one of level 5, and with one among others.
+fn lookups(addresses: &[u64]) {
+    let mut ways: Vec<Way> = Vec::new();
+    for (level, elsewhere) in [(0, 0), (0, 8), (0, 62), (5, 5), (5, 63)] {
+        let (unit, _) = prepared(level, elsewhere, &[]);
+        let name = format!("unit: depth {level}, {} marks", unit.head.set.count_ones());
+        ways.push((name, Box::new(move |address| unit.depth(address).depth)));
+    }
+    compare("The search among the marks", addresses, CALLS, &mut ways);
+}
+
 fn others() {
     let mut ways: Vec<Way> = Vec::new();
     let (mut unit, mut memory) = guest();
@@ -217,6 +228,7 @@ fn main() {
     let far: Vec<u64> = (0..CALLS).map(|_| random.below(PAGES) << 12 | random.below(512) << 3).collect();
     loads("One page, its path held", &near);
     loads("1,024 pages in random order, their paths held", &far);
+    lookups(&near);
     others();
     lists();
     if let Ok(load) = std::fs::read_to_string("/proc/loadavg") {
