@@ -1,12 +1,13 @@
-// Load, store and device store: from an address and its depth to the word read or written, and the held paths that a store drops.
+// Load, store and device store: from an address and its depth to the bytes read or written, and the held paths that a store drops.
 ghost use mathlib.Core.Path.{_≡_};
 ghost use Prim.Native.Nat.{_<_, _≤_};
+ghost use Rattle.spec.specs.Bytes.{bytesAt};
 ghost use Rattle.spec.specs.Entry.{wordOf, frameLimit};
 ghost use Rattle.words.specs.After.{yields};
 ghost use Rattle.words.specs.Words.{wordIn};
 ghost use Rattle.layout.specs.Layout.{LayoutFits, config};
 ghost use Rattle.translate.specs.Translate.{HeldFits};
-ghost use Rattle.request.specs.Access.{putWordOf, loadOf, writtenBy, storeOf, deviceOf};
+ghost use Rattle.request.specs.Access.{Inside, putWordOf, putBytesOf, loadOf, writtenBy, storeOf, deviceOf};
 use entry::GuestPhysical;
 use entry::GuestVirtual;
 use entry::HostPhysical;
@@ -24,21 +25,22 @@ pub struct Served {
     pub answer: Answer,
 }
 
-// ---- the word
+// ---- the bytes
 
-// The word of its page that an address names.
+// The word of its page around an address.
 fn word_of(address: u64) -> u64
     ensures { λ r. ⌜ (r ≡ wordOf address) × (r < 512) ⌝ }
 {
     address % 4096 / 8
 }
 
-// The word of a page that a load at that address yields.
-fn read_word(mem: &[u64], page: HostPhysical, address: u64) -> u64
-    requires { ⌜ page .0 < frameLimit ⌝ }
-    ensures { λ r. ⌜ r ≡ wordIn (now (mem .entry)) (page .0) (wordOf address) ⌝ }
+// The bytes of a page that a load at that address yields.
+fn read_bytes(mem: &[u64], page: HostPhysical, address: u64, width: u64) -> u64
+    requires { ⌜ (page .0 < frameLimit) × (Inside address width) ⌝ }
+    ensures { λ r. ⌜ r ≡ bytesAt address width (wordIn (now (mem .entry)) (page .0) (wordOf address)) ⌝ }
 {
-    words::word_in(mem, page.0, word_of(address))
+    let word = words::word_in(mem, page.0, word_of(address));
+    words::part(word, 8 * width, 8 * (address % 8))
 }
 
 // What a store to a word leaves; not ok: damaged tables were met, and no guest word is changed.
@@ -48,20 +50,19 @@ pub struct Put {
     pub ok: bool,
 }
 
-// The word of a page that an address names gets the value, and the held paths whose shadow part read it are dropped. The drops are
-// found before the word is written, so that damage met on the way has changed no guest word.
+// A word of a page gets the value, and the held paths whose shadow part read it are dropped. The drops are found before the word is
+// written, so that damage met on the way has changed no guest word.
 fn put_word(
     mem: &mut [u64],
     layout: Layout,
     pool: Pool,
     page: HostPhysical,
-    address: u64,
+    i: u64,
     value: u64,
 ) -> Put
-    requires { ⌜ (LayoutFits layout) × (pool .fresh ≤ layout .shadows) × (page .0 < frameLimit) ⌝ }
-    ensures { λ r. ⌜ yields r (now (mem .exit)) ≡ putWordOf (config layout) (now (mem .entry)) pool (page .0) (wordOf address) value ⌝ }
+    requires { ⌜ (LayoutFits layout) × (pool .fresh ≤ layout .shadows) × (page .0 < frameLimit) × (i < 512) ⌝ }
+    ensures { λ r. ⌜ yields r (now (mem .exit)) ≡ putWordOf (config layout) (now (mem .entry)) pool (page .0) i value ⌝ }
 {
-    let i = word_of(address);
     if !shadow::watched(mem, layout, pool.fresh, page) {
         words::set_in(mem, page.0, i, value);
         return Put {
@@ -87,6 +88,25 @@ fn put_word(
     }
 }
 
+// The bytes of a page at that address get those of the value; the word around them keeps its other bytes.
+fn put_bytes(
+    mem: &mut [u64],
+    layout: Layout,
+    pool: Pool,
+    page: HostPhysical,
+    address: u64,
+    width: u64,
+    value: u64,
+) -> Put
+    requires { ⌜ (LayoutFits layout) × (pool .fresh ≤ layout .shadows) × (page .0 < frameLimit) × (Inside address width) ⌝ }
+    ensures { λ r. ⌜ yields r (now (mem .exit)) ≡ putBytesOf (config layout) (now (mem .entry)) pool (page .0) address width value ⌝ }
+{
+    let i = word_of(address);
+    let word = words::word_in(mem, page.0, i);
+    let stored = words::with_part(word, 8 * width, 8 * (address % 8), value);
+    put_word(mem, layout, pool, page, i, stored)
+}
+
 // ---- requests
 
 // A refused request: what was held, and the number.
@@ -106,10 +126,11 @@ pub fn load(
     root: GuestPhysical,
     held: Held,
     address: GuestVirtual,
+    width: u64,
     depth: u64,
 ) -> Served
-    requires { ⌜ (LayoutFits (space .layout)) × (HeldFits (config (space .layout)) held) ⌝ }
-    ensures { λ r. ⌜ yields r (now (mem .exit)) ≡ loadOf (config (space .layout)) (space .top) (now (mem .entry)) held (root .0) (address .0) depth ⌝ }
+    requires { ⌜ (LayoutFits (space .layout)) × (HeldFits (config (space .layout)) held) × (Inside (address .0) width) ⌝ }
+    ensures { λ r. ⌜ yields r (now (mem .exit)) ≡ loadOf (config (space .layout)) (space .top) (now (mem .entry)) held (root .0) (address .0) width depth ⌝ }
 {
     let t = translate::translate(
         mem,
@@ -132,7 +153,7 @@ pub fn load(
         } => Served {
             held: after,
             answer: Answer::Value {
-                word: read_word(mem, page, address.0),
+                word: read_bytes(mem, page, address.0, width),
                 references: reads,
                 exits: t.exits,
             },
@@ -149,7 +170,7 @@ pub fn load(
     }
 }
 
-// A store that was granted: the word is written, after so many references and exits; before: what was held when it came.
+// A store that was granted: its bytes are written, after so many references and exits; before: what was held when it came.
 fn written(
     mem: &mut [u64],
     layout: Layout,
@@ -157,14 +178,15 @@ fn written(
     held: Held,
     page: HostPhysical,
     address: u64,
+    width: u64,
     value: u64,
     references: u64,
     exits: u64,
 ) -> Served
-    requires { ⌜ (LayoutFits layout) × (held .pool .fresh ≤ layout .shadows) × (page .0 < frameLimit) × (exits ≤ 65536) ⌝ }
-    ensures { λ r. ⌜ yields r (now (mem .exit)) ≡ writtenBy before held references exits (putWordOf (config layout) (now (mem .entry)) (held .pool) (page .0) (wordOf address) value) ⌝ }
+    requires { ⌜ (LayoutFits layout) × (held .pool .fresh ≤ layout .shadows) × (page .0 < frameLimit) × (Inside address width) × (exits ≤ 65536) ⌝ }
+    ensures { λ r. ⌜ yields r (now (mem .exit)) ≡ writtenBy before held references exits (putBytesOf (config layout) (now (mem .entry)) (held .pool) (page .0) address width value) ⌝ }
 {
-    let put = put_word(mem, layout, held.pool, page, address, value);
+    let put = put_bytes(mem, layout, held.pool, page, address, width, value);
     let pool = put.pool;
     let frame = held.frame;
     if put.ok {
@@ -182,18 +204,19 @@ fn written(
     refused(before, 11)
 }
 
-// A store; the paths whose shadow part read the word are dropped: 11.
+// A store; the paths whose shadow part read the word around its bytes are dropped: 11.
 pub fn store(
     mem: &mut [u64],
     space: Space,
     root: GuestPhysical,
     held: Held,
     address: GuestVirtual,
+    width: u64,
     depth: u64,
     value: u64,
 ) -> Served
-    requires { ⌜ (LayoutFits (space .layout)) × (HeldFits (config (space .layout)) held) ⌝ }
-    ensures { λ r. ⌜ yields r (now (mem .exit)) ≡ storeOf (config (space .layout)) (space .top) (now (mem .entry)) held (root .0) (address .0) depth value ⌝ }
+    requires { ⌜ (LayoutFits (space .layout)) × (HeldFits (config (space .layout)) held) × (Inside (address .0) width) ⌝ }
+    ensures { λ r. ⌜ yields r (now (mem .exit)) ≡ storeOf (config (space .layout)) (space .top) (now (mem .entry)) held (root .0) (address .0) width depth value ⌝ }
 {
     let t = translate::translate(
         mem,
@@ -220,6 +243,7 @@ pub fn store(
             after,
             page,
             address.0,
+            width,
             value,
             reads,
             t.exits,
@@ -236,10 +260,17 @@ pub fn store(
     }
 }
 
-// A device's store at a guest-physical address: its host walk, then the word as for a store: 11.
-pub fn device_store(mem: &mut [u64], space: Space, held: Held, address: u64, value: u64) -> Served
-    requires { ⌜ (LayoutFits (space .layout)) × (held .pool .fresh ≤ space .layout .shadows) ⌝ }
-    ensures { λ r. ⌜ yields r (now (mem .exit)) ≡ deviceOf (config (space .layout)) (space .top) (now (mem .entry)) held address value ⌝ }
+// A device's store at a guest-physical address: its host walk, then the bytes as for a store: 11.
+pub fn device_store(
+    mem: &mut [u64],
+    space: Space,
+    held: Held,
+    address: u64,
+    width: u64,
+    value: u64,
+) -> Served
+    requires { ⌜ (LayoutFits (space .layout)) × (held .pool .fresh ≤ space .layout .shadows) × (Inside address width) ⌝ }
+    ensures { λ r. ⌜ yields r (now (mem .exit)) ≡ deviceOf (config (space .layout)) (space .top) (now (mem .entry)) held address width value ⌝ }
 {
     let walked = walk::to_page(mem, space, true, GuestPhysical(address / 4096), true, 0);
     match walked {
@@ -254,6 +285,7 @@ pub fn device_store(mem: &mut [u64], space: Space, held: Held, address: u64, val
             held,
             page,
             address,
+            width,
             value,
             reads,
             0,

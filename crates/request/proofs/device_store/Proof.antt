@@ -16,7 +16,7 @@ written-requires c κs =
     let to-page = c .before .before .before .before .to-page in
     let walked = c .before .before .walked in
     let at = rw (← to-page .ensures, walked .given .1) at (device-in (config (args .space .layout)) (args .space .top) (args .mem .now) (args .address / 4096)) in
-    (pre .0, pre .1, omega (arith, at .1, pre .0), omega arith)
+    (pre .0, pre .1, omega (arith, at .1, pre .0), pre .2, omega arith)
 
 enum-told : tie.Need-enum-told
 enum-told c = search needs

@@ -24,11 +24,11 @@ translate-requires c κs =
     let args = c .before .before .args in
     (pre .0, held-small (config (args .space .layout)) (args .held) (pre .1) (pre .0 .3))
 
-read-word-requires : tie.Need-read-word-requires
-read-word-requires c κs =
+read-bytes-requires : tie.Need-read-bytes-requires
+read-bytes-requires c κs =
     let pre = c .before .before .before .before .before .before .before .before .before .before .pre in
     let walked = c .before .before .walked in
-    let at = rw (walked .given .1) at (left (c .before .before .before .before .before .before .before) .arrived) in omega (arith, at .1, pre .0)
+    let at = rw (walked .given .1) at (left (c .before .before .before .before .before .before .before) .arrived) in (omega (arith, at .1, pre .0), pre .2)
 
 enum-told : tie.Need-enum-told
 enum-told c = search needs
@@ -38,8 +38,8 @@ unfolding loadOf
 returns c =
     let translate = c .before .before .before .before .before .before .before .before .translate in
     let walked = c .before .before .before .walked in
-    let read-word = c .read-word in
-    rw (← translate .ensures, walked .given .1, read-word .ensures)
+    let read-bytes = c .read-bytes in
+    rw (← translate .ensures, walked .given .1, read-bytes .ensures)
 
 returns-2 : tie.Need-returns-2
 unfolding loadOf
@@ -62,7 +62,7 @@ load-spec =
     (tie.spec
     translate-requires
     (λ c. search needs)
-    read-word-requires
+    read-bytes-requires
     (λ c. search needs)
     enum-told
     (λ c κs. search needs)

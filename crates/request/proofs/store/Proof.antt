@@ -30,7 +30,7 @@ written-requires c κs =
     let walked = c .before .before .walked in
     let l = left (c .before .before .before .before .before .before .before) in
     let at = rw (walked .given .1) at (l .arrived) in
-    (pre .0, l .held .0, omega (arith, at .1, pre .0), omega (arith, l .exits))
+    (pre .0, l .held .0, omega (arith, at .1, pre .0), pre .2, omega (arith, l .exits))
 
 enum-told : tie.Need-enum-told
 enum-told c = search needs
