@@ -145,9 +145,12 @@ depthAt r a = lookupAt r a .depth
 unfoldable pub translatedOf : Record → List ℕ → Bool → ℕ → After Translated
 translatedOf r m st a = translateOf (configOf r) (hostTop r) m (heldOf r) (rootOf r) st a (depthAt r a)
 
--- after 3 comes 15, for another width, and then 4, unless the address is ok
+-- the tests after 3: 15 unless it is a width (wide), then 4 unless the address is one of its bytes (ok)
+abbrev pub admitted : Bool → Bool → Record → List ℕ → After Reply → After Reply
+admitted wide ok r m next = cond wide (cond ok next (refused r 4 m)) (refused r 15 m)
+
 abbrev pub placed : Record → List ℕ → ℕ → Bool → After Reply → After Reply
-placed r m w ok next = judged r m (cond (widthFits w) (cond ok next (refused r 4 m)) (refused r 15 m))
+placed r m w ok next = judged r m (admitted (widthFits w) ok r m next)
 
 -- is it the address of w bytes? That of a device's store (d) is guest-physical
 abbrev pub addressOk : Bool → Config → ℕ → ℕ → Bool
