@@ -195,7 +195,7 @@ module _ (s : State) (r : Record) (m : List ℕ) (inv : Inv s r m) where
       store-follows = placed-by (store a w v) w (addressOk false c a w) _ refl (λ wide ok. stored-is wide ok ((plain c mach true a) .result) refl)
 
       -- ---- device store
-      device-step : widthFits w ≡ true → addressOk true c a w ≡ true
+      pub device-step : widthFits w ≡ true → addressOk true c a w ≡ true
           → let o = access c mach a w (some v) ((deviceWalk c mach a) .result) in
           let k = storing (wordOf a) ((deviceWalk c mach a) .result) (unshadowed (s .book) (deviceWalk c mach a)) in
           step (device a w v) (at c s) ≡ (lineOf (o .0) (k .references) (k .exits), record { config = c; machine = o .1; book = k .book })
@@ -225,7 +225,7 @@ module _ (s : State) (r : Record) (m : List ℕ) (inv : Inv s r m) where
           ∙ stands-walked c mach ht m (found.memory-stands s r m inv) 0 (deviceScript (pageOf a)) (λ q. InGuestArea c (q .0)) (device-asks (pageOf a) (device-small ok))
           ∙ ap (plainWalked ((trace (world c mach) (deviceScript (pageOf a))) .result)) (zero-add ((trace (world c mach) (deviceScript (pageOf a))) .count))
 
-      device-in : addressOk true c a w ≡ true → (p : Place) → (deviceWalk c mach a) .result ≡ granted p → InGuestArea c (p .0)
+      pub device-in : addressOk true c a w ≡ true → (p : Place) → (deviceWalk c mach a) .result ≡ granted p → InGuestArea c (p .0)
       unfolding deviceWalk world
       device-in ok p e =
           asks-trace (AnswerIn (InGuestArea c)) (λ g. g < 2 ^ frameBits c) (λ t i. InGuestArea c t × (i < 512)) (FaultFits c) (world c mach) (deviceScript (pageOf a)) (λ (q : Place). InGuestArea c (q .0)) (found.memory-stands s r m inv .inside)
