@@ -222,7 +222,9 @@ impl Answer {
     fn map<W>(self, narrow: fn(u64) -> W) -> Answer<W> {
         match self {
             Answer::Ok => Answer::Ok,
-            Answer::Value { word, references, exits } => Answer::Value { word: narrow(word), references, exits },
+            Answer::Value { word, references, exits } => {
+                Answer::Value { word: narrow(word), references, exits }
+            }
             Answer::Done { references, exits } => Answer::Done { references, exits },
             Answer::Fault { fault, references, exits } => Answer::Fault { fault, references, exits },
             Answer::Figures { references, exits, tables } => Answer::Figures { references, exits, tables },
