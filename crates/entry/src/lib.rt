@@ -58,7 +58,11 @@ impl GuestVirtual {
 pub fn width_fits(width: u64) -> bool
     ensures { λ r. ⌜ r ≡ widthFits width ⌝ }
 {
-    (width == 1) | (width == 2) | (width == 4) | (width == 8)
+    // Most requests are for whole words.
+    if width == 8 {
+        return true;
+    }
+    (width == 1) | (width == 2) | (width == 4)
 }
 
 // Is the address a multiple of the width? That is a power of two, so the bits below it say it without a division.

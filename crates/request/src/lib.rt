@@ -1,13 +1,13 @@
 // Load, store and device store: from an address and its depth to the bytes read or written, and the held paths that a store drops.
 ghost use mathlib.Core.Path.{_≡_};
 ghost use Prim.Native.Nat.{_<_, _≤_};
-ghost use Rattle.spec.specs.Bytes.{bytesAt};
+ghost use Rattle.spec.specs.Bytes.{bytesAt, withBytes};
 ghost use Rattle.spec.specs.Entry.{wordOf, frameLimit};
 ghost use Rattle.words.specs.After.{yields};
 ghost use Rattle.words.specs.Words.{wordIn};
 ghost use Rattle.layout.specs.Layout.{LayoutFits, config};
 ghost use Rattle.translate.specs.Translate.{HeldFits};
-ghost use Rattle.request.specs.Access.{Inside, putWordOf, putBytesOf, loadOf, writtenBy, storeOf, deviceOf};
+ghost use Rattle.request.specs.Access.{Inside, putWordOf, loadOf, writtenBy, storeOf, deviceOf};
 use entry::GuestPhysical;
 use entry::GuestVirtual;
 use entry::HostPhysical;
@@ -50,19 +50,29 @@ pub struct Put {
     pub ok: bool,
 }
 
-// A word of a page gets the value, and the held paths whose shadow part read it are dropped. The drops are found before the word is
-// written, so that damage met on the way has changed no guest word.
+// The word around the bytes of a page at that address, once they are those of the value.
+fn with_bytes(mem: &[u64], page: HostPhysical, address: u64, width: u64, value: u64) -> u64
+    requires { ⌜ (page .0 < frameLimit) × (Inside address width) ⌝ }
+    ensures { λ r. ⌜ r ≡ withBytes address width value (wordIn (now (mem .entry)) (page .0) (wordOf address)) ⌝ }
+{
+    let word = words::word_in(mem, page.0, word_of(address));
+    words::with_part(word, 8 * width, 8 * (address % 8), value)
+}
+
+// The word of a page around an address gets the value, and the held paths whose shadow part read it are dropped. The drops are found
+// before the word is written, so that damage met on the way has changed no guest word.
 fn put_word(
     mem: &mut [u64],
     layout: Layout,
     pool: Pool,
     page: HostPhysical,
-    i: u64,
+    address: u64,
     value: u64,
 ) -> Put
-    requires { ⌜ (LayoutFits layout) × (pool .fresh ≤ layout .shadows) × (page .0 < frameLimit) × (i < 512) ⌝ }
-    ensures { λ r. ⌜ yields r (now (mem .exit)) ≡ putWordOf (config layout) (now (mem .entry)) pool (page .0) i value ⌝ }
+    requires { ⌜ (LayoutFits layout) × (pool .fresh ≤ layout .shadows) × (page .0 < frameLimit) ⌝ }
+    ensures { λ r. ⌜ yields r (now (mem .exit)) ≡ putWordOf (config layout) (now (mem .entry)) pool (page .0) (wordOf address) value ⌝ }
 {
+    let i = word_of(address);
     if !shadow::watched(mem, layout, pool.fresh, page) {
         words::set_in(mem, page.0, i, value);
         return Put {
@@ -86,25 +96,6 @@ fn put_word(
         exits: 0,
         ok: false,
     }
-}
-
-// The bytes of a page at that address get those of the value; the word around them keeps its other bytes.
-fn put_bytes(
-    mem: &mut [u64],
-    layout: Layout,
-    pool: Pool,
-    page: HostPhysical,
-    address: u64,
-    width: u64,
-    value: u64,
-) -> Put
-    requires { ⌜ (LayoutFits layout) × (pool .fresh ≤ layout .shadows) × (page .0 < frameLimit) × (Inside address width) ⌝ }
-    ensures { λ r. ⌜ yields r (now (mem .exit)) ≡ putBytesOf (config layout) (now (mem .entry)) pool (page .0) address width value ⌝ }
-{
-    let i = word_of(address);
-    let word = words::word_in(mem, page.0, i);
-    let stored = words::with_part(word, 8 * width, 8 * (address % 8), value);
-    put_word(mem, layout, pool, page, i, stored)
 }
 
 // ---- requests
@@ -170,7 +161,8 @@ pub fn load(
     }
 }
 
-// A store that was granted: its bytes are written, after so many references and exits; before: what was held when it came.
+// A store that was granted: the word around its bytes is written, after so many references and exits; before: what was held when it
+// came.
 fn written(
     mem: &mut [u64],
     layout: Layout,
@@ -178,15 +170,14 @@ fn written(
     held: Held,
     page: HostPhysical,
     address: u64,
-    width: u64,
-    value: u64,
+    word: u64,
     references: u64,
     exits: u64,
 ) -> Served
-    requires { ⌜ (LayoutFits layout) × (held .pool .fresh ≤ layout .shadows) × (page .0 < frameLimit) × (Inside address width) × (exits ≤ 65536) ⌝ }
-    ensures { λ r. ⌜ yields r (now (mem .exit)) ≡ writtenBy before held references exits (putBytesOf (config layout) (now (mem .entry)) (held .pool) (page .0) address width value) ⌝ }
+    requires { ⌜ (LayoutFits layout) × (held .pool .fresh ≤ layout .shadows) × (page .0 < frameLimit) × (exits ≤ 65536) ⌝ }
+    ensures { λ r. ⌜ yields r (now (mem .exit)) ≡ writtenBy before held references exits (putWordOf (config layout) (now (mem .entry)) (held .pool) (page .0) (wordOf address) word) ⌝ }
 {
-    let put = put_bytes(mem, layout, held.pool, page, address, width, value);
+    let put = put_word(mem, layout, held.pool, page, address, word);
     let pool = put.pool;
     let frame = held.frame;
     if put.ok {
@@ -236,18 +227,20 @@ pub fn store(
             page,
             writable,
             reads,
-        } => written(
-            mem,
-            space.layout,
-            held,
-            after,
-            page,
-            address.0,
-            width,
-            value,
-            reads,
-            t.exits,
-        ),
+        } => {
+            let word = with_bytes(mem, page, address.0, width, value);
+            written(
+                mem,
+                space.layout,
+                held,
+                after,
+                page,
+                address.0,
+                word,
+                reads,
+                t.exits,
+            )
+        }
         Walked::Faulted { fault, reads } => Served {
             held: after,
             answer: Answer::Faulted {
@@ -278,18 +271,20 @@ pub fn device_store(
             page,
             writable,
             reads,
-        } => written(
-            mem,
-            space.layout,
-            held,
-            held,
-            page,
-            address,
-            width,
-            value,
-            reads,
-            0,
-        ),
+        } => {
+            let word = with_bytes(mem, page, address, width, value);
+            written(
+                mem,
+                space.layout,
+                held,
+                held,
+                page,
+                address,
+                word,
+                reads,
+                0,
+            )
+        }
         Walked::Faulted { fault, reads } => Served {
             held: held,
             answer: Answer::Faulted {

@@ -24,13 +24,20 @@ translate-requires c κs =
     let args = c .before .before .args in
     (pre .0, held-small (config (args .space .layout)) (args .held) (pre .1) (pre .0 .3))
 
-written-requires : tie.Need-written-requires
-written-requires c κs =
+with-bytes-requires : tie.Need-with-bytes-requires
+with-bytes-requires c κs =
     let pre = c .before .before .before .before .before .before .before .before .before .before .pre in
     let walked = c .before .before .walked in
-    let l = left (c .before .before .before .before .before .before .before) in
+    let at = rw (walked .given .1) at (left (c .before .before .before .before .before .before .before) .arrived) in
+    (omega (arith, at .1, pre .0), pre .2)
+
+written-requires : tie.Need-written-requires
+written-requires c κs =
+    let pre = c .before .before .before .before .before .before .before .before .before .before .before .before .pre in
+    let walked = c .before .before .before .before .walked in
+    let l = left (c .before .before .before .before .before .before .before .before .before) in
     let at = rw (walked .given .1) at (l .arrived) in
-    (pre .0, l .held .0, omega (arith, at .1, pre .0), pre .2, omega (arith, l .exits))
+    (pre .0, l .held .0, omega (arith, at .1, pre .0), omega (arith, l .exits))
 
 enum-told : tie.Need-enum-told
 enum-told c = search needs
@@ -38,10 +45,11 @@ enum-told c = search needs
 returns : tie.Need-returns
 unfolding storeOf
 returns c =
-    let translate = c .before .before .before .before .before .before .before .before .before .before .translate in
-    let walked = c .before .before .before .before .before .walked in
+    let translate = c .before .before .before .before .before .before .before .before .before .before .before .before .translate in
+    let walked = c .before .before .before .before .before .before .before .walked in
+    let with-bytes = c .before .before .before .before .with-bytes in
     let written = c .before .before .written in
-    rw (← translate .ensures, walked .given .1) (written .ensures)
+    rw (← translate .ensures, walked .given .1, ← with-bytes .ensures) (written .ensures)
 
 returns-2 : tie.Need-returns-2
 unfolding storeOf
@@ -64,6 +72,7 @@ store-spec =
     (tie.spec
     translate-requires
     (λ c. search needs)
+    with-bytes-requires
     written-requires
     (λ c. search needs)
     enum-told
