@@ -54,15 +54,17 @@ impl GuestVirtual {
     }
 }
 
-// Is it the width of an access, in bytes?
+// Is it the width of an access, in bytes? From 1 to 8, the powers of two have no bit in common with the number below them.
 pub fn width_fits(width: u64) -> bool
     ensures { λ r. ⌜ r ≡ widthFits width ⌝ }
 {
-    // Most requests are for whole words.
-    if width == 8 {
-        return true;
+    if width == 0 {
+        return false;
     }
-    (width == 1) | (width == 2) | (width == 4)
+    if 8 < width {
+        return false;
+    }
+    width & (width - 1) == 0
 }
 
 // Is the address a multiple of the width? That is a power of two, so the bits below it say it without a division.

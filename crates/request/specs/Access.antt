@@ -1,8 +1,9 @@
 -- Loads and stores from address to bytes, and the held paths that a store drops; for any memory.
 -- Assumes nothing.
 use Prim.Native.Nat.{ℕ, _+_, _%_, _<_, _≤_}
-use mathlib.Core.Bool.{Bool, true, false, cond}
+use mathlib.Core.Bool.{Bool, true, false, not, _||_, cond}
 use mathlib.Core.List.{List}
+use lib.Dec.{eqb}
 use Rattle.spec.specs.declared.Answer.{Answer}
 use Rattle.spec.specs.declared.Answer.the-variants as answer
 use Rattle.spec.specs.Config.{Config}
@@ -12,6 +13,8 @@ use Rattle.spec.specs.Plain.{next}
 use Rattle.words.specs.After.{After, yields}
 use Rattle.words.specs.Words.{wordIn, setIn}
 use Rattle.pool.specs.declared.Pool.{Pool}
+use Rattle.layout.specs.declared.HostWalk.{HostWalk}
+use Rattle.layout.specs.declared.HostWalk.the-variants as host
 use Rattle.layout.specs.Layout.{page}
 use Rattle.walk.specs.declared.Walked.{Walked}
 use Rattle.walk.specs.declared.Walked.the-variants as walked
@@ -24,7 +27,7 @@ use Rattle.translate.specs.declared.Held.{Held}
 use Rattle.request.specs.declared.Put.{Put}
 use Rattle.request.specs.declared.Served.{Served}
 use Rattle.translate.specs.declared.Translated.{Translated}
-use Rattle.translate.specs.Translate.{exitBy, translateOf}
+use Rattle.translate.specs.Translate.{exitBy, foundOf, translateOf}
 
 -- what a request leaves
 abbrev pub serving : Held → Answer → List ℕ → After Served
@@ -56,6 +59,18 @@ Inside a w = (0 < w) × (a % 8 + w ≤ 8)
 -- they get the low bytes of v: the word around them is stored with the rest of it as it is
 abbrev pub putBytesOf : Config → List ℕ → Pool → ℕ → ℕ → ℕ → ℕ → After Put
 putBytesOf c m p t a w v = putWordOf c m p t (wordOf a) (withBytes a w v (wordIn m t (wordOf a)))
+
+-- ---- the common case
+
+-- a path found at depth 0, if it serves
+abbrev pub servingBy : Bool → HostWalk → HostWalk
+servingBy st (host.Found t w) = cond (not st || w) (host.Found t w) (host.Absent 0)
+servingBy st (host.Absent n) = host.Absent 0
+servingBy st host.Damaged = host.Absent 0
+
+-- the page that a path held at depth 0 leads a request to; Absent says only that the request is to be translated in full
+unfoldable pub pageHeldOf : Config → List ℕ → Held → Bool → ℕ → ℕ → HostWalk
+pageHeldOf c m h st a d = cond (eqb d 0) (servingBy st (foundOf c m h a 0)) (host.Absent 0)
 
 -- ---- load
 

@@ -7,11 +7,12 @@ ghost use Rattle.words.specs.After.{yields};
 ghost use Rattle.words.specs.Words.{wordIn};
 ghost use Rattle.layout.specs.Layout.{LayoutFits, config};
 ghost use Rattle.translate.specs.Translate.{HeldFits};
-ghost use Rattle.request.specs.Access.{Inside, putWordOf, loadOf, writtenBy, storeOf, deviceOf};
+ghost use Rattle.request.specs.Access.{Inside, putWordOf, pageHeldOf, loadOf, writtenBy, storeOf, deviceOf};
 use entry::GuestPhysical;
 use entry::GuestVirtual;
 use entry::HostPhysical;
 use host::Space;
+use layout::HostWalk;
 use layout::Layout;
 use pool::Pool;
 use spec::Answer;
@@ -110,8 +111,39 @@ pub fn refused(held: Held, number: u64) -> Served
     }
 }
 
-// A load: 11.
-pub fn load(
+// The page that a path held at depth 0 leads to, if it serves the request. Most requests are such: they read shadow entries alone and
+// change nothing that is held. Absent says that the request is to be translated in full.
+fn page_held(
+    mem: &[u64],
+    layout: Layout,
+    held: Held,
+    store: bool,
+    address: GuestVirtual,
+    depth: u64,
+) -> HostWalk
+    requires { ⌜ LayoutFits layout ⌝ }
+    ensures { λ r. ⌜ r ≡ pageHeldOf (config layout) (now (mem .entry)) held store (address .0) depth ⌝ }
+{
+    if depth != 0 {
+        return HostWalk::Absent { reads: 0 };
+    }
+    match translate::found(mem, layout, held, address, 0) {
+        HostWalk::Found { page, writable } => {
+            if walk::granted(store, writable) {
+                return HostWalk::Found {
+                    page: page,
+                    writable: writable,
+                };
+            }
+            HostWalk::Absent { reads: 0 }
+        }
+        HostWalk::Absent { reads } => HostWalk::Absent { reads: 0 },
+        HostWalk::Damaged => HostWalk::Absent { reads: 0 },
+    }
+}
+
+// A load, translated in full: 11.
+fn load_in_full(
     mem: &mut [u64],
     space: Space,
     root: GuestPhysical,
@@ -161,6 +193,33 @@ pub fn load(
     }
 }
 
+// A load: 11.
+pub fn load(
+    mem: &mut [u64],
+    space: Space,
+    root: GuestPhysical,
+    held: Held,
+    address: GuestVirtual,
+    width: u64,
+    depth: u64,
+) -> Served
+    requires { ⌜ (LayoutFits (space .layout)) × (HeldFits (config (space .layout)) held) × (Inside (address .0) width) ⌝ }
+    ensures { λ r. ⌜ yields r (now (mem .exit)) ≡ loadOf (config (space .layout)) (space .top) (now (mem .entry)) held (root .0) (address .0) width depth ⌝ }
+{
+    match page_held(mem, space.layout, held, false, address, depth) {
+        HostWalk::Found { page, writable } => Served {
+            held: held,
+            answer: Answer::Value {
+                word: read_bytes(mem, page, address.0, width),
+                references: space.layout.levels,
+                exits: 0,
+            },
+        },
+        HostWalk::Absent { reads } => load_in_full(mem, space, root, held, address, width, depth),
+        HostWalk::Damaged => load_in_full(mem, space, root, held, address, width, depth),
+    }
+}
+
 // A store that was granted: the word around its bytes is written, after so many references and exits; before: what was held when it
 // came.
 fn written(
@@ -195,8 +254,8 @@ fn written(
     refused(before, 11)
 }
 
-// A store; the paths whose shadow part read the word around its bytes are dropped: 11.
-pub fn store(
+// A store, translated in full: 11.
+fn store_in_full(
     mem: &mut [u64],
     space: Space,
     root: GuestPhysical,
@@ -250,6 +309,40 @@ pub fn store(
             },
         },
         Walked::Damaged => refused(held, 11),
+    }
+}
+
+// A store; the paths whose shadow part read the word around its bytes are dropped: 11.
+pub fn store(
+    mem: &mut [u64],
+    space: Space,
+    root: GuestPhysical,
+    held: Held,
+    address: GuestVirtual,
+    width: u64,
+    depth: u64,
+    value: u64,
+) -> Served
+    requires { ⌜ (LayoutFits (space .layout)) × (HeldFits (config (space .layout)) held) × (Inside (address .0) width) ⌝ }
+    ensures { λ r. ⌜ yields r (now (mem .exit)) ≡ storeOf (config (space .layout)) (space .top) (now (mem .entry)) held (root .0) (address .0) width depth value ⌝ }
+{
+    match page_held(mem, space.layout, held, true, address, depth) {
+        HostWalk::Found { page, writable } => {
+            let word = with_bytes(mem, page, address.0, width, value);
+            written(
+                mem,
+                space.layout,
+                held,
+                held,
+                page,
+                address.0,
+                word,
+                space.layout.levels,
+                0,
+            )
+        }
+        HostWalk::Absent { reads } => store_in_full(mem, space, root, held, address, width, depth, value),
+        HostWalk::Damaged => store_in_full(mem, space, root, held, address, width, depth, value),
     }
 }
 

@@ -2,19 +2,20 @@
 -- The widths enter by one law: each is a power of two that divides the word's eight bytes.
 -- Assumes nothing.
 use mathlib.Core.Path.{_≡_, refl, sym, ap, ap₂, _∙_, subst}
-use mathlib.Core.Bool.{Bool, true, false, _||_}
+use mathlib.Core.Bool.{Bool, true, false, not, _&&_, _||_}
 use mathlib.Core.List.{List, [], _∷_}
 use mathlib.Core.Logic.{_⊎_, inl, inr}
 use Prim.Native.Nat.{ℕ, zero, suc, _+_, _-_, _*_, _/_, _%_, _^_, _<_, _≤_}
 use native.Mathlib.Nat.{add-mul, mod-lt, mod-eq-of-lt, div-eq-of-lt}
 use native.Mathlib.Omega.{arith}
-use lib.Arith.{digits-lt, mod-mul}
+use borrow.Author.Tests.{eqb-true, eqb-false}
+use lib.Arith.{digits-lt, mod-mul, lt-of-le-ne}
 use lib.Bits.{bitAnd, and-mask}
 use lib.Dec.{T, eqb, eqb→eq}
 use lib.Pow.{pow-pos, pow-mono, pow-add, ones-lt, shl-shr, shr-shr, shr-lt, high, low, split, field, mod-pow-add, mod-mod-pow}
 use Rattle.spec.specs.Prefix.{All, any}
 use Rattle.spec.specs.Bytes.{part, withPart, widths, widthFits, aligned, bitOf, bytesAt, withBytes}
-use Rattle.spec_laws.proofs.Lists.{or-cases}
+use Rattle.spec_laws.proofs.Lists.{and-left, and-right, or-cases}
 
 -- ---- a part
 
@@ -53,13 +54,10 @@ part-start n e = let s : e / 1 ≡ e = omega arith in ap (λ z. z % 2 ^ n) s
 pub part-whole : (n : ℕ) {e : ℕ} → e < 2 ^ n → part n 0 e ≡ e
 part-whole n {e} b = part-start n e ∙ mod-eq-of-lt b
 
--- as two shifts in a word of w bits: up, which drops what is above the part, and down again
-pub part-shifts : (n k x e : ℕ) → e * 2 ^ x % 2 ^ (n + k + x) / 2 ^ (x + k) ≡ part n k e
+-- as shifts in a word of n + x bits: down to bit 0, up, which drops what is above the part, and down again
+pub part-shifts : (n k x e : ℕ) → e / 2 ^ k * 2 ^ x % 2 ^ (n + x) / 2 ^ x ≡ part n k e
 unfolding part
-part-shifts n k x e =
-    sym (shr-shr (e * 2 ^ x % 2 ^ (n + k + x)) x k)
-    ∙ ap (λ z. z / 2 ^ k) (field (e * 2 ^ x) (n + k) x ∙ ap (λ z. z % 2 ^ (n + k)) (shl-shr e x))
-    ∙ field e n k
+part-shifts n k x e = field (e / 2 ^ k * 2 ^ x) n x ∙ ap (λ z. z % 2 ^ n) (shl-shr (e / 2 ^ k) x)
 
 -- ---- a word with another part
 
@@ -160,6 +158,41 @@ of-widths P f w t = pick widths t (f 0 (omega arith), (f 1 (omega arith), (f 2 (
 
 pub width-bounds : (w : ℕ) → T (widthFits w) → (0 < w) × (w ≤ 8)
 width-bounds = of-widths (λ w. (0 < w) × (w ≤ 8)) (λ j l. (pow-pos j, pow-mono l))
+
+pub width-none : (w : ℕ) → 8 < w → widthFits w ≡ false
+width-none w l = go (widthFits w) refl
+  where
+    go : (b : Bool) → widthFits w ≡ b → b ≡ false
+    go false q = refl
+    go true q = let z = width-bounds w (subst T (sym q) tt) .1 in absurd (omega arith)
+
+-- a property that computes to true below n
+abbrev upTo : (ℕ → Bool) → ℕ → Bool
+upTo f zero = true
+upTo f (suc n) = f n && upTo f n
+
+up-to : (f : ℕ → Bool) (n : ℕ) → T (upTo f n) → (w : ℕ) → w < n → T (f w)
+up-to f zero t w l = absurd (omega arith)
+up-to f (suc n) t w l = go (eqb w n) refl (up-to f n (and-right (f n) (upTo f n) t) w)
+  where
+    go : (b : Bool) → eqb w n ≡ b → (w < n → T (f w)) → T (f w)
+    go true q k = subst (λ x. T (f x)) (sym (eqb-true w n q)) (and-left (f n) (upTo f n) t)
+    go false q k = let z = eqb-false w n q in k (lt-of-le-ne (omega arith) z)
+
+abbrev sameBit : Bool → Bool → Bool
+sameBit true b = b
+sameBit false b = not b
+
+same-bit : (a b : Bool) → T (sameBit a b) → a ≡ b
+same-bit true true t = refl
+same-bit true false t = absurd t
+same-bit false true t = absurd t
+same-bit false false t = refl
+
+-- of the numbers from 1 to 8 the widths are those that have no bit in common with the number below them
+pub width-power : (w : ℕ) → w < 8 → eqb (bitAnd (suc w) w) 0 ≡ widthFits (suc w)
+width-power w l =
+    same-bit (eqb (bitAnd (suc w) w) 0) (widthFits (suc w)) (up-to (λ n. sameBit (eqb (bitAnd (suc n) n) 0) (widthFits (suc n))) 8 tt w l)
 
 -- the bits below a width say how far an address is from its multiple
 pub width-mask : (a w : ℕ) → T (widthFits w) → bitAnd a (w - 1) ≡ a % w

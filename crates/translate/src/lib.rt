@@ -4,7 +4,7 @@ ghost use Prim.Native.Nat.{_<_, _≤_};
 ghost use Rattle.spec.specs.Entry.{frameLimit};
 ghost use Rattle.words.specs.After.{yields};
 ghost use Rattle.layout.specs.Layout.{LayoutFits, config};
-ghost use Rattle.translate.specs.Translate.{exitBy, servedOf, servesOf, pathOf, foundOf, filledOf, missedOf, plainOf, translateOf};
+ghost use Rattle.translate.specs.Translate.{exitBy, directOf, servedOf, servesOf, pathOf, foundOf, filledOf, missedOf, plainOf, translateOf};
 use entry::GuestPhysical;
 use entry::GuestVirtual;
 use entry::HostPhysical;
@@ -60,29 +60,16 @@ pub fn exit_of(walked: Walked) -> u64
     }
 }
 
-// Through a path that is held or was just filled, after some exits: it leads to the page itself at depth 0, else to the guest table of
-// the request's depth, from which the walk goes on.
-pub fn serve(
-    mem: &[u64],
-    space: Space,
-    held: Held,
-    request: Request,
-    page: HostPhysical,
-    writable: bool,
-    exits: u64,
-) -> Translated
-    requires { ⌜ (LayoutFits (space .layout)) × (request .depth ≤ space .layout .levels) × (page .0 < frameLimit) × (exits ≤ 65536) ⌝ }
-    ensures { λ r. ⌜ r ≡ servedOf (config (space .layout)) (space .top) (now (mem .entry)) held (request .store) (request .address .0) (request .depth) (page .0) writable exits ⌝ }
+// The walk on from the guest table of the request's depth, or from its page at depth 0.
+fn direct(mem: &[u64], space: Space, request: Request, page: HostPhysical, writable: bool) -> Walked
+    requires { ⌜ (LayoutFits (space .layout)) × (request .depth ≤ space .layout .levels) × (page .0 < frameLimit) ⌝ }
+    ensures { λ r. ⌜ r ≡ directOf (config (space .layout)) (space .top) (now (mem .entry)) (request .store) (request .address .0) (request .depth) (page .0) writable ⌝ }
 {
     if request.depth == 0 {
-        return Translated {
-            held: held,
-            exits: exits,
-            walked: Walked::Arrived {
-                page: page,
-                writable: writable,
-                reads: space.layout.levels,
-            },
+        return Walked::Arrived {
+            page: page,
+            writable: writable,
+            reads: space.layout.levels,
         };
     }
     let trail = walk::walk_tables(
@@ -96,7 +83,23 @@ pub fn serve(
         writable,
         space.layout.levels - request.depth,
     );
-    let walked = trail.walked;
+    trail.walked
+}
+
+// Through a path that is held or was just filled, after some exits.
+pub fn serve(
+    mem: &[u64],
+    space: Space,
+    held: Held,
+    request: Request,
+    page: HostPhysical,
+    writable: bool,
+    exits: u64,
+) -> Translated
+    requires { ⌜ (LayoutFits (space .layout)) × (request .depth ≤ space .layout .levels) × (page .0 < frameLimit) × (exits ≤ 65536) ⌝ }
+    ensures { λ r. ⌜ r ≡ servedOf (config (space .layout)) (space .top) (now (mem .entry)) held (request .store) (request .address .0) (request .depth) (page .0) writable exits ⌝ }
+{
+    let walked = direct(mem, space, request, page, writable);
     Translated {
         held: held,
         exits: exits + exit_of(walked),

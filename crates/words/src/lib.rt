@@ -51,16 +51,12 @@ pub fn zero_frame(mem: &mut [u64], frame: u64)
     }
 }
 
-// So many bits of a word from a bit on. The first shift drops the bits above them, the second those below; a whole word, which most
-// requests ask for, is its own part.
+// So many bits of a word from a bit on: those below are shifted out, then those above.
 pub fn part(word: u64, bits: u64, from: u64) -> u64
     requires { ⌜ (0 < bits) × (bits + from ≤ 64) ⌝ }
     ensures { λ r. ⌜ r ≡ part bits from word ⌝ }
 {
-    if bits == 64 {
-        return word;
-    }
-    (word << (64 - bits - from)) >> (64 - bits)
+    ((word >> from) << (64 - bits)) >> (64 - bits)
 }
 
 // The word with the low bits of a value there: the part that it has is taken away and the new one put in its place.
@@ -68,8 +64,5 @@ pub fn with_part(word: u64, bits: u64, from: u64, value: u64) -> u64
     requires { ⌜ (0 < bits) × (bits + from ≤ 64) ⌝ }
     ensures { λ r. ⌜ r ≡ withPart bits from value word ⌝ }
 {
-    if bits == 64 {
-        return value;
-    }
     word - (part(word, bits, from) << from) + (part(value, bits, 0) << from)
 }

@@ -1,28 +1,26 @@
--- The tests of the list, the last first. Assumes nothing.
-use mathlib.Core.Path.{_≡_, refl}
-use mathlib.Core.Bool.{Bool, true, false, _||_}
-use borrow.Author.Tests.{eq-eqb, ne-eqb}
+-- 0 is none, nor is what is above 8; from 1 to 8 by the bits (spec_laws Bytes). Assumes nothing.
+use mathlib.Core.Path.{_≡_, sym, ap, _∙_}
+use Prim.Native.Nat.{suc, _-_}
+use native.Mathlib.Omega.{arith}
+use lib.Bits.{bitAnd}
 use lib.Dec.{eqb}
+use borrow.Author.Needs.{needs}
+use Rattle.spec.specs.Bytes.{widthFits}
+use Rattle.spec_laws.proofs.Bytes.{width-none, width-power}
 use Rattle.entry.proofs.width_fits.Statement.{statement}
 use Rattle.entry.proofs.width_fits.Tie as tie
 
-last-passes : (a b c : Bool) → true ≡ (a || (b || (c || true)))
-last-passes true b c = refl
-last-passes false true c = refl
-last-passes false false true = refl
-last-passes false false false = refl
-
-last-fails : (a b c : Bool) → ((a || b) || c) ≡ (a || (b || (c || false)))
-last-fails true b c = refl
-last-fails false true c = refl
-last-fails false false true = refl
-last-fails false false false = refl
-
 returns : tie.Need-returns
-returns c = let w = c .before .args .width in rw (eq-eqb w 8 (c .if1 .taken)) (last-passes (eqb w 1) (eqb w 2) (eqb w 4))
+returns c = sym (ap widthFits (c .if1 .taken))
 
 returns-2 : tie.Need-returns-2
-returns-2 c = let w = c .before .args .width in rw (ne-eqb w 8 (c .if1 .left)) (last-fails (eqb w 1) (eqb w 2) (eqb w 4))
+returns-2 c = sym (width-none (c .before .before .args .width) (omega arith))
+
+returns-3 : tie.Need-returns-3
+returns-3 c =
+    let w = c .before .before .args .width in
+    let e : w ≡ suc (w - 1) = omega arith in
+    ap (λ z. eqb (bitAnd z (w - 1)) 0) e ∙ width-power (w - 1) (omega arith) ∙ sym (ap widthFits e)
 
 pub width-fits-spec : {M : Type 1} → statement M
-width-fits-spec = tie.close (tie.spec returns returns-2)
+width-fits-spec = tie.close (tie.spec returns returns-2 (λ c. search needs) returns-3)
