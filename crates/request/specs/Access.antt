@@ -3,7 +3,6 @@
 use Prim.Native.Nat.{ℕ, _+_, _%_, _<_, _≤_}
 use mathlib.Core.Bool.{Bool, true, false, not, _||_, cond}
 use mathlib.Core.List.{List}
-use lib.Dec.{eqb}
 use Rattle.spec.specs.declared.Answer.{Answer}
 use Rattle.spec.specs.declared.Answer.the-variants as answer
 use Rattle.spec.specs.Config.{Config}
@@ -27,7 +26,7 @@ use Rattle.translate.specs.declared.Held.{Held}
 use Rattle.request.specs.declared.Put.{Put}
 use Rattle.request.specs.declared.Served.{Served}
 use Rattle.translate.specs.declared.Translated.{Translated}
-use Rattle.translate.specs.Translate.{exitBy, foundOf, translateOf}
+use Rattle.translate.specs.Translate.{exitBy, foundOf, missedOf, translateOf}
 
 -- what a request leaves
 abbrev pub serving : Held → Answer → List ℕ → After Served
@@ -65,12 +64,16 @@ putBytesOf c m p t a w v = putWordOf c m p t (wordOf a) (withBytes a w v (wordIn
 -- a path found at depth 0, if it serves
 abbrev pub servingBy : Bool → HostWalk → HostWalk
 servingBy st (host.Found t w) = cond (not st || w) (host.Found t w) (host.Absent 0)
-servingBy st (host.Absent n) = host.Absent 0
-servingBy st host.Damaged = host.Absent 0
+servingBy st (host.Absent n) = host.Absent n
+servingBy st host.Damaged = host.Damaged
 
--- the page that a path held at depth 0 leads a request to; Absent says only that the request is to be translated in full
-unfoldable pub pageHeldOf : Config → List ℕ → Held → Bool → ℕ → ℕ → HostWalk
-pageHeldOf c m h st a d = cond (eqb d 0) (servingBy st (foundOf c m h a 0)) (host.Absent 0)
+-- the page that a path held at depth 0 leads a request to
+unfoldable pub pageHeldOf : Config → List ℕ → Held → Bool → ℕ → HostWalk
+pageHeldOf c m h st a = servingBy st (foundOf c m h a 0)
+
+-- the translation of any other; missed: no held path serves it
+unfoldable pub inFullOf : Config → ℕ → List ℕ → Held → ℕ → Bool → ℕ → ℕ → Bool → After Translated
+inFullOf c ht m h root st a d missed = cond missed (missedOf c ht m h root st a d) (translateOf c ht m h root st a d)
 
 -- ---- load
 
@@ -80,8 +83,11 @@ loadBy h a w o (walked.Arrived t y n) = serving (o .result .held) (answer.Value 
 loadBy h a w o (walked.Faulted x n) = serving (o .result .held) (answer.Faulted x n (o .result .exits)) (o .memory)
 loadBy h a w o walked.Damaged = refused h 11 (o .memory)
 
+abbrev pub loadFrom : Held → ℕ → ℕ → After Translated → After Served
+loadFrom h a w o = loadBy h a w o (o .result .walked)
+
 unfoldable pub loadOf : Config → ℕ → List ℕ → Held → ℕ → ℕ → ℕ → ℕ → After Served
-loadOf c ht m h root a w d = let o = translateOf c ht m h root false a d in loadBy h a w o (o .result .walked)
+loadOf c ht m h root a w d = loadFrom h a w (translateOf c ht m h root false a d)
 
 -- ---- store
 
@@ -98,8 +104,11 @@ storeBy c h a w v o (walked.Arrived t y n) =
 storeBy c h a w v o (walked.Faulted x n) = serving (o .result .held) (answer.Faulted x n (o .result .exits)) (o .memory)
 storeBy c h a w v o walked.Damaged = refused h 11 (o .memory)
 
+abbrev pub storeFrom : Config → Held → ℕ → ℕ → ℕ → After Translated → After Served
+storeFrom c h a w v o = storeBy c h a w v o (o .result .walked)
+
 unfoldable pub storeOf : Config → ℕ → List ℕ → Held → ℕ → ℕ → ℕ → ℕ → ℕ → After Served
-storeOf c ht m h root a w d v = let o = translateOf c ht m h root true a d in storeBy c h a w v o (o .result .walked)
+storeOf c ht m h root a w d v = storeFrom c h a w v (translateOf c ht m h root true a d)
 
 -- a device store counts the words of its host walk; H or W is an exit, and so is a granted store into a watched frame
 abbrev pub deviceBy : Config → List ℕ → Held → ℕ → ℕ → ℕ → Walked → After Served

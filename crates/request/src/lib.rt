@@ -1,13 +1,15 @@
 // Load, store and device store: from an address and its depth to the bytes read or written, and the held paths that a store drops.
 ghost use mathlib.Core.Path.{_≡_};
 ghost use Prim.Native.Nat.{_<_, _≤_};
+ghost use mathlib.Core.Bool.{true, false};
+ghost use lib.Dec.{T};
 ghost use Rattle.spec.specs.Bytes.{bytesAt, withBytes};
 ghost use Rattle.spec.specs.Entry.{wordOf, frameLimit};
 ghost use Rattle.words.specs.After.{yields};
 ghost use Rattle.words.specs.Words.{wordIn};
 ghost use Rattle.layout.specs.Layout.{LayoutFits, config};
 ghost use Rattle.translate.specs.Translate.{HeldFits};
-ghost use Rattle.request.specs.Access.{Inside, putWordOf, pageHeldOf, loadOf, writtenBy, storeOf, deviceOf};
+ghost use Rattle.request.specs.Access.{Inside, putWordOf, pageHeldOf, inFullOf, loadFrom, loadOf, writtenBy, storeFrom, storeOf, deviceOf};
 use entry::GuestPhysical;
 use entry::GuestVirtual;
 use entry::HostPhysical;
@@ -18,6 +20,7 @@ use pool::Pool;
 use spec::Answer;
 use translate::Held;
 use translate::Request;
+use translate::Translated;
 use walk::Walked;
 
 // What a request leaves: what is held then, and its answer.
@@ -112,21 +115,17 @@ pub fn refused(held: Held, number: u64) -> Served
 }
 
 // The page that a path held at depth 0 leads to, if it serves the request. Most requests are such: they read shadow entries alone and
-// change nothing that is held. Absent says that the request is to be translated in full.
+// change nothing that is held.
 fn page_held(
     mem: &[u64],
     layout: Layout,
     held: Held,
     store: bool,
     address: GuestVirtual,
-    depth: u64,
 ) -> HostWalk
     requires { ⌜ LayoutFits layout ⌝ }
-    ensures { λ r. ⌜ r ≡ pageHeldOf (config layout) (now (mem .entry)) held store (address .0) depth ⌝ }
+    ensures { λ r. ⌜ r ≡ pageHeldOf (config layout) (now (mem .entry)) held store (address .0) ⌝ }
 {
-    if depth != 0 {
-        return HostWalk::Absent { reads: 0 };
-    }
     match translate::found(mem, layout, held, address, 0) {
         HostWalk::Found { page, writable } => {
             if walk::granted(store, writable) {
@@ -137,9 +136,27 @@ fn page_held(
             }
             HostWalk::Absent { reads: 0 }
         }
-        HostWalk::Absent { reads } => HostWalk::Absent { reads: 0 },
-        HostWalk::Damaged => HostWalk::Absent { reads: 0 },
+        HostWalk::Absent { reads } => HostWalk::Absent { reads: reads },
+        HostWalk::Damaged => HostWalk::Damaged,
     }
+}
+
+// Any other request is translated in full; missed: no held path serves it, so that none is looked for again.
+fn in_full(
+    mem: &mut [u64],
+    space: Space,
+    root: GuestPhysical,
+    held: Held,
+    request: Request,
+    missed: bool,
+) -> Translated
+    requires { ⌜ (LayoutFits (space .layout)) × (held .frame .0 < frameLimit) × (T missed → request .depth ≤ space .layout .levels) ⌝ }
+    ensures { λ r. ⌜ yields r (now (mem .exit)) ≡ inFullOf (config (space .layout)) (space .top) (now (mem .entry)) held (root .0) (request .store) (request .address .0) (request .depth) missed ⌝ }
+{
+    if missed {
+        return translate::missed(mem, space, root, held, request);
+    }
+    translate::translate(mem, space, root, held, request)
 }
 
 // A load, translated in full: 11.
@@ -151,11 +168,12 @@ fn load_in_full(
     address: GuestVirtual,
     width: u64,
     depth: u64,
+    missed: bool,
 ) -> Served
-    requires { ⌜ (LayoutFits (space .layout)) × (HeldFits (config (space .layout)) held) × (Inside (address .0) width) ⌝ }
-    ensures { λ r. ⌜ yields r (now (mem .exit)) ≡ loadOf (config (space .layout)) (space .top) (now (mem .entry)) held (root .0) (address .0) width depth ⌝ }
+    requires { ⌜ (LayoutFits (space .layout)) × (HeldFits (config (space .layout)) held) × (Inside (address .0) width) × (T missed → depth ≤ space .layout .levels) ⌝ }
+    ensures { λ r. ⌜ yields r (now (mem .exit)) ≡ loadFrom held (address .0) width (inFullOf (config (space .layout)) (space .top) (now (mem .entry)) held (root .0) false (address .0) depth missed) ⌝ }
 {
-    let t = translate::translate(
+    let t = in_full(
         mem,
         space,
         root,
@@ -165,6 +183,7 @@ fn load_in_full(
             address: address,
             depth: depth,
         },
+        missed,
     );
     let walked = t.walked;
     let after = t.held;
@@ -206,7 +225,10 @@ pub fn load(
     requires { ⌜ (LayoutFits (space .layout)) × (HeldFits (config (space .layout)) held) × (Inside (address .0) width) ⌝ }
     ensures { λ r. ⌜ yields r (now (mem .exit)) ≡ loadOf (config (space .layout)) (space .top) (now (mem .entry)) held (root .0) (address .0) width depth ⌝ }
 {
-    match page_held(mem, space.layout, held, false, address, depth) {
+    if depth != 0 {
+        return load_in_full(mem, space, root, held, address, width, depth, false);
+    }
+    match page_held(mem, space.layout, held, false, address) {
         HostWalk::Found { page, writable } => Served {
             held: held,
             answer: Answer::Value {
@@ -215,8 +237,8 @@ pub fn load(
                 exits: 0,
             },
         },
-        HostWalk::Absent { reads } => load_in_full(mem, space, root, held, address, width, depth),
-        HostWalk::Damaged => load_in_full(mem, space, root, held, address, width, depth),
+        HostWalk::Absent { reads } => load_in_full(mem, space, root, held, address, width, 0, true),
+        HostWalk::Damaged => refused(held, 11),
     }
 }
 
@@ -264,11 +286,12 @@ fn store_in_full(
     width: u64,
     depth: u64,
     value: u64,
+    missed: bool,
 ) -> Served
-    requires { ⌜ (LayoutFits (space .layout)) × (HeldFits (config (space .layout)) held) × (Inside (address .0) width) ⌝ }
-    ensures { λ r. ⌜ yields r (now (mem .exit)) ≡ storeOf (config (space .layout)) (space .top) (now (mem .entry)) held (root .0) (address .0) width depth value ⌝ }
+    requires { ⌜ (LayoutFits (space .layout)) × (HeldFits (config (space .layout)) held) × (Inside (address .0) width) × (T missed → depth ≤ space .layout .levels) ⌝ }
+    ensures { λ r. ⌜ yields r (now (mem .exit)) ≡ storeFrom (config (space .layout)) held (address .0) width value (inFullOf (config (space .layout)) (space .top) (now (mem .entry)) held (root .0) true (address .0) depth missed) ⌝ }
 {
-    let t = translate::translate(
+    let t = in_full(
         mem,
         space,
         root,
@@ -278,6 +301,7 @@ fn store_in_full(
             address: address,
             depth: depth,
         },
+        missed,
     );
     let walked = t.walked;
     let after = t.held;
@@ -326,7 +350,10 @@ pub fn store(
     requires { ⌜ (LayoutFits (space .layout)) × (HeldFits (config (space .layout)) held) × (Inside (address .0) width) ⌝ }
     ensures { λ r. ⌜ yields r (now (mem .exit)) ≡ storeOf (config (space .layout)) (space .top) (now (mem .entry)) held (root .0) (address .0) width depth value ⌝ }
 {
-    match page_held(mem, space.layout, held, true, address, depth) {
+    if depth != 0 {
+        return store_in_full(mem, space, root, held, address, width, depth, value, false);
+    }
+    match page_held(mem, space.layout, held, true, address) {
         HostWalk::Found { page, writable } => {
             let word = with_bytes(mem, page, address.0, width, value);
             written(
@@ -341,8 +368,10 @@ pub fn store(
                 0,
             )
         }
-        HostWalk::Absent { reads } => store_in_full(mem, space, root, held, address, width, depth, value),
-        HostWalk::Damaged => store_in_full(mem, space, root, held, address, width, depth, value),
+        HostWalk::Absent { reads } => {
+            store_in_full(mem, space, root, held, address, width, 0, value, true)
+        }
+        HostWalk::Damaged => refused(held, 11),
     }
 }
 

@@ -217,7 +217,7 @@ fn filled(
 }
 
 // The path does not serve: its shadow part is walked, and filled where it arrives.
-fn missed(
+pub fn missed(
     mem: &mut [u64],
     space: Space,
     root: GuestPhysical,
