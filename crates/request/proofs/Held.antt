@@ -1,12 +1,13 @@
--- A request at depth 0, by the path that is held: it comes to its page, it misses, or it meets damage. And what a translation leaves,
--- also where the miss is known.
+-- A request at depth 0, by the path that is held: it comes to its page, it misses, or it meets damage. And what a translation in full
+-- leaves.
 -- Assumes nothing.
 use mathlib.Core.Path.{_≡_, refl, sym, ap, ap₂, _∙_, subst}
 use Prim.Native.Nat.{ℕ, _+_, _-_}
 use native.Mathlib.Omega.{arith}
-use borrow.Author.Tests.{le-ltb}
+use borrow.Author.Tests.{le-ltb, ne-eqb}
 use mathlib.Core.Bool.{Bool, true, false, not, _||_, cond}
 use mathlib.Core.List.{List}
+use lib.Dec.{eqb}
 use Rattle.spec.specs.Config.{Config}
 use Rattle.spec.specs.Entry.{pageOf}
 use Rattle.words.specs.After.{After, yields}
@@ -77,9 +78,14 @@ module _ (c : Config) (ht : ℕ) (m : List ℕ) (h : Held) (root : ℕ) (st : Bo
           let z : _≡_ {A = ℕ} 0 1 = cc in absurd (omega arith)
       go false q = ap (λ b. cond b (yields (servedOf c ht m h st a 0 (u .0) v 0) m) (missedOf c ht m h root st a 0)) q
 
-  pub page-missed : (n : ℕ) → pageHeldOf c m h st a ≡ host.Absent n → translateOf c ht m h root st a 0 ≡ inFullOf c ht m h root st a 0 true
+  pub page-missed : (n : ℕ) → pageHeldOf c m h st a ≡ host.Absent n → translateOf c ht m h root st a 0 ≡ inFullOf c ht m h root st a 0
   unfolding pageHeldOf inFullOf
   page-missed n e = at-zero ∙ misses n (foundOf c m h a 0) e
+
+  -- at any other depth nothing was looked for
+  pub not-zero : (d : ℕ) → (d ≡ 0 → ⊥) → translateOf c ht m h root st a d ≡ inFullOf c ht m h root st a d
+  unfolding inFullOf
+  not-zero d z = sym (ap (λ b. cond b (missedOf c ht m h root st a d) (translateOf c ht m h root st a d)) (ne-eqb d 0 z))
 
   breaks : (x : HostWalk) → servingBy st x ≡ host.Damaged → foundBy c ht m h root st a 0 x ≡ damaged h m
   breaks (host.Absent k) e = let z : _≡_ {A = ℕ} 0 1 = cc in absurd (omega arith)
@@ -98,7 +104,10 @@ module _ (c : Config) (ht : ℕ) (m : List ℕ) (h : Held) (root : ℕ) (st : Bo
   unfolding pageHeldOf
   page-broken e = at-zero ∙ breaks (foundOf c m h a 0) e
 
-  pub full-leaves : HeldFits c h → (d : ℕ) (missed : Bool) → Leaves c m (inFullOf c ht m h root st a d missed)
+  pub full-leaves : HeldFits c h → (d : ℕ) → Leaves c m (inFullOf c ht m h root st a d)
   unfolding inFullOf
-  full-leaves f d true = missed-leaves c ht m st h f root a d
-  full-leaves f d false = translate-leaves c ht m st h f root a d
+  full-leaves f d = go (eqb d 0)
+    where
+      go : (b : Bool) → Leaves c m (cond b (missedOf c ht m h root st a d) (translateOf c ht m h root st a d))
+      go true = missed-leaves c ht m st h f root a d
+      go false = translate-leaves c ht m st h f root a d

@@ -3,6 +3,7 @@
 use Prim.Native.Nat.{ℕ, _+_, _%_, _<_, _≤_}
 use mathlib.Core.Bool.{Bool, true, false, not, _||_, cond}
 use mathlib.Core.List.{List}
+use lib.Dec.{eqb}
 use Rattle.spec.specs.declared.Answer.{Answer}
 use Rattle.spec.specs.declared.Answer.the-variants as answer
 use Rattle.spec.specs.Config.{Config}
@@ -71,9 +72,9 @@ servingBy st host.Damaged = host.Damaged
 unfoldable pub pageHeldOf : Config → List ℕ → Held → Bool → ℕ → HostWalk
 pageHeldOf c m h st a = servingBy st (foundOf c m h a 0)
 
--- the translation of any other; missed: no held path serves it
-unfoldable pub inFullOf : Config → ℕ → List ℕ → Held → ℕ → Bool → ℕ → ℕ → Bool → After Translated
-inFullOf c ht m h root st a d missed = cond missed (missedOf c ht m h root st a d) (translateOf c ht m h root st a d)
+-- the translation of any other, which at depth 0 has missed
+unfoldable pub inFullOf : Config → ℕ → List ℕ → Held → ℕ → Bool → ℕ → ℕ → After Translated
+inFullOf c ht m h root st a d = cond (eqb d 0) (missedOf c ht m h root st a d) (translateOf c ht m h root st a d)
 
 -- ---- load
 

@@ -2,7 +2,6 @@
 ghost use mathlib.Core.Path.{_≡_};
 ghost use Prim.Native.Nat.{_<_, _≤_};
 ghost use mathlib.Core.Bool.{true, false};
-ghost use lib.Dec.{T};
 ghost use Rattle.spec.specs.Bytes.{bytesAt, withBytes};
 ghost use Rattle.spec.specs.Entry.{wordOf, frameLimit};
 ghost use Rattle.words.specs.After.{yields};
@@ -141,19 +140,18 @@ fn page_held(
     }
 }
 
-// Any other request is translated in full; missed: no held path serves it, so that none is looked for again.
+// Any other request is translated in full. One of depth 0 has missed, so that no held path is looked for again.
 fn in_full(
     mem: &mut [u64],
     space: Space,
     root: GuestPhysical,
     held: Held,
     request: Request,
-    missed: bool,
 ) -> Translated
-    requires { ⌜ (LayoutFits (space .layout)) × (held .frame .0 < frameLimit) × (T missed → request .depth ≤ space .layout .levels) ⌝ }
-    ensures { λ r. ⌜ yields r (now (mem .exit)) ≡ inFullOf (config (space .layout)) (space .top) (now (mem .entry)) held (root .0) (request .store) (request .address .0) (request .depth) missed ⌝ }
+    requires { ⌜ (LayoutFits (space .layout)) × (held .frame .0 < frameLimit) ⌝ }
+    ensures { λ r. ⌜ yields r (now (mem .exit)) ≡ inFullOf (config (space .layout)) (space .top) (now (mem .entry)) held (root .0) (request .store) (request .address .0) (request .depth) ⌝ }
 {
-    if missed {
+    if request.depth == 0 {
         return translate::missed(mem, space, root, held, request);
     }
     translate::translate(mem, space, root, held, request)
@@ -168,10 +166,9 @@ fn load_in_full(
     address: GuestVirtual,
     width: u64,
     depth: u64,
-    missed: bool,
 ) -> Served
-    requires { ⌜ (LayoutFits (space .layout)) × (HeldFits (config (space .layout)) held) × (Inside (address .0) width) × (T missed → depth ≤ space .layout .levels) ⌝ }
-    ensures { λ r. ⌜ yields r (now (mem .exit)) ≡ loadFrom held (address .0) width (inFullOf (config (space .layout)) (space .top) (now (mem .entry)) held (root .0) false (address .0) depth missed) ⌝ }
+    requires { ⌜ (LayoutFits (space .layout)) × (HeldFits (config (space .layout)) held) × (Inside (address .0) width) ⌝ }
+    ensures { λ r. ⌜ yields r (now (mem .exit)) ≡ loadFrom held (address .0) width (inFullOf (config (space .layout)) (space .top) (now (mem .entry)) held (root .0) false (address .0) depth) ⌝ }
 {
     let t = in_full(
         mem,
@@ -183,7 +180,6 @@ fn load_in_full(
             address: address,
             depth: depth,
         },
-        missed,
     );
     let walked = t.walked;
     let after = t.held;
@@ -225,21 +221,25 @@ pub fn load(
     requires { ⌜ (LayoutFits (space .layout)) × (HeldFits (config (space .layout)) held) × (Inside (address .0) width) ⌝ }
     ensures { λ r. ⌜ yields r (now (mem .exit)) ≡ loadOf (config (space .layout)) (space .top) (now (mem .entry)) held (root .0) (address .0) width depth ⌝ }
 {
-    if depth != 0 {
-        return load_in_full(mem, space, root, held, address, width, depth, false);
+    if depth == 0 {
+        match page_held(mem, space.layout, held, false, address) {
+            HostWalk::Found { page, writable } => {
+                return Served {
+                    held: held,
+                    answer: Answer::Value {
+                        word: read_bytes(mem, page, address.0, width),
+                        references: space.layout.levels,
+                        exits: 0,
+                    },
+                };
+            }
+            HostWalk::Absent { reads } => {}
+            HostWalk::Damaged => {
+                return refused(held, 11);
+            }
+        }
     }
-    match page_held(mem, space.layout, held, false, address) {
-        HostWalk::Found { page, writable } => Served {
-            held: held,
-            answer: Answer::Value {
-                word: read_bytes(mem, page, address.0, width),
-                references: space.layout.levels,
-                exits: 0,
-            },
-        },
-        HostWalk::Absent { reads } => load_in_full(mem, space, root, held, address, width, 0, true),
-        HostWalk::Damaged => refused(held, 11),
-    }
+    load_in_full(mem, space, root, held, address, width, depth)
 }
 
 // A store that was granted: the word around its bytes is written, after so many references and exits; before: what was held when it
@@ -286,10 +286,9 @@ fn store_in_full(
     width: u64,
     depth: u64,
     value: u64,
-    missed: bool,
 ) -> Served
-    requires { ⌜ (LayoutFits (space .layout)) × (HeldFits (config (space .layout)) held) × (Inside (address .0) width) × (T missed → depth ≤ space .layout .levels) ⌝ }
-    ensures { λ r. ⌜ yields r (now (mem .exit)) ≡ storeFrom (config (space .layout)) held (address .0) width value (inFullOf (config (space .layout)) (space .top) (now (mem .entry)) held (root .0) true (address .0) depth missed) ⌝ }
+    requires { ⌜ (LayoutFits (space .layout)) × (HeldFits (config (space .layout)) held) × (Inside (address .0) width) ⌝ }
+    ensures { λ r. ⌜ yields r (now (mem .exit)) ≡ storeFrom (config (space .layout)) held (address .0) width value (inFullOf (config (space .layout)) (space .top) (now (mem .entry)) held (root .0) true (address .0) depth) ⌝ }
 {
     let t = in_full(
         mem,
@@ -301,7 +300,6 @@ fn store_in_full(
             address: address,
             depth: depth,
         },
-        missed,
     );
     let walked = t.walked;
     let after = t.held;
@@ -350,29 +348,29 @@ pub fn store(
     requires { ⌜ (LayoutFits (space .layout)) × (HeldFits (config (space .layout)) held) × (Inside (address .0) width) ⌝ }
     ensures { λ r. ⌜ yields r (now (mem .exit)) ≡ storeOf (config (space .layout)) (space .top) (now (mem .entry)) held (root .0) (address .0) width depth value ⌝ }
 {
-    if depth != 0 {
-        return store_in_full(mem, space, root, held, address, width, depth, value, false);
-    }
-    match page_held(mem, space.layout, held, true, address) {
-        HostWalk::Found { page, writable } => {
-            let word = with_bytes(mem, page, address.0, width, value);
-            written(
-                mem,
-                space.layout,
-                held,
-                held,
-                page,
-                address.0,
-                word,
-                space.layout.levels,
-                0,
-            )
+    if depth == 0 {
+        match page_held(mem, space.layout, held, true, address) {
+            HostWalk::Found { page, writable } => {
+                let word = with_bytes(mem, page, address.0, width, value);
+                return written(
+                    mem,
+                    space.layout,
+                    held,
+                    held,
+                    page,
+                    address.0,
+                    word,
+                    space.layout.levels,
+                    0,
+                );
+            }
+            HostWalk::Absent { reads } => {}
+            HostWalk::Damaged => {
+                return refused(held, 11);
+            }
         }
-        HostWalk::Absent { reads } => {
-            store_in_full(mem, space, root, held, address, width, 0, value, true)
-        }
-        HostWalk::Damaged => refused(held, 11),
     }
+    store_in_full(mem, space, root, held, address, width, depth, value)
 }
 
 // A device's store at a guest-physical address: its host walk, then the bytes as for a store: 11.
