@@ -19,10 +19,10 @@ use Rattle.walk.specs.declared.Walked.the-variants as walked
 use Rattle.walk.proofs.Laws.{loop-end}
 use Rattle.translate.specs.declared.Held.{Held}
 use Rattle.translate.specs.declared.Translated.{Translated}
-use Rattle.translate.specs.Translate.{HeldFits, translation, damaged, exitBy, directOf, servedOf, servesOf, foundOf, missedOf, foundBy, plainOf, translateOf}
+use Rattle.translate.specs.Translate.{HeldFits, translation, damaged, exitBy, directOf, servedOf, servesOf, foundOf, missedOf, foundBy, plainOf, translateOf, inFullOf}
 use Rattle.translate.proofs.Fits.{ArrivedIn}
 use Rattle.translate.proofs.Leaves.{Leaves, missed-leaves, translate-leaves}
-use Rattle.request.specs.Access.{servingBy, pageHeldOf, inFullOf}
+use Rattle.request.specs.Access.{servingBy, pageHeldOf}
 
 module _ (c : Config) (ht : ℕ) (m : List ℕ) (h : Held) (root : ℕ) (st : Bool) (a : ℕ) where
   -- nothing is deeper than all levels at depth 0

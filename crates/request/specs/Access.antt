@@ -3,7 +3,6 @@
 use Prim.Native.Nat.{ℕ, _+_, _%_, _<_, _≤_}
 use mathlib.Core.Bool.{Bool, true, false, not, _||_, cond}
 use mathlib.Core.List.{List}
-use lib.Dec.{eqb}
 use Rattle.spec.specs.declared.Answer.{Answer}
 use Rattle.spec.specs.declared.Answer.the-variants as answer
 use Rattle.spec.specs.Config.{Config}
@@ -27,7 +26,7 @@ use Rattle.translate.specs.declared.Held.{Held}
 use Rattle.request.specs.declared.Put.{Put}
 use Rattle.request.specs.declared.Served.{Served}
 use Rattle.translate.specs.declared.Translated.{Translated}
-use Rattle.translate.specs.Translate.{exitBy, foundOf, missedOf, translateOf}
+use Rattle.translate.specs.Translate.{exitBy, foundOf, translateOf}
 
 -- what a request leaves
 abbrev pub serving : Held → Answer → List ℕ → After Served
@@ -71,10 +70,6 @@ servingBy st host.Damaged = host.Damaged
 -- the page that a path held at depth 0 leads a request to
 unfoldable pub pageHeldOf : Config → List ℕ → Held → Bool → ℕ → HostWalk
 pageHeldOf c m h st a = servingBy st (foundOf c m h a 0)
-
--- the translation of any other, which at depth 0 has missed
-unfoldable pub inFullOf : Config → ℕ → List ℕ → Held → ℕ → Bool → ℕ → ℕ → After Translated
-inFullOf c ht m h root st a d = cond (eqb d 0) (missedOf c ht m h root st a d) (translateOf c ht m h root st a d)
 
 -- ---- load
 

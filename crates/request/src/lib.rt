@@ -7,8 +7,8 @@ ghost use Rattle.spec.specs.Entry.{wordOf, frameLimit};
 ghost use Rattle.words.specs.After.{yields};
 ghost use Rattle.words.specs.Words.{wordIn};
 ghost use Rattle.layout.specs.Layout.{LayoutFits, config};
-ghost use Rattle.translate.specs.Translate.{HeldFits};
-ghost use Rattle.request.specs.Access.{Inside, putWordOf, pageHeldOf, inFullOf, loadFrom, loadOf, writtenBy, storeFrom, storeOf, deviceOf};
+ghost use Rattle.translate.specs.Translate.{HeldFits, inFullOf};
+ghost use Rattle.request.specs.Access.{Inside, putWordOf, pageHeldOf, loadFrom, loadOf, writtenBy, storeFrom, storeOf, deviceOf};
 use entry::GuestPhysical;
 use entry::GuestVirtual;
 use entry::HostPhysical;
@@ -19,7 +19,6 @@ use pool::Pool;
 use spec::Answer;
 use translate::Held;
 use translate::Request;
-use translate::Translated;
 use walk::Walked;
 
 // What a request leaves: what is held then, and its answer.
@@ -140,23 +139,6 @@ fn page_held(
     }
 }
 
-// Any other request is translated in full. One of depth 0 has missed, so that no held path is looked for again.
-fn in_full(
-    mem: &mut [u64],
-    space: Space,
-    root: GuestPhysical,
-    held: Held,
-    request: Request,
-) -> Translated
-    requires { ⌜ (LayoutFits (space .layout)) × (held .frame .0 < frameLimit) ⌝ }
-    ensures { λ r. ⌜ yields r (now (mem .exit)) ≡ inFullOf (config (space .layout)) (space .top) (now (mem .entry)) held (root .0) (request .store) (request .address .0) (request .depth) ⌝ }
-{
-    if request.depth == 0 {
-        return translate::missed(mem, space, root, held, request);
-    }
-    translate::translate(mem, space, root, held, request)
-}
-
 // A load, translated in full: 11.
 fn load_in_full(
     mem: &mut [u64],
@@ -170,7 +152,7 @@ fn load_in_full(
     requires { ⌜ (LayoutFits (space .layout)) × (HeldFits (config (space .layout)) held) × (Inside (address .0) width) ⌝ }
     ensures { λ r. ⌜ yields r (now (mem .exit)) ≡ loadFrom held (address .0) width (inFullOf (config (space .layout)) (space .top) (now (mem .entry)) held (root .0) false (address .0) depth) ⌝ }
 {
-    let t = in_full(
+    let t = translate::translate(
         mem,
         space,
         root,
@@ -290,7 +272,7 @@ fn store_in_full(
     requires { ⌜ (LayoutFits (space .layout)) × (HeldFits (config (space .layout)) held) × (Inside (address .0) width) ⌝ }
     ensures { λ r. ⌜ yields r (now (mem .exit)) ≡ storeFrom (config (space .layout)) held (address .0) width value (inFullOf (config (space .layout)) (space .top) (now (mem .entry)) held (root .0) true (address .0) depth) ⌝ }
 {
-    let t = in_full(
+    let t = translate::translate(
         mem,
         space,
         root,

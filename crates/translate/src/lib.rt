@@ -4,7 +4,7 @@ ghost use Prim.Native.Nat.{_<_, _≤_};
 ghost use Rattle.spec.specs.Entry.{frameLimit};
 ghost use Rattle.words.specs.After.{yields};
 ghost use Rattle.layout.specs.Layout.{LayoutFits, config};
-ghost use Rattle.translate.specs.Translate.{exitBy, directOf, servedOf, servesOf, pathOf, foundOf, filledOf, missedOf, plainOf, translateOf};
+ghost use Rattle.translate.specs.Translate.{exitBy, directOf, servedOf, servesOf, pathOf, foundOf, filledOf, missedOf, plainOf, inFullOf};
 use entry::GuestPhysical;
 use entry::GuestVirtual;
 use entry::HostPhysical;
@@ -217,7 +217,7 @@ fn filled(
 }
 
 // The path does not serve: its shadow part is walked, and filled where it arrives.
-pub fn missed(
+fn missed(
     mem: &mut [u64],
     space: Space,
     root: GuestPhysical,
@@ -284,7 +284,7 @@ pub fn plain(
     }
 }
 
-// A request's translation.
+// A request's translation, once it is known at depth 0 that no held path serves: it has missed.
 pub fn translate(
     mem: &mut [u64],
     space: Space,
@@ -293,8 +293,11 @@ pub fn translate(
     request: Request,
 ) -> Translated
     requires { ⌜ (LayoutFits (space .layout)) × (held .frame .0 < frameLimit) ⌝ }
-    ensures { λ r. ⌜ yields r (now (mem .exit)) ≡ translateOf (config (space .layout)) (space .top) (now (mem .entry)) held (root .0) (request .store) (request .address .0) (request .depth) ⌝ }
+    ensures { λ r. ⌜ yields r (now (mem .exit)) ≡ inFullOf (config (space .layout)) (space .top) (now (mem .entry)) held (root .0) (request .store) (request .address .0) (request .depth) ⌝ }
 {
+    if request.depth == 0 {
+        return missed(mem, space, root, held, request);
+    }
     if space.layout.levels < request.depth {
         return plain(mem, space, root, held, request.store, request.address);
     }

@@ -4,8 +4,8 @@ use mathlib.Core.Logic.{⊎-elim}
 use native.Mathlib.Omega.{arith}
 use mathlib.Core.Bool.{false}
 use Rattle.layout.specs.Layout.{config}
-use Rattle.translate.specs.Translate.{translateOf}
-use Rattle.request.specs.Access.{inFullOf, loadFrom, loadOf}
+use Rattle.translate.specs.Translate.{translateOf, inFullOf}
+use Rattle.request.specs.Access.{loadFrom, loadOf}
 use Rattle.request.proofs.Held.{page-held, page-held-in, page-missed, page-broken, not-zero}
 use borrow.Author.Needs.{needs}
 use Rattle.request.proofs.load.Statement.{statement}

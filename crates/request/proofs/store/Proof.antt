@@ -4,8 +4,8 @@ use mathlib.Core.Logic.{⊎-elim}
 use native.Mathlib.Omega.{arith}
 use mathlib.Core.Bool.{true}
 use Rattle.layout.specs.Layout.{config}
-use Rattle.translate.specs.Translate.{translateOf}
-use Rattle.request.specs.Access.{inFullOf, storeFrom, storeOf}
+use Rattle.translate.specs.Translate.{translateOf, inFullOf}
+use Rattle.request.specs.Access.{storeFrom, storeOf}
 use Rattle.request.proofs.Held.{page-held, page-held-in, page-missed, page-broken, not-zero}
 use borrow.Author.Needs.{needs}
 use Rattle.request.proofs.store.Statement.{statement}
