@@ -52,11 +52,15 @@ pub struct Put {
     pub ok: bool,
 }
 
-// The word around the bytes of a page at that address, once they are those of the value.
+// The word around the bytes of a page at that address, once they are those of the value. Of a whole word nothing stays, so it is not
+// read.
 fn with_bytes(mem: &[u64], page: HostPhysical, address: u64, width: u64, value: u64) -> u64
     requires { ⌜ (page .0 < frameLimit) × (Inside address width) ⌝ }
     ensures { λ r. ⌜ r ≡ withBytes address width value (wordIn (now (mem .entry)) (page .0) (wordOf address)) ⌝ }
 {
+    if width == 8 {
+        return value;
+    }
     let word = words::word_in(mem, page.0, word_of(address));
     words::with_part(word, 8 * width, 8 * (address % 8), value)
 }

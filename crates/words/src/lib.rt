@@ -59,14 +59,10 @@ pub fn part(word: u64, bits: u64, from: u64) -> u64
     ((word >> from) << (64 - bits)) >> (64 - bits)
 }
 
-// The word with the low bits of a value there: the part that it has is taken away and the new one put in its place. Most stores are of
-// whole words, of which nothing stays.
+// The word with the low bits of a value there: the part that it has is taken away and the new one put in its place.
 pub fn with_part(word: u64, bits: u64, from: u64, value: u64) -> u64
     requires { ⌜ (0 < bits) × (bits + from ≤ 64) ⌝ }
     ensures { λ r. ⌜ r ≡ withPart bits from value word ⌝ }
 {
-    if bits == 64 {
-        return value;
-    }
     word - (part(word, bits, from) << from) + (part(value, bits, 0) << from)
 }

@@ -1,12 +1,11 @@
--- A whole word, or the word less its part and with the new one (spec_laws Bytes); in their place both parts stay below bit 64. Assumes nothing.
-use mathlib.Core.Path.{_≡_, sym, ap, ap₂, _∙_}
-use Prim.Native.Nat.{ℕ, _+_, _-_, _*_, _%_, _^_, _≤_}
-use native.Mathlib.Nat.{mod-eq-of-lt}
+-- The word less its part and with the new one (spec_laws Bytes); in their place both parts stay below bit 64. Assumes nothing.
+use mathlib.Core.Path.{_≡_, ap, _∙_, subst}
+use Prim.Native.Nat.{ℕ, _+_, _-_, _*_, _%_, _^_, _<_, _≤_}
 use native.Mathlib.Omega.{arith}
 use lib.Pow.{shl-exact}
 use borrow.Author.Needs.{needs}
 use Rattle.spec.specs.Bytes.{part, withPart}
-use Rattle.spec_laws.proofs.Bytes.{part-lt, part-le, put-lt, put-whole, put-changes}
+use Rattle.spec_laws.proofs.Bytes.{part-lt, part-le, put-lt, put-changes}
 use Rattle.words.proofs.with_part.Statement.{statement}
 use Rattle.words.proofs.with_part.Tie as tie
 
@@ -14,17 +13,11 @@ use Rattle.words.proofs.with_part.Tie as tie
 moved : (n k i e r : ℕ) → r ≡ part n i e → n + k ≤ 64 → r * 2 ^ k % 18446744073709551616 ≡ part n i e * 2 ^ k
 moved n k i e r h l = ap (λ z. z * 2 ^ k % 18446744073709551616) h ∙ shl-exact n k 64 (part-lt n i e) l
 
-returns : tie.Need-returns
-returns c =
-    let args = c .before .args in
-    let low : args .from ≡ 0 = omega arith in
-    sym (ap₂ (λ n k. withPart n k (args .value) (args .word)) (c .if1 .taken) low ∙ put-whole 64 (args .value) (omega arith) ∙ mod-eq-of-lt (omega arith))
-
 sub-result : tie.Need-sub-result
 sub-result c =
-    let n = c .before .before .args .bits in
-    let k = c .before .before .args .from in
-    let e = c .before .before .args .word in
+    let n = c .before .args .bits in
+    let k = c .before .args .from in
+    let e = c .before .args .word in
     omega (arith, moved n k k e (c .part .result) (c .part .ensures) (omega arith), part-le n k e)
 
 -- the sum is the word with the new part
@@ -34,16 +27,16 @@ sum n k v e old new h g l = omega (arith, moved n k k e old h l, moved n k 0 v n
 
 add-result : tie.Need-add-result
 add-result c =
-    let n = c .before .before .before .args .bits in
-    let k = c .before .before .before .args .from in
-    let e = c .before .before .before .args .word in
-    let v = c .before .before .before .args .value in
+    let n = c .before .before .args .bits in
+    let k = c .before .before .args .from in
+    let e = c .before .before .args .word in
+    let v = c .before .before .args .value in
     omega (arith, sum n k v e (c .before .part .result) (c .part2 .result) (c .before .part .ensures) (c .part2 .ensures) (omega arith), put-lt n k v e 64 (omega arith) (omega arith))
 
-returns-2 : tie.Need-returns-2
-returns-2 c = sum _ _ _ _ _ _ (c .before .part .ensures) (c .part2 .ensures) (omega arith)
+returns : tie.Need-returns
+returns c = sum _ _ _ _ _ _ (c .before .part .ensures) (c .part2 .ensures) (omega arith)
 
 pub with-part-spec : {M : Type 1} → statement M
 with-part-spec =
     tie.close
-    (tie.spec returns (λ c κs. search needs) (λ c. search needs) sub-result (λ c κs. search needs) (λ c. search needs) add-result returns-2)
+    (tie.spec (λ c κs. search needs) (λ c. search needs) sub-result (λ c κs. search needs) (λ c. search needs) add-result returns)
