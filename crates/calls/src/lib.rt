@@ -152,13 +152,7 @@ fn request_refusal(
 }
 
 // Loads so many bytes: 3, 15, 4, 11.
-pub fn load_at(
-    head: Head,
-    place: &[u64; 64],
-    mem: &mut [u64],
-    address: u64,
-    width: u64,
-) -> Served
+pub fn load_at(head: Head, place: &[u64; 64], mem: &mut [u64], address: u64, width: u64) -> Served
     ensures { λ r. ⌜ yields (servedReply (recordBy head (now (place .entry))) r) (now (mem .exit)) ≡ loadCall (recordBy head (now (place .entry))) (now (mem .entry)) address width ⌝ }
 {
     let held = held_in(head);

@@ -4,7 +4,6 @@
 use mathlib.Core.Path.{_≡_, refl, ap, _∙_, subst}
 use Prim.Native.Nat.{ℕ, suc, _+_, _*_, _≤_}
 use native.Mathlib.Omega.{arith}
-use mathlib.Core.Bool.{Bool, true, false}
 use mathlib.Core.List.{List}
 use mathlib.Core.Option.{Option, none, some}
 use lib.ListN.{length}
@@ -20,7 +19,7 @@ use Rattle.walk.specs.declared.Walked.the-variants as walked
 use Rattle.record.specs.declared.Record.{Record}
 use Rattle.record.specs.Record.{configOf, configBy}
 use Rattle.record.specs.Open.{refusalOf}
-use Rattle.calls.specs.Calls.{addressOk, depthAt, callOf}
+use Rattle.calls.specs.Calls.{depthAt, callOf}
 use Rattle.claims.specs.Run.{runOf}
 use Rattle.claims.proofs.Invariant.{Inv}
 use Rattle.claims.proofs.Demands.{after-run, run-config}

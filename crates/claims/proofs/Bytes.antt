@@ -2,29 +2,28 @@
 -- Assumes nothing.
 use mathlib.Core.Path.{_≡_, refl, sym, ap, ap₂, _∙_, subst}
 use mathlib.Core.Logic.{_⊎_, inl, inr}
-use Prim.Native.Nat.{ℕ, _+_, _-_, _*_, _/_, _%_, _^_, _<_, _≤_}
+use Prim.Native.Nat.{ℕ, _+_, _-_, _*_, _/_, _%_, _<_, _≤_}
 use native.Mathlib.Omega.{arith}
 use borrow.Author.Tests.{eqb-true, eqb-false}
 use mathlib.Core.Bool.{Bool, true, false, _&&_}
 use mathlib.Core.List.{List}
 use mathlib.Core.Option.{none, some}
 use lib.Dec.{T, eqb}
-use lib.ListN.{length, drop, getD, set, length-drop}
+use lib.ListN.{length, getD, set, length-drop}
 use lib.Seq.{getD-set-same, getD-set-other}
 use Rattle.spec.specs.declared.Fault.{Fault}
-use Rattle.spec.specs.declared.Answer.{Answer}
 use Rattle.spec.specs.declared.Answer.the-variants as answer
 use Rattle.spec.specs.Answer as say
-use Rattle.spec.specs.Answer.{Line, line}
+use Rattle.spec.specs.Answer.{line}
 use Rattle.spec.specs.Config.{Config, guestBase}
 use Rattle.spec.specs.Entry.{wordOf}
 use Rattle.spec.specs.Bytes.{widthFits, aligned, bytesAt, withBytes}
 use Rattle.spec.specs.Walk.{Result, granted, failed}
 use Rattle.spec.specs.Plain.{Place}
-use Rattle.spec.specs.Machine.{Machine, place, wordIn, stored}
+use Rattle.spec.specs.Machine.{Machine, place, wordIn}
 use Rattle.spec.specs.Call.{Call, load, store, device, plain, deviceWalk, access}
 use Rattle.spec.specs.Refusal.{addressFits, deviceFits}
-use Rattle.spec.specs.Run.{State, lineOf, step, after, opened}
+use Rattle.spec.specs.Run.{State, lineOf, after, opened}
 use Rattle.spec_laws.proofs.Bytes.{part-lt, width-inside, byte-got, byte-put, byte-kept}
 use Rattle.spec_laws.proofs.Lists.{and-right}
 use Rattle.entry.proofs.Entries.{word-fits}
@@ -108,19 +107,25 @@ module _ (s : State) (r : Record) (m : List ℕ) (inv : Inv s r m) (a w : ℕ) w
   unfolding access
   loaded fit v k x i j (failed y) l = let z : _≡_ {A = ℕ} 0 1 = cc in absurd (omega arith)
   loaded fit v k x i j (granted p) l =
-      let e : bytesAt a w (wordIn c mach (p .0) (wordOf a)) ≡ v = cc in
-      (p, refl, subst (λ xs. Loads xs (firstByte c (p .0) a) w v) (sym (inv .area))
-      (subst (λ f. Loads (mach .area) f w v) (first-is (p .0)) (subst (Loads (mach .area) (8 * place c (p .0) (wordOf a) + a % 8) w) e (loads (mach .area) (place c (p .0) (wordOf a)) a w fit))))
+      let e : bytesAt a w (wordIn c mach (p .0) (wordOf a)) ≡ v = cc in (
+        p,
+        refl,
+        subst (λ xs. Loads xs (firstByte c (p .0) a) w v) (sym (inv .area))
+            (subst (λ f. Loads (mach .area) f w v) (first-is (p .0)) (subst (Loads (mach .area) (8 * place c (p .0) (wordOf a) + a % 8) w) e (loads (mach .area) (place c (p .0) (wordOf a)) a w fit))),
+      )
 
   written : a % 8 + w ≤ 8 → (v k x i j : ℕ) (o : Result Fault Place) → ((p : Place) → o ≡ granted p → InGuestArea c (p .0)) → say.done k x ≡ lineOf ((access c mach a w (some v) o) .0) i j
       → (n : List ℕ) → n ≡ (access c mach a w (some v) o) .1 .area → GrantedAt o (λ t. Stores (guestArea r m) n (firstByte c t a) w v)
   unfolding access
   written fit v k x i j (failed y) there l n e = let z : _≡_ {A = ℕ} 0 1 = cc in absurd (omega arith)
-  written fit v k x i j (granted p) there l n e =
-      (p, refl, subst (λ xs. Stores xs n (firstByte c (p .0) a) w v) (sym (inv .area))
-      (subst (λ xs. Stores (mach .area) xs (firstByte c (p .0) a) w v) (sym e)
-      (subst (λ f. Stores (mach .area) (set (mach .area) (place c (p .0) (wordOf a)) (withBytes a w v (wordIn c mach (p .0) (wordOf a)))) f w v) (first-is (p .0))
-      (stores (mach .area) (place c (p .0) (wordOf a)) a w fit v (inside (p .0) (there p refl))))))
+  written fit v k x i j (granted p) there l n e = (
+    p,
+    refl,
+    subst (λ xs. Stores xs n (firstByte c (p .0) a) w v) (sym (inv .area))
+        (subst (λ xs. Stores (mach .area) xs (firstByte c (p .0) a) w v) (sym e)
+        (subst (λ f. Stores (mach .area) (set (mach .area) (place c (p .0) (wordOf a)) (withBytes a w v (wordIn c mach (p .0) (wordOf a)))) f w v) (first-is (p .0))
+        (stores (mach .area) (place c (p .0) (wordOf a)) a w fit v (inside (p .0) (there p refl))))),
+  )
 
   load-bytes : (v k x : ℕ) → callOf (load a w) r m .result .answer ≡ answer.Value v k x → GrantedAt ((plain c mach false a) .result) (λ t. Loads (guestArea r m) (firstByte c t a) w v)
   load-bytes v k x e =

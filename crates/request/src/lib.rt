@@ -379,17 +379,7 @@ pub fn device_store(
             reads,
         } => {
             let word = with_bytes(mem, page, address, width, value);
-            written(
-                mem,
-                space.layout,
-                held,
-                held,
-                page,
-                address,
-                word,
-                reads,
-                0,
-            )
+            written(mem, space.layout, held, held, page, address, word, reads, 0)
         }
         Walked::Faulted { fault, reads } => Served {
             held: held,

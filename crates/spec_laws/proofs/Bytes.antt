@@ -2,7 +2,7 @@
 -- The widths enter by one law: each is a power of two that divides the word's eight bytes.
 -- Assumes nothing.
 use mathlib.Core.Path.{_≡_, refl, sym, ap, ap₂, _∙_, subst}
-use mathlib.Core.Bool.{Bool, true, false, not, _&&_, _||_}
+use mathlib.Core.Bool.{Bool, true, false, not, _&&_}
 use mathlib.Core.List.{List, [], _∷_}
 use mathlib.Core.Logic.{_⊎_, inl, inr}
 use Prim.Native.Nat.{ℕ, zero, suc, _+_, _-_, _*_, _/_, _%_, _^_, _<_, _≤_}
@@ -12,7 +12,7 @@ use borrow.Author.Tests.{eqb-true, eqb-false}
 use lib.Arith.{digits-lt, mod-mul, lt-of-le-ne}
 use lib.Bits.{bitAnd, and-mask}
 use lib.Dec.{T, eqb, eqb→eq}
-use lib.Pow.{pow-pos, pow-mono, pow-add, ones-lt, shl-shr, shr-shr, shr-lt, high, low, split, field, mod-pow-add, mod-mod-pow}
+use lib.Pow.{pow-pos, pow-mono, pow-add, ones-lt, shl-shr, shr-shr, shr-lt, high, low, split, field, mod-mod-pow}
 use Rattle.spec.specs.Prefix.{All, any}
 use Rattle.spec.specs.Bytes.{part, withPart, widths, widthFits, aligned, bitOf, bytesAt, withBytes}
 use Rattle.spec_laws.proofs.Lists.{and-left, and-right, or-cases}

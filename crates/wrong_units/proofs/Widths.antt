@@ -8,7 +8,7 @@ use Rattle.spec.specs.Call.{Call, setMark, load, store, device, loadWord, store
 use Rattle.spec.specs.Run.{step}
 use Rattle.spec.specs.Computing.{specifying}
 use Rattle.wrong_units.specs.Unit.{afterBy, specified, Demand-3, unitBy}
-use Rattle.wrong_units.specs.Wrong.{storeWith, putKeeping, putBig, putClearing, putAtZero, bigEndian, clearsTheRest, dropsAtByteZero, multiplesOfEight, addressFirst, devicesWhole}
+use Rattle.wrong_units.specs.Wrong.{storeWith, putKeeping, putClearing, putAtZero, bigEndian, clearsTheRest, dropsAtByteZero, multiplesOfEight, addressFirst, devicesWhole}
 use Rattle.wrong_units.proofs.Computing.{calling}
 use Rattle.wrong_units.proofs.Mapped.{memory, openedRecord, openedWords, firstRecord}
 use Rattle.wrong_units.proofs.Filled.{mappedWords, other-maps, marks-set, heldRecord, heldWords}

@@ -1,6 +1,5 @@
 -- The first test that fails gives the number; the address is tested only where the record and the width fit, as its test asks for.
-use mathlib.Core.Path.{_≡_, sym, _∙_, subst}
-use mathlib.Core.Bool.{true}
+use mathlib.Core.Path.{sym, _∙_, subst}
 use borrow.Author.Tests.{not-true, not-false}
 use lib.Dec.{T}
 use Rattle.spec.specs.Bytes.{widthFits}

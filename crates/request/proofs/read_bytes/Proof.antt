@@ -1,6 +1,5 @@
 -- The word by its promise, then its part: the bytes lie inside the word, so the part is within its 64 bits. Assumes nothing.
 use borrow.Author.Needs.{needs}
-use native.Mathlib.Omega.{arith}
 use Rattle.spec.specs.Bytes.{bytesAt}
 use Rattle.request.proofs.read_bytes.Statement.{statement}
 use Rattle.request.proofs.read_bytes.Tie as tie
