@@ -1,12 +1,12 @@
 -- Loads and stores from address to bytes, and the held paths that a store drops; for any memory.
 -- Assumes nothing.
 use Prim.Native.Nat.{ℕ, _+_, _%_, _<_, _≤_}
-use mathlib.Core.Bool.{Bool, true, false, not, _||_, cond}
+use mathlib.Core.Bool.{Bool, true, false, cond}
 use mathlib.Core.List.{List}
 use Rattle.spec.specs.declared.Answer.{Answer}
 use Rattle.spec.specs.declared.Answer.the-variants as answer
 use Rattle.spec.specs.Config.{Config}
-use Rattle.spec.specs.Entry.{pageOf, wordOf}
+use Rattle.spec.specs.Entry.{pageOf, wordOf, frameLimit}
 use Rattle.spec.specs.Bytes.{bytesAt, withBytes}
 use Rattle.spec.specs.Plain.{next}
 use Rattle.words.specs.After.{After, yields}
@@ -26,7 +26,7 @@ use Rattle.translate.specs.declared.Held.{Held}
 use Rattle.request.specs.declared.Put.{Put}
 use Rattle.request.specs.declared.Served.{Served}
 use Rattle.translate.specs.declared.Translated.{Translated}
-use Rattle.translate.specs.Translate.{exitBy, foundOf, translateOf}
+use Rattle.translate.specs.Translate.{exitBy, servesOf, foundOf, translateOf}
 
 -- what a request leaves
 abbrev pub serving : Held → Answer → List ℕ → After Served
@@ -59,17 +59,22 @@ Inside a w = (0 < w) × (a % 8 + w ≤ 8)
 abbrev pub putBytesOf : Config → List ℕ → Pool → ℕ → ℕ → ℕ → ℕ → After Put
 putBytesOf c m p t a w v = putWordOf c m p t (wordOf a) (withBytes a w v (wordIn m t (wordOf a)))
 
+-- a walk that arrives does so at a frame that an entry can name
+abbrev pub ReachesFrame : Walked → Type 0
+ReachesFrame (walked.Arrived t y n) = t .0 < frameLimit
+ReachesFrame (walked.Faulted x n) = Unit {0}
+ReachesFrame walked.Damaged = Unit {0}
+
 -- ---- the common case
 
--- a path found at depth 0, if it serves
-abbrev pub servingBy : Bool → HostWalk → HostWalk
-servingBy st (host.Found t w) = cond (not st || w) (host.Found t w) (host.Absent 0)
-servingBy st (host.Absent n) = host.Absent n
-servingBy st host.Damaged = host.Damaged
+-- a path found at depth d, if it serves
+abbrev pub servingBy : Bool → ℕ → HostWalk → HostWalk
+servingBy st d (host.Found t w) = cond (servesOf st d w) (host.Found t w) (host.Absent 0)
+servingBy st d (host.Absent n) = host.Absent n
+servingBy st d host.Damaged = host.Damaged
 
--- the page that a path held at depth 0 leads a request to
-unfoldable pub pageHeldOf : Config → List ℕ → Held → Bool → ℕ → HostWalk
-pageHeldOf c m h st a = servingBy st (foundOf c m h a 0)
+unfoldable pub pathHeldOf : Config → List ℕ → Held → Bool → ℕ → ℕ → HostWalk
+pathHeldOf c m h st a d = servingBy st d (foundOf c m h a d)
 
 -- ---- load
 

@@ -1,14 +1,13 @@
 // Load, store and device store: from an address and its depth to the bytes read or written, and the held paths that a store drops.
 ghost use mathlib.Core.Path.{_≡_};
 ghost use Prim.Native.Nat.{_<_, _≤_};
-ghost use mathlib.Core.Bool.{true, false};
 ghost use Rattle.spec.specs.Bytes.{bytesAt, withBytes};
 ghost use Rattle.spec.specs.Entry.{wordOf, frameLimit};
 ghost use Rattle.words.specs.After.{yields};
 ghost use Rattle.words.specs.Words.{wordIn};
 ghost use Rattle.layout.specs.Layout.{LayoutFits, config};
-ghost use Rattle.translate.specs.Translate.{HeldFits, inFullOf};
-ghost use Rattle.request.specs.Access.{Inside, putWordOf, pageHeldOf, loadFrom, loadOf, writtenBy, storeFrom, storeOf, deviceOf};
+ghost use Rattle.translate.specs.Translate.{HeldFits, translation};
+ghost use Rattle.request.specs.Access.{Inside, ReachesFrame, putWordOf, pathHeldOf, loadBy, loadOf, writtenBy, storeBy, storeOf, deviceOf};
 use entry::GuestPhysical;
 use entry::GuestVirtual;
 use entry::HostPhysical;
@@ -116,21 +115,21 @@ pub fn refused(held: Held, number: u64) -> Served
     }
 }
 
-// The page that a path held at depth 0 leads to, if it serves the request. Most requests are such: they read shadow entries alone and
-// change nothing that is held.
-fn page_held(
+// Where the path held for an address at that depth leads, if it serves the request. Most requests are such: nothing that is held changes.
+fn path_held(
     mem: &[u64],
     layout: Layout,
     held: Held,
     store: bool,
     address: GuestVirtual,
+    depth: u64,
 ) -> HostWalk
     requires { ⌜ LayoutFits layout ⌝ }
-    ensures { λ r. ⌜ r ≡ pageHeldOf (config layout) (now (mem .entry)) held store (address .0) ⌝ }
+    ensures { λ r. ⌜ r ≡ pathHeldOf (config layout) (now (mem .entry)) held store (address .0) depth ⌝ }
 {
-    match translate::found(mem, layout, held, address, 0) {
+    match translate::found(mem, layout, held, address, depth) {
         HostWalk::Found { page, writable } => {
-            if walk::granted(store, writable) {
+            if translate::serves(store, depth, writable) {
                 return HostWalk::Found {
                     page: page,
                     writable: writable,
@@ -143,54 +142,41 @@ fn page_held(
     }
 }
 
-// A load, translated in full: 11.
-fn load_in_full(
-    mem: &mut [u64],
-    space: Space,
-    root: GuestPhysical,
+// What a load says that came so far; before: what was held when it came.
+fn loaded(
+    mem: &[u64],
+    before: Held,
     held: Held,
-    address: GuestVirtual,
+    walked: Walked,
+    exits: u64,
+    address: u64,
     width: u64,
-    depth: u64,
 ) -> Served
-    requires { ⌜ (LayoutFits (space .layout)) × (HeldFits (config (space .layout)) held) × (Inside (address .0) width) ⌝ }
-    ensures { λ r. ⌜ yields r (now (mem .exit)) ≡ loadFrom held (address .0) width (inFullOf (config (space .layout)) (space .top) (now (mem .entry)) held (root .0) false (address .0) depth) ⌝ }
+    requires { ⌜ (ReachesFrame walked) × (Inside address width) ⌝ }
+    ensures { λ r. ⌜ yields r (now (mem .entry)) ≡ loadBy before address width (yields (translation held exits walked) (now (mem .entry))) walked ⌝ }
 {
-    let t = translate::translate(
-        mem,
-        space,
-        root,
-        held,
-        Request {
-            store: false,
-            address: address,
-            depth: depth,
-        },
-    );
-    let walked = t.walked;
-    let after = t.held;
     match walked {
         Walked::Arrived {
             page,
             writable,
             reads,
         } => Served {
-            held: after,
+            held: held,
             answer: Answer::Value {
-                word: read_bytes(mem, page, address.0, width),
+                word: read_bytes(mem, page, address, width),
                 references: reads,
-                exits: t.exits,
+                exits: exits,
             },
         },
         Walked::Faulted { fault, reads } => Served {
-            held: after,
+            held: held,
             answer: Answer::Faulted {
                 fault: fault,
                 references: reads,
-                exits: t.exits,
+                exits: exits,
             },
         },
-        Walked::Damaged => refused(held, 11),
+        Walked::Damaged => refused(before, 11),
     }
 }
 
@@ -207,17 +193,17 @@ pub fn load(
     requires { ⌜ (LayoutFits (space .layout)) × (HeldFits (config (space .layout)) held) × (Inside (address .0) width) ⌝ }
     ensures { λ r. ⌜ yields r (now (mem .exit)) ≡ loadOf (config (space .layout)) (space .top) (now (mem .entry)) held (root .0) (address .0) width depth ⌝ }
 {
-    if depth == 0 {
-        match page_held(mem, space.layout, held, false, address) {
+    let request = Request {
+        store: false,
+        address: address,
+        depth: depth,
+    };
+    if depth <= space.layout.levels {
+        match path_held(mem, space.layout, held, false, address, depth) {
             HostWalk::Found { page, writable } => {
-                return Served {
-                    held: held,
-                    answer: Answer::Value {
-                        word: read_bytes(mem, page, address.0, width),
-                        references: space.layout.levels,
-                        exits: 0,
-                    },
-                };
+                let walked = translate::direct(mem, space, request, page, writable);
+                let exits = translate::exit_of(walked);
+                return loaded(mem, held, held, walked, exits, address.0, width);
             }
             HostWalk::Absent { reads } => {}
             HostWalk::Damaged => {
@@ -225,7 +211,10 @@ pub fn load(
             }
         }
     }
-    load_in_full(mem, space, root, held, address, width, depth)
+    let t = translate::unserved(mem, space, root, held, request);
+    let walked = t.walked;
+    let after = t.held;
+    loaded(mem, held, after, walked, t.exits, address.0, width)
 }
 
 // A store that was granted: the word around its bytes is written, after so many references and exits; before: what was held when it
@@ -262,61 +251,41 @@ fn written(
     refused(before, 11)
 }
 
-// A store, translated in full: 11.
-fn store_in_full(
+// What a store does that came so far; before: what was held when it came.
+fn stored(
     mem: &mut [u64],
-    space: Space,
-    root: GuestPhysical,
+    layout: Layout,
+    before: Held,
     held: Held,
-    address: GuestVirtual,
+    walked: Walked,
+    exits: u64,
+    address: u64,
     width: u64,
-    depth: u64,
     value: u64,
 ) -> Served
-    requires { ⌜ (LayoutFits (space .layout)) × (HeldFits (config (space .layout)) held) × (Inside (address .0) width) ⌝ }
-    ensures { λ r. ⌜ yields r (now (mem .exit)) ≡ storeFrom (config (space .layout)) held (address .0) width value (inFullOf (config (space .layout)) (space .top) (now (mem .entry)) held (root .0) true (address .0) depth) ⌝ }
+    requires { ⌜ (LayoutFits layout) × (held .pool .fresh ≤ layout .shadows) × (ReachesFrame walked) × (Inside address width) × (exits ≤ 65536) ⌝ }
+    ensures { λ r. ⌜ yields r (now (mem .exit)) ≡ storeBy (config layout) before address width value (yields (translation held exits walked) (now (mem .entry))) walked ⌝ }
 {
-    let t = translate::translate(
-        mem,
-        space,
-        root,
-        held,
-        Request {
-            store: true,
-            address: address,
-            depth: depth,
-        },
-    );
-    let walked = t.walked;
-    let after = t.held;
     match walked {
         Walked::Arrived {
             page,
             writable,
             reads,
         } => {
-            let word = with_bytes(mem, page, address.0, width, value);
+            let word = with_bytes(mem, page, address, width, value);
             written(
-                mem,
-                space.layout,
-                held,
-                after,
-                page,
-                address.0,
-                word,
-                reads,
-                t.exits,
+                mem, layout, before, held, page, address, word, reads, exits,
             )
         }
         Walked::Faulted { fault, reads } => Served {
-            held: after,
+            held: held,
             answer: Answer::Faulted {
                 fault: fault,
                 references: reads,
-                exits: t.exits,
+                exits: exits,
             },
         },
-        Walked::Damaged => refused(held, 11),
+        Walked::Damaged => refused(before, 11),
     }
 }
 
@@ -334,20 +303,26 @@ pub fn store(
     requires { ⌜ (LayoutFits (space .layout)) × (HeldFits (config (space .layout)) held) × (Inside (address .0) width) ⌝ }
     ensures { λ r. ⌜ yields r (now (mem .exit)) ≡ storeOf (config (space .layout)) (space .top) (now (mem .entry)) held (root .0) (address .0) width depth value ⌝ }
 {
-    if depth == 0 {
-        match page_held(mem, space.layout, held, true, address) {
+    let request = Request {
+        store: true,
+        address: address,
+        depth: depth,
+    };
+    if depth <= space.layout.levels {
+        match path_held(mem, space.layout, held, true, address, depth) {
             HostWalk::Found { page, writable } => {
-                let word = with_bytes(mem, page, address.0, width, value);
-                return written(
+                let walked = translate::direct(mem, space, request, page, writable);
+                let exits = translate::exit_of(walked);
+                return stored(
                     mem,
                     space.layout,
                     held,
                     held,
-                    page,
+                    walked,
+                    exits,
                     address.0,
-                    word,
-                    space.layout.levels,
-                    0,
+                    width,
+                    value,
                 );
             }
             HostWalk::Absent { reads } => {}
@@ -356,7 +331,20 @@ pub fn store(
             }
         }
     }
-    store_in_full(mem, space, root, held, address, width, depth, value)
+    let t = translate::unserved(mem, space, root, held, request);
+    let walked = t.walked;
+    let after = t.held;
+    stored(
+        mem,
+        space.layout,
+        held,
+        after,
+        walked,
+        t.exits,
+        address.0,
+        width,
+        value,
+    )
 }
 
 // A device's store at a guest-physical address: its host walk, then the bytes as for a store: 11.
