@@ -1,13 +1,12 @@
 -- A request by the path held for it: through it, without it, or on damage. And that what it comes to is in range.
 -- Assumes nothing.
 use mathlib.Core.Path.{_≡_, refl, sym, ap, ap₂, _∙_, subst}
-use Prim.Native.Nat.{ℕ, _+_, _<_, _≤_}
+use Prim.Native.Nat.{ℕ, _<_, _≤_}
 use native.Mathlib.Nat.{zero-add}
 use native.Mathlib.Omega.{arith}
 use borrow.Author.Tests.{lt-ltb, le-ltb}
 use mathlib.Core.Bool.{Bool, true, false, cond}
 use mathlib.Core.List.{List}
-use lib.Dec.{ltb}
 use Rattle.spec.specs.Config.{Config}
 use Rattle.spec.specs.Entry.{frameLimit}
 use Rattle.words.specs.After.{After, yields}

@@ -273,9 +273,7 @@ fn stored(
             reads,
         } => {
             let word = with_bytes(mem, page, address, width, value);
-            written(
-                mem, layout, before, held, page, address, word, reads, exits,
-            )
+            written(mem, layout, before, held, page, address, word, reads, exits)
         }
         Walked::Faulted { fault, reads } => Served {
             held: held,

@@ -80,7 +80,7 @@ module _ (c : Config) (ht : ℕ) (m : List ℕ) (st : Bool) where
         go true = served-leaves m (holding (h .pool) t) a d t w 1 none (f .0, inr g) g (omega arith)
         go false = by (s .result .way)
 
-    pub missed-leaves : Leaves c m (missedOf c ht m h root st a d)
+    missed-leaves : Leaves c m (missedOf c ht m h root st a d)
     unfolding missedOf trailFrom
     missed-leaves = go (walkedOf c ht m 0 (walk c st root (pathIndexes c d a))) (walk-in c ht m st 0 root (pathIndexes c d a))
       where

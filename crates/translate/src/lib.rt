@@ -61,7 +61,13 @@ pub fn exit_of(walked: Walked) -> u64
 }
 
 // The walk on from the guest table of the request's depth, or from its page at depth 0.
-pub fn direct(mem: &[u64], space: Space, request: Request, page: HostPhysical, writable: bool) -> Walked
+pub fn direct(
+    mem: &[u64],
+    space: Space,
+    request: Request,
+    page: HostPhysical,
+    writable: bool,
+) -> Walked
     requires { ⌜ (LayoutFits (space .layout)) × (request .depth ≤ space .layout .levels) × (page .0 < frameLimit) ⌝ }
     ensures { λ r. ⌜ r ≡ directOf (config (space .layout)) (space .top) (now (mem .entry)) (request .store) (request .address .0) (request .depth) (page .0) writable ⌝ }
 {

@@ -1,7 +1,6 @@
 -- Through the path held for it the load goes on with what is held as it was; damage is 11; else it is translated without one.
 use mathlib.Core.Path.{_≡_, sym, ap, _∙_, subst}
 use mathlib.Core.Logic.{⊎-elim}
-use native.Mathlib.Omega.{arith}
 use mathlib.Core.Bool.{false}
 use Rattle.words.specs.After.{After}
 use Rattle.layout.specs.Layout.{config}

@@ -1,5 +1,4 @@
 -- By what the walk came to; the bytes of the page are read where it arrived.
-use Rattle.request.specs.Access.{ReachesFrame}
 use borrow.Author.Needs.{needs}
 use Rattle.request.proofs.loaded.Statement.{statement}
 use Rattle.request.proofs.loaded.Tie as tie

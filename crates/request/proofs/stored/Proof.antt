@@ -1,5 +1,4 @@
 -- By what the walk came to; the word around the bytes is written where it arrived.
-use Rattle.request.specs.Access.{ReachesFrame}
 use borrow.Author.Needs.{needs}
 use Rattle.request.proofs.stored.Statement.{statement}
 use Rattle.request.proofs.stored.Tie as tie
