@@ -214,10 +214,6 @@ width-inside a = of-widths (λ w. T (aligned a w) → a % 8 + w ≤ 8) inside
 
 -- ---- the bytes of an access
 
--- as a part it does not pass the word's 64 bits
-pub bits-inside : (a w : ℕ) → T (widthFits w) → T (aligned a w) → 8 * w + bitOf a ≤ 64
-bits-inside a w t s = omega (arith, width-inside a w t s)
-
 -- byte j of what a load finds is byte j from its address on
 pub byte-got : (a w j e : ℕ) → j < w → part 8 (8 * j) (bytesAt a w e) ≡ part 8 (8 * (a % 8 + j)) e
 unfolding bytesAt
