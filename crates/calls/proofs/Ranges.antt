@@ -1,9 +1,13 @@
 -- What the tests of a call give: the ranges that the functions below it ask for.
 -- Assumes nothing.
-use mathlib.Core.Path.{_≡_}
-use mathlib.Core.Bool.{Bool, true, false}
+use mathlib.Core.Path.{_≡_, sym, subst}
+use mathlib.Core.Bool.{Bool, true, false, _&&_}
 use Prim.Native.Nat.{ℕ, _<_, _≤_}
 use native.Mathlib.Omega.{arith}
+use lib.Dec.{T}
+use Rattle.spec.specs.Bytes.{widthFits, aligned}
+use Rattle.spec_laws.proofs.Bytes.{width-bounds, width-inside}
+use Rattle.spec_laws.proofs.Lists.{and-right}
 use Rattle.marks.specs.Table.{setRefusal, clearRefusal, number}
 use Rattle.marks.proofs.Ascending.{level-below}
 use Rattle.marks.proofs.Book.{keysOf, may-set, may-clear}
@@ -11,6 +15,7 @@ use Rattle.record.specs.declared.Record.{Record}
 use Rattle.record.specs.Record.{configOf, fitsOf}
 use Rattle.record.proofs.Rules.{sized-layout, fits-layout}
 use Rattle.translate.specs.Translate.{HeldFits}
+use Rattle.request.specs.Access.{Inside}
 use Rattle.calls.specs.Calls.{Sound, heldOf, markRefusal}
 
 module _ (r : Record) (len : ℕ) (e : fitsOf r len ≡ true) where
@@ -29,6 +34,12 @@ module _ (r : Record) (len : ℕ) (e : fitsOf r len ≡ true) where
 
   pub fits-deep : 1 ≤ r .layout .levels
   fits-deep = omega (arith, fits-layout r len e .sizes .deep)
+
+-- the bytes of a request that passes its tests lie in one word; legal: its address is
+pub fits-inside : (legal : Bool) (a w : ℕ) → widthFits w ≡ true → (legal && aligned a w) ≡ true → Inside a w
+fits-inside legal a w d e =
+    let t : T (widthFits w) = subst T (sym d) tt in
+    (width-bounds w t .0, width-inside a w t (and-right legal (aligned a w) (subst T (sym e) tt)))
 
 -- a mark that is set or cleared has a level that a key can hold
 module _ (r : Record) (a level : ℕ) (few : r .layout .levels < 6) where

@@ -11,8 +11,10 @@ use Rattle.spec.specs.declared.Answer.the-variants as answer
 use Rattle.spec.specs.declared.Lookup.{Lookup}
 use Rattle.spec.specs.Answer.{line}
 use Rattle.spec.specs.Call.{Call, root, map, unmap, setMark, clearMark, load, store, device, forecast}
+use Rattle.spec.specs.Config.{Config}
 use Rattle.spec.specs.Entry.{pageOf, indexes}
-use Rattle.spec.specs.Refusal.{addressFits, deviceFits, wordAligned, frameFits, forecastRoom}
+use Rattle.spec.specs.Bytes.{widthFits, aligned}
+use Rattle.spec.specs.Refusal.{addressFits, deviceFits, frameFits, forecastRoom}
 use Rattle.words.specs.After.{After, yields}
 use Rattle.entry.specs.declared.HostPhysical.{HostPhysical}
 use Rattle.pool.specs.declared.Pool.{Pool}
@@ -114,9 +116,9 @@ Sound r = LayoutFits (r .layout) × (r .pools .shadow .fresh ≤ r .layout .shad
 abbrev pub judged : Record → List ℕ → After Reply → After Reply
 judged r m next = cond (fitsOf r (length m)) next (refused r 3 m)
 
--- why a request is refused before it is served, by the tests of the record and of its address: its number, or 0
-abbrev pub refusalBy : Bool → Bool → ℕ
-refusalBy fits ok = cond fits (cond ok 0 4) 3
+-- why a request is refused before it is served, by the tests of the record, of its width and of its address: its number, or 0
+abbrev pub refusalBy : Bool → Bool → Bool → ℕ
+refusalBy fits wide ok = cond fits (cond wide (cond ok 0 4) 15) 3
 
 -- ---- open
 
@@ -143,22 +145,27 @@ depthAt r a = lookupAt r a .depth
 unfoldable pub translatedOf : Record → List ℕ → Bool → ℕ → After Translated
 translatedOf r m st a = translateOf (configOf r) (hostTop r) m (heldOf r) (rootOf r) st a (depthAt r a)
 
-abbrev pub addressOk : Record → ℕ → Bool
-addressOk r a = addressFits (configOf r) a && wordAligned a
+-- the tests after 3: 15 unless it is a width (wide), then 4 unless the address is one of its bytes (ok)
+abbrev pub admitted : Bool → Bool → Record → List ℕ → After Reply → After Reply
+admitted wide ok r m next = cond wide (cond ok next (refused r 4 m)) (refused r 15 m)
 
-unfoldable pub loadCall : Record → List ℕ → ℕ → After Reply
-loadCall r m a =
-    judged r m (cond (addressOk r a) (servedBy r (loadOf (configOf r) (hostTop r) m (heldOf r) (rootOf r) a (depthAt r a))) (refused r 4 m))
+abbrev pub placed : Record → List ℕ → ℕ → Bool → After Reply → After Reply
+placed r m w ok next = judged r m (admitted (widthFits w) ok r m next)
 
-unfoldable pub storeCall : Record → List ℕ → ℕ → ℕ → After Reply
-storeCall r m a v =
-    judged r m (cond (addressOk r a) (servedBy r (storeOf (configOf r) (hostTop r) m (heldOf r) (rootOf r) a (depthAt r a) v)) (refused r 4 m))
+-- is it the address of w bytes? That of a device's store (d) is guest-physical
+abbrev pub addressOk : Bool → Config → ℕ → ℕ → Bool
+addressOk d c a w = cond d (deviceFits c a) (addressFits c a) && aligned a w
 
-abbrev pub deviceOk : Record → ℕ → Bool
-deviceOk r a = deviceFits (configOf r) a && wordAligned a
+unfoldable pub loadCall : Record → List ℕ → ℕ → ℕ → After Reply
+loadCall r m a w =
+    placed r m w (addressOk false (configOf r) a w) (servedBy r (loadOf (configOf r) (hostTop r) m (heldOf r) (rootOf r) a w (depthAt r a)))
 
-unfoldable pub deviceCall : Record → List ℕ → ℕ → ℕ → After Reply
-deviceCall r m a v = judged r m (cond (deviceOk r a) (servedBy r (deviceOf (configOf r) (hostTop r) m (heldOf r) a v)) (refused r 4 m))
+unfoldable pub storeCall : Record → List ℕ → ℕ → ℕ → ℕ → After Reply
+storeCall r m a w v =
+    placed r m w (addressOk false (configOf r) a w) (servedBy r (storeOf (configOf r) (hostTop r) m (heldOf r) (rootOf r) a w (depthAt r a) v))
+
+unfoldable pub deviceCall : Record → List ℕ → ℕ → ℕ → ℕ → After Reply
+deviceCall r m a w v = placed r m w (addressOk true (configOf r) a w) (servedBy r (deviceOf (configOf r) (hostTop r) m (heldOf r) a w v))
 
 -- ---- root, map, unmap
 
@@ -241,7 +248,7 @@ callOf (map g f w) r m = mapCall r m g f w
 callOf (unmap g) r m = unmapCall r m g
 callOf (setMark a n) r m = setMarkCall r m a n
 callOf (clearMark a n) r m = clearMarkCall r m a n
-callOf (load a) r m = loadCall r m a
-callOf (store a v) r m = storeCall r m a v
-callOf (device a v) r m = deviceCall r m a v
+callOf (load a w) r m = loadCall r m a w
+callOf (store a w v) r m = storeCall r m a w v
+callOf (device a w v) r m = deviceCall r m a w v
 callOf (forecast xs) r m = forecastCall r m xs

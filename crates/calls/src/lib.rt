@@ -1,13 +1,13 @@
 // The calls that change no mark, on a record in parts: its head by value and the places of its marks lent, so that a request copies no
 // array. Each tests the record first (3); what comes back is what the call can change.
 ghost use mathlib.Core.Path.{_≡_};
-ghost use mathlib.Core.Bool.{_&&_};
 ghost use Prim.Native.Nat.{_<_};
-ghost use Rattle.spec.specs.Refusal.{deviceFits, wordAligned};
+ghost use lib.Dec.{T};
+ghost use Rattle.spec.specs.Bytes.{widthFits};
 ghost use Rattle.words.specs.After.{yields};
 ghost use Rattle.entry.specs.Levels.{ofLevels};
 ghost use Rattle.marks.specs.Table.{number};
-ghost use Rattle.record.specs.Record.{recordBy, fitsOf};
+ghost use Rattle.record.specs.Record.{recordBy, configOf, fitsOf};
 ghost use Rattle.calls.specs.Calls.{refusalBy, addressOk, Sound, nothing, headHeld, headHost, heldIn, spaceIn, servedReply, turnReply, loadCall, storeCall, deviceCall, rootCall, unmappedOf, changedBy, mapCall, unmapCall, ended, forecastCall};
 use entry::GuestPhysical;
 use entry::GuestVirtual;
@@ -113,77 +113,96 @@ fn refused_in(head: Head, number: u64) -> Turn
 
 // ---- load, store, device store
 
-// Is it the guest-physical address of a word?
-fn device_ok(levels: u64, address: u64) -> bool
-    requires { ⌜ levels < 6 ⌝ }
-    ensures { λ r. ⌜ r ≡ (deviceFits (ofLevels levels) address && wordAligned address) ⌝ }
+// Is it the address of so many bytes? A device's is guest-physical.
+fn address_ok(levels: u64, device: bool, address: u64, width: u64) -> bool
+    requires { ⌜ (levels < 6) × (T (widthFits width)) ⌝ }
+    ensures { λ r. ⌜ r ≡ addressOk device (ofLevels levels) address width ⌝ }
 {
+    if !device {
+        return GuestVirtual(address).names_bytes(levels, width);
+    }
     if address >> (12 + entry::frame_bits(levels)) == 0 {
-        address % 8 == 0
+        entry::aligned(address, width)
     } else {
         false
     }
 }
 
-// Why a load or a store is refused before it is served: 3, 4, or 0.
-fn request_refusal(head: Head, place: &[u64; 64], len: usize, address: GuestVirtual) -> u64
-    ensures { λ r. ⌜ r ≡ refusalBy (fitsOf (recordBy head (now (place .entry))) len) (addressOk (recordBy head (now (place .entry))) (address .0)) ⌝ }
+// Why a load or a store, or a device's, is refused before it is served: 3, 15, 4, or 0.
+fn request_refusal(
+    head: Head,
+    place: &[u64; 64],
+    len: usize,
+    device: bool,
+    address: u64,
+    width: u64,
+) -> u64
+    ensures { λ r. ⌜ r ≡ refusalBy (fitsOf (recordBy head (now (place .entry))) len) (widthFits width) (addressOk device (configOf (recordBy head (now (place .entry)))) address width) ⌝ }
 {
     if !head.fits(place, len) {
         return 3;
     }
-    if !address.names_word(head.layout.levels) {
+    if !entry::width_fits(width) {
+        return 15;
+    }
+    if !address_ok(head.layout.levels, device, address, width) {
         return 4;
     }
     0
 }
 
-// Loads a word: 3, 4, 11.
-pub fn load_at(head: Head, place: &[u64; 64], mem: &mut [u64], address: u64) -> Served
-    ensures { λ r. ⌜ yields (servedReply (recordBy head (now (place .entry))) r) (now (mem .exit)) ≡ loadCall (recordBy head (now (place .entry))) (now (mem .entry)) address ⌝ }
+// Loads so many bytes: 3, 15, 4, 11.
+pub fn load_at(head: Head, place: &[u64; 64], mem: &mut [u64], address: u64, width: u64) -> Served
+    ensures { λ r. ⌜ yields (servedReply (recordBy head (now (place .entry))) r) (now (mem .exit)) ≡ loadCall (recordBy head (now (place .entry))) (now (mem .entry)) address width ⌝ }
 {
     let held = held_in(head);
-    let at = GuestVirtual(address);
-    let refusal = request_refusal(head, place, mem.len(), at);
+    let refusal = request_refusal(head, place, mem.len(), false, address, width);
     if refusal != 0 {
         return request::refused(held, refusal);
     }
+    let at = GuestVirtual(address);
     let d = depth::depth(place, head.set, head.layout.levels, at);
-    request::load(mem, space_in(head), head.root, held, at, d)
+    request::load(mem, space_in(head), head.root, held, at, width, d)
 }
 
-// Stores a word; the paths whose shadow part read it are dropped: 3, 4, 11.
-pub fn store_at(head: Head, place: &[u64; 64], mem: &mut [u64], address: u64, value: u64) -> Served
-    ensures { λ r. ⌜ yields (servedReply (recordBy head (now (place .entry))) r) (now (mem .exit)) ≡ storeCall (recordBy head (now (place .entry))) (now (mem .entry)) address value ⌝ }
+// Stores the low bytes of a value; the paths whose shadow part read the word around them are dropped: 3, 15, 4, 11.
+pub fn store_at(
+    head: Head,
+    place: &[u64; 64],
+    mem: &mut [u64],
+    address: u64,
+    width: u64,
+    value: u64,
+) -> Served
+    ensures { λ r. ⌜ yields (servedReply (recordBy head (now (place .entry))) r) (now (mem .exit)) ≡ storeCall (recordBy head (now (place .entry))) (now (mem .entry)) address width value ⌝ }
 {
     let held = held_in(head);
-    let at = GuestVirtual(address);
-    let refusal = request_refusal(head, place, mem.len(), at);
+    let refusal = request_refusal(head, place, mem.len(), false, address, width);
     if refusal != 0 {
         return request::refused(held, refusal);
     }
+    let at = GuestVirtual(address);
     let d = depth::depth(place, head.set, head.layout.levels, at);
-    request::store(mem, space_in(head), head.root, held, at, d, value)
+    request::store(mem, space_in(head), head.root, held, at, width, d, value)
 }
 
-// A device stores a word at a guest-physical address; the paths whose shadow part read it are dropped: 3, 4, 11.
+// A device stores at a guest-physical address, and drops as a store does: 3, 15, 4, 11.
 pub fn device_store_at(
     head: Head,
     place: &[u64; 64],
     mem: &mut [u64],
     address: u64,
+    width: u64,
     value: u64,
 ) -> Served
-    ensures { λ r. ⌜ yields (servedReply (recordBy head (now (place .entry))) r) (now (mem .exit)) ≡ deviceCall (recordBy head (now (place .entry))) (now (mem .entry)) address value ⌝ }
+    ensures { λ r. ⌜ yields (servedReply (recordBy head (now (place .entry))) r) (now (mem .exit)) ≡ deviceCall (recordBy head (now (place .entry))) (now (mem .entry)) address width value ⌝ }
 {
     let held = held_in(head);
-    if !head.fits(place, mem.len()) {
-        return request::refused(held, 3);
+    let refusal = request_refusal(head, place, mem.len(), true, address, width);
+    if refusal != 0 {
+        return request::refused(held, refusal);
     }
-    if !device_ok(head.layout.levels, address) {
-        return request::refused(held, 4);
-    }
-    request::device_store(mem, space_in(head), held, address, value)
+    request::device_store(mem, space_in(head), held, address, width, value)
 }
 
 // ---- forecast

@@ -238,56 +238,59 @@ pub extern "C" fn cangrieb_open(
     answer_of(answer)
 }
 
-// Loads a word: 3, 4, 11.
+// Loads so many bytes: 3, 15, 4, 11.
 #[no_mangle]
 pub extern "C" fn cangrieb_load(
     head: &mut [u64; 15],
     place: &[u64; 64],
     mem: &mut [u64],
     address: u64,
+    width: u64,
 ) -> FlatAnswer
-    ensures { λ r. ⌜ yields (flat (now (head .exit)) (now (place .entry)) r) (now (mem .exit)) ≡ leftOf (loadCall (recordIn (now (head .entry)) (now (place .entry))) (now (mem .entry)) address) ⌝ }
+    ensures { λ r. ⌜ yields (flat (now (head .exit)) (now (place .entry)) r) (now (mem .exit)) ≡ leftOf (loadCall (recordIn (now (head .entry)) (now (place .entry))) (now (mem .entry)) address width) ⌝ }
 {
     let h = head_in(head);
-    let s = calls::load_at(h, place, mem, address);
+    let s = calls::load_at(h, place, mem, address, width);
     let answer = s.answer;
     let held = s.held;
     put_held(head, held);
     answer_of(answer)
 }
 
-// Stores a word; the paths whose shadow part read it are dropped: 3, 4, 11.
+// Stores the low bytes of a value; the paths whose shadow part read the word around them are dropped: 3, 15, 4, 11.
 #[no_mangle]
 pub extern "C" fn cangrieb_store(
     head: &mut [u64; 15],
     place: &[u64; 64],
     mem: &mut [u64],
     address: u64,
+    width: u64,
     value: u64,
 ) -> FlatAnswer
-    ensures { λ r. ⌜ yields (flat (now (head .exit)) (now (place .entry)) r) (now (mem .exit)) ≡ leftOf (storeCall (recordIn (now (head .entry)) (now (place .entry))) (now (mem .entry)) address value) ⌝ }
+    ensures { λ r. ⌜ yields (flat (now (head .exit)) (now (place .entry)) r) (now (mem .exit)) ≡ leftOf (storeCall (recordIn (now (head .entry)) (now (place .entry))) (now (mem .entry)) address width value) ⌝ }
 {
     let h = head_in(head);
-    let s = calls::store_at(h, place, mem, address, value);
+    let s = calls::store_at(h, place, mem, address, width, value);
     let answer = s.answer;
     let held = s.held;
     put_held(head, held);
     answer_of(answer)
 }
 
-// A device stores a word at a guest-physical address: 3, 4, 11.
+// A device stores at a guest-physical address: 3, 15, 4, 11.
 #[no_mangle]
 pub extern "C" fn cangrieb_device_store(
     head: &mut [u64; 15],
     place: &[u64; 64],
     mem: &mut [u64],
     address: u64,
+    width: u64,
     value: u64,
 ) -> FlatAnswer
-    ensures { λ r. ⌜ yields (flat (now (head .exit)) (now (place .entry)) r) (now (mem .exit)) ≡ leftOf (deviceCall (recordIn (now (head .entry)) (now (place .entry))) (now (mem .entry)) address value) ⌝ }
+    ensures { λ r. ⌜ yields (flat (now (head .exit)) (now (place .entry)) r) (now (mem .exit)) ≡ leftOf (deviceCall (recordIn (now (head .entry)) (now (place .entry))) (now (mem .entry)) address width value) ⌝ }
 {
     let h = head_in(head);
-    let s = calls::device_store_at(h, place, mem, address, value);
+    let s = calls::device_store_at(h, place, mem, address, width, value);
     let answer = s.answer;
     let held = s.held;
     put_held(head, held);

@@ -4,7 +4,6 @@
 use mathlib.Core.Path.{_≡_, refl, ap, _∙_, subst}
 use Prim.Native.Nat.{ℕ, suc, _+_, _*_, _≤_}
 use native.Mathlib.Omega.{arith}
-use mathlib.Core.Bool.{Bool, true, false}
 use mathlib.Core.List.{List}
 use mathlib.Core.Option.{Option, none, some}
 use lib.ListN.{length}
@@ -20,12 +19,12 @@ use Rattle.walk.specs.declared.Walked.the-variants as walked
 use Rattle.record.specs.declared.Record.{Record}
 use Rattle.record.specs.Record.{configOf, configBy}
 use Rattle.record.specs.Open.{refusalOf}
-use Rattle.calls.specs.Calls.{addressOk, depthAt, callOf}
+use Rattle.calls.specs.Calls.{depthAt, callOf}
 use Rattle.claims.specs.Run.{runOf}
 use Rattle.claims.proofs.Invariant.{Inv}
 use Rattle.claims.proofs.Demands.{after-run, run-config}
 use Rattle.claims.specs.Plain.{Grants, GrantedWith, requestAt, isStore, grantedLine, plainWalk, AsWalked, Unrefused}
-use Rattle.claims.proofs.Plain.{deep, unfit-refused, as-walked}
+use Rattle.claims.proofs.Plain.{deep, as-walked}
 use Rattle.words.specs.After.{After}
 use Rattle.calls.specs.declared.Reply.{Reply}
 
@@ -71,46 +70,42 @@ granted-with (answer.Faulted y k x) n g e = g
 granted-with (answer.Refused k) n g e = g
 granted-with (answer.Figures k x t) n g e = g
 
-reads-line : (v : Option ℕ) (w n x : ℕ) → readsOf (grantedLine v w n x) ≡ n
-reads-line none w n x = refl
-reads-line (some v) w n x = refl
+reads-line : (a w : ℕ) (v : Option ℕ) (e n x : ℕ) → readsOf (grantedLine a w v e n x) ≡ n
+reads-line a w none e n x = refl
+reads-line a w (some v) e n x = refl
 
-module _ (s : State) (r : Record) (m : List ℕ) (inv : Inv s r m) (four : configOf r .levels ≡ 4) (a : ℕ) (v : Option ℕ) where
+module _ (s : State) (r : Record) (m : List ℕ) (inv : Inv s r m) (four : configOf r .levels ≡ 4) (a w : ℕ) (v : Option ℕ) where
   abbrev e : After Reply
-  e = callOf (requestAt a v) r m
+  e = callOf (requestAt a w v) r m
 
   abbrev d : ℕ
   d = depth (s .book .marks) (addressIndexes (configOf r) a)
 
   reads : Grants (e .result .answer) → GrantedWith (4 + 4 * d) (e .result .answer) × (4 + 4 * d ≤ 24)
-  reads g = go (addressOk r a) refl
+  reads g = by (deep s r m inv a) (plainWalk r m (isStore v) a) (as-walked s r m inv a w v (unrefused (e .result .answer) g))
     where
-      by : depthAt r a ≡ d → (w : Walked) → AsWalked r m a v e w → GrantedWith (4 + 4 * d) (e .result .answer) × (4 + 4 * d ≤ 24)
-      by k (walked.Arrived t w n) q =
+      by : depthAt r a ≡ d → (y : Walked) → AsWalked r m a w v e y → GrantedWith (4 + 4 * d) (e .result .answer) × (4 + 4 * d ≤ 24)
+      by k (walked.Arrived t y n) q =
           let many = ap (λ x. x + x * depthAt r a) four ∙ ap (λ x. 4 + 4 * x) k in
           let most = subst (λ x. x + x * depthAt r a ≤ x + x * suc x) four (q .most) in
-          (granted-with (e .result .answer) (4 + 4 * d) g (ap readsOf (q .says) ∙ reads-line v _ _ _ ∙ many), omega (arith, most, k))
+          (granted-with (e .result .answer) (4 + 4 * d) g (ap readsOf (q .says) ∙ reads-line a w v _ _ _ ∙ many), omega (arith, most, k))
       by k (walked.Faulted y n) q = absurd (subst GrantsLine (q .says) (grants-line (e .result .answer) g))
       by k walked.Damaged q = absurd q
 
-      go : (b : Bool) → addressOk r a ≡ b → GrantedWith (4 + 4 * d) (e .result .answer) × (4 + 4 * d ≤ 24)
-      go true q = by (deep s r m inv a q) (plainWalk r m (isStore v) a) (as-walked s r m inv a v (unrefused (e .result .answer) g))
-      go false q = absurd (subst (λ (o : After Reply). Grants (o .result .answer)) (unfit-refused s r m inv a v q) g)
-
 -- after a granted opening, on any memory, and any list of calls: a load or a store that is granted reports 4 + 4 · d words, at most 24,
 -- where d is the depth of its address by the book's marks then set
-pub run-reads : (m : List ℕ) (h s : ℕ) (xs : List Call) → refusalOf (length m) h s ≡ 0 → (a : ℕ) (v : Option ℕ)
+pub run-reads : (m : List ℕ) (h s : ℕ) (xs : List Call) → refusalOf (length m) h s ≡ 0 → (a w : ℕ) (v : Option ℕ)
     → let u = runOf m h s xs in
-    let e = callOf (requestAt a v) (u .result .unit) (u .memory) in
+    let e = callOf (requestAt a w v) (u .result .unit) (u .memory) in
     let c = configBy (length m) h s in
     let d = depth ((after xs (opened c m)) .book .marks) (addressIndexes c a) in
     Grants (e .result .answer) → GrantedWith (4 + 4 * d) (e .result .answer) × (4 + 4 * d ≤ 24)
-run-reads m h s xs g a v =
+run-reads m h s xs g a w v =
     let u = runOf m h s xs in
     let c = configBy (length m) h s in
     let t = after xs (opened c m) in
     let k = after-run m h s xs g in
     let same = run-config m h s xs g in
-    let e = callOf (requestAt a v) (u .result .unit) (u .memory) in
+    let e = callOf (requestAt a w v) (u .result .unit) (u .memory) in
     subst (λ x. Grants (e .result .answer) → GrantedWith (4 + 4 * depth (t .book .marks) (addressIndexes x a)) (e .result .answer) × (4 + 4 * depth (t .book .marks) (addressIndexes x a) ≤ 24)) same
-    (reads t (u .result .unit) (u .memory) (k .1) (ap (λ x. x .levels) same) a v)
+    (reads t (u .result .unit) (u .memory) (k .1) (ap (λ x. x .levels) same) a w v)

@@ -13,6 +13,7 @@ use lib.ListN.{length}
 use Rattle.spec.specs.declared.Answer.the-variants as answer
 use Rattle.spec.specs.Config.{Config}
 use Rattle.spec.specs.Entry.{wordOf}
+use Rattle.spec.specs.Bytes.{widthFits, bytesAt, withBytes}
 use Rattle.spec.specs.Plain.{upper}
 use Rattle.spec.specs.Book.{Held, Book, depth, find, dropWord, watched}
 use Rattle.spec.specs.Call.{Call, addressIndexes}
@@ -20,7 +21,7 @@ use Rattle.spec.specs.Count.{serves, one}
 use Rattle.spec.specs.Run.{State, after, opened}
 use Rattle.spec_laws.proofs.Lists.{all-any, is-true}
 use Rattle.entry.proofs.Entries.{word-fits}
-use Rattle.words.specs.Words.{setIn}
+use Rattle.words.specs.Words.{wordIn, setIn}
 use Rattle.pool.specs.Outside.{SameOutside}
 use Rattle.area_laws.proofs.Paths.{onto}
 use Rattle.area_laws.proofs.Stores.{Beside}
@@ -45,11 +46,11 @@ use Rattle.drops_laws.proofs.Valid.{entryOf}
 use Rattle.translate.specs.Translate.{exitBy, servesOf, foundOf}
 use Rattle.translate.specs.declared.Held.{Held as Holding}
 use Rattle.request.specs.Access as put
-use Rattle.request.specs.Access.{loadOf, putWordOf, storeOf}
+use Rattle.request.specs.Access.{loadOf, putWordOf, putBytesOf, storeOf}
 use Rattle.translate.proofs.Fits.{ArrivedIn}
 use Rattle.translate.proofs.Leaves.{translate-leaves}
 use Rattle.request.proofs.Leaves.{put-leaves}
-use Rattle.calls.specs.Calls.{hostTop, heldOf, rootOf, ended, refused, depthAt, addressOk, translatedOf, loadCall, storeCall, openCall}
+use Rattle.calls.specs.Calls.{hostTop, heldOf, rootOf, ended, refused, admitted, depthAt, addressOk, translatedOf, loadCall, storeCall, openCall}
 use Rattle.claims.specs.Run.{guestArea, unitAfter}
 use Rattle.claims.specs.Counted.{SameWords, SameStore, countedOf, touchedBy, touchedOf, HeldOrPlain, References, Touches, Refuses, SameTables}
 use Rattle.claims.proofs.Invariant.{longer, frames, Inv}
@@ -81,7 +82,7 @@ outside-beside c e = record {
   else = λ g o k l. e .same (g * 512 + k) (elim o [ inl z ↦ inl (omega arith) | inr z ↦ inr (omega arith) ]);
 }
 
-module _ (s : State) (r : Record) (m : List ℕ) (inv : Inv s r m) (a : ℕ) where
+module _ (s : State) (r : Record) (m : List ℕ) (inv : Inv s r m) (a w : ℕ) where
   abbrev c : Config
   c = configOf r
 
@@ -116,100 +117,106 @@ module _ (s : State) (r : Record) (m : List ℕ) (inv : Inv s r m) (a : ℕ) whe
   -- ---- load
 
   -- what a load says through such a translation
-  load-says : (n : List ℕ) (x : Walked) → SameWords m n (touchedBy a x) → loadedBy r a (read.left r false a x n) x ≡ ended r (loadedBy r a (read.left r false a x m) x .result .answer) n
-  load-says n (walked.Arrived t w k) h = ap₂ (λ u v. ended u (answer.Value v k 0) n) (held-same r) (h .0)
+  load-says : (n : List ℕ) (x : Walked) → SameWords m n (touchedBy a x) → loadedBy r a w (read.left r false a x n) x ≡ ended r (loadedBy r a w (read.left r false a x m) x .result .answer) n
+  load-says n (walked.Arrived t y k) h = ap₂ (λ u e. ended u (answer.Value (bytesAt a w e) k 0) n) (held-same r) (h .0)
   load-says n (walked.Faulted y k) h = ap (λ u. ended u (answer.Faulted y k (exitBy (walked.Faulted y k))) n) (held-same r)
   load-says n walked.Damaged h = ap (λ u. ended u (answer.Refused 11) n) (held-same r)
 
   -- a memory of the same length is not refused with 3
   load-fits : (n : List ℕ) → length n ≡ length m
-      → loadCall r n a ≡ cond (addressOk r a) (loadedBy r a (translatedOf r n false a) (translatedOf r n false a .result .walked)) (refused r 4 n)
+      → loadCall r n a w ≡ admitted (widthFits w) (addressOk false c a w) r n (loadedBy r a w (translatedOf r n false a) (translatedOf r n false a .result .walked))
   unfolding loadCall loadOf translatedOf
-  load-fits n e = ap (λ b. cond b (cond (addressOk r a) (loadedBy r a (translatedOf r n false a) (translatedOf r n false a .result .walked)) (refused r 4 n)) (refused r 3 n)) (ap (fitsOf r) e ∙ inv .fits)
+  load-fits n e = ap (λ b. cond b (admitted (widthFits w) (addressOk false c a w) r n (loadedBy r a w (translatedOf r n false a) (translatedOf r n false a .result .walked))) (refused r 3 n)) (ap (fitsOf r) e ∙ inv .fits)
 
   -- the load says the same value or fault with the same counts, whatever memory n of that length holds elsewhere; and the
   -- record and the memory stay as they are
   pub words-counted-load : HeldOrPlain c (s .book) false a → (n : List ℕ) → length n ≡ length m → SameWords m n (countedOf r m false a) → SameWords m n (touchedOf r m false a)
-      → loadCall r n a ≡ ended r (loadCall r m a .result .answer) n
+      → loadCall r n a w ≡ ended r (loadCall r m a w .result .answer) n
   unfolding touchedOf
   words-counted-load h n e counted touched =
-      load-fits n e ∙ go (addressOk r a) ∙ sym (ap (λ (x : After Reply). ended r (x .result .answer) n) (load-fits m refl))
+      load-fits n e ∙ go (widthFits w) (addressOk false c a w) ∙ sym (ap (λ (x : After Reply). ended r (x .result .answer) n) (load-fits m refl))
     where
       said : List ℕ → After Reply
-      said k = loadedBy r a (translatedOf r k false a) (translatedOf r k false a .result .walked)
+      said k = loadedBy r a w (translatedOf r k false a) (translatedOf r k false a .result .walked)
 
-      go : (b : Bool) → cond b (said n) (refused r 4 n) ≡ ended r (cond b (said m) (refused r 4 m) .result .answer) n
-      go false = refl
-      go true =
+      go : (d b : Bool) → admitted d b r n (said n) ≡ ended r (admitted d b r m (said m) .result .answer) n
+      go false b = refl
+      go true false = refl
+      go true true =
           let l = alike r false a m n (reaches false h) counted in
-          ap (λ (o : After Translated). loadedBy r a o (o .result .walked)) (l .altered)
+          ap (λ (o : After Translated). loadedBy r a w o (o .result .walked)) (l .altered)
           ∙ load-says n (l .walked) (subst (λ (o : After Translated). SameWords m n (touchedBy a (o .result .walked))) (l .before) touched)
-          ∙ sym (ap (λ (o : After Translated). ended r (loadedBy r a o (o .result .walked) .result .answer) n) (l .before))
+          ∙ sym (ap (λ (o : After Translated). ended r (loadedBy r a w o (o .result .walked) .result .answer) n) (l .before))
 
   -- ---- the words counted are as many as the references
 
   counts : (st : Bool) → HeldOrPlain c (s .book) st a → (by : After Translated → Walked → After Reply)
       → ((x : Walked) → Reads (length (countedOf r m st a)) x → References (length (countedOf r m st a)) (by (read.left r st a x m) x .result .answer))
-      → References (length (countedOf r m st a)) (cond (addressOk r a) (by (translatedOf r m st a) (translatedOf r m st a .result .walked)) (refused r 4 m) .result .answer)
-  counts st h by said = go (addressOk r a)
+      → References (length (countedOf r m st a)) (admitted (widthFits w) (addressOk false c a w) r m (by (translatedOf r m st a) (translatedOf r m st a .result .walked)) .result .answer)
+  counts st h by said = go (widthFits w) (addressOk false c a w)
     where
-      go : (b : Bool)
-          → References (length (countedOf r m st a)) (cond b (by (translatedOf r m st a) (translatedOf r m st a .result .walked)) (refused r 4 m) .result .answer)
-      go false = tt
-      go true =
+      go : (d b : Bool)
+          → References (length (countedOf r m st a)) (admitted d b r m (by (translatedOf r m st a) (translatedOf r m st a .result .walked)) .result .answer)
+      go false b = tt
+      go true false = tt
+      go true true =
           let l = alike r st a m m (reaches st h) (all-any _ (countedOf r m st a) (λ x. refl)) in
           subst (λ (o : After Translated). References (length (countedOf r m st a)) (by o (o .result .walked) .result .answer)) (sym (l .before)) (said (l .walked) (l .count))
 
-  pub load-counted : HeldOrPlain c (s .book) false a → References (length (countedOf r m false a)) (loadCall r m a .result .answer)
+  pub load-counted : HeldOrPlain c (s .book) false a → References (length (countedOf r m false a)) (loadCall r m a w .result .answer)
   load-counted h =
-      subst (λ (x : After Reply). References (length (countedOf r m false a)) (x .result .answer)) (sym (load-fits m refl)) (counts false h (loadedBy r a) said)
+      subst (λ (x : After Reply). References (length (countedOf r m false a)) (x .result .answer)) (sym (load-fits m refl)) (counts false h (loadedBy r a w) said)
     where
-      said : (x : Walked) → Reads (length (countedOf r m false a)) x → References (length (countedOf r m false a)) (loadedBy r a (read.left r false a x m) x .result .answer)
-      said (walked.Arrived t w k) q = q
+      said : (x : Walked) → Reads (length (countedOf r m false a)) x → References (length (countedOf r m false a)) (loadedBy r a w (read.left r false a x m) x .result .answer)
+      said (walked.Arrived t y k) q = q
       said (walked.Faulted y k) q = q
       said walked.Damaged q = tt
 
   -- ---- store
   module _ (v : ℕ) where
     store-fits : (n : List ℕ) → length n ≡ length m
-        → storeCall r n a v ≡ cond (addressOk r a) (storedBy r a v (translatedOf r n true a) (translatedOf r n true a .result .walked)) (refused r 4 n)
+        → storeCall r n a w v ≡ admitted (widthFits w) (addressOk false c a w) r n (storedBy r a w v (translatedOf r n true a) (translatedOf r n true a .result .walked))
     unfolding storeCall storeOf translatedOf
-    store-fits n e = ap (λ b. cond b (cond (addressOk r a) (storedBy r a v (translatedOf r n true a) (translatedOf r n true a .result .walked)) (refused r 4 n)) (refused r 3 n)) (ap (fitsOf r) e ∙ inv .fits)
+    store-fits n e = ap (λ b. cond b (admitted (widthFits w) (addressOk false c a w) r n (storedBy r a w v (translatedOf r n true a) (translatedOf r n true a .result .walked))) (refused r 3 n)) (ap (fitsOf r) e ∙ inv .fits)
 
-    pub store-counted : HeldOrPlain c (s .book) true a → References (length (countedOf r m true a)) (storeCall r m a v .result .answer)
+    pub store-counted : HeldOrPlain c (s .book) true a → References (length (countedOf r m true a)) (storeCall r m a w v .result .answer)
     store-counted h =
-        subst (λ (x : After Reply). References (length (countedOf r m true a)) (x .result .answer)) (sym (store-fits m refl)) (counts true h (storedBy r a v) said)
+        subst (λ (x : After Reply). References (length (countedOf r m true a)) (x .result .answer)) (sym (store-fits m refl)) (counts true h (storedBy r a w v) said)
       where
-        said : (x : Walked) → Reads (length (countedOf r m true a)) x → References (length (countedOf r m true a)) (storedBy r a v (read.left r true a x m) x .result .answer)
-        said (walked.Arrived t w k) q = written-counts r (heldOf r) k 0 (putWordOf c m (r .pools .shadow) (t .0) (wordOf a) v) (length (countedOf r m true a)) q
+        said : (x : Walked) → Reads (length (countedOf r m true a)) x → References (length (countedOf r m true a)) (storedBy r a w v (read.left r true a x m) x .result .answer)
+        said (walked.Arrived t y k) q = written-counts r (heldOf r) k 0 (putBytesOf c m (r .pools .shadow) (t .0) a w v) (length (countedOf r m true a)) q
         said (walked.Faulted y k) q = q
         said walked.Damaged q = tt
 
-    -- what a store to word i of the guest frame t leaves on a memory
+    -- what the store leaves on a memory, in the guest frame t
     module _ (t : ℕ) (there : InGuestArea c t) (k : ℕ) where
       abbrev putOn : List ℕ → After Put
-      putOn n = putWordOf c n (r .pools .shadow) t (wordOf a) v
+      putOn n = putBytesOf c n (r .pools .shadow) t a w v
+
+      -- the word that it stores there
+      abbrev word : List ℕ → ℕ
+      word n = withBytes a w v (wordIn n t (wordOf a))
 
       abbrev leftOn : List ℕ → After Reply
       leftOn n = writtenIn r (heldOf r) k 0 (putOn n) (putOn n .result .ok)
 
-      put-area : (n : List ℕ) (b : Bool) → putOn n .result .ok ≡ b → guestArea r (leftOn n .memory) ≡ guestArea r (cond b (setIn n t (wordOf a) v) n)
+      put-area : (n : List ℕ) (b : Bool) → putOn n .result .ok ≡ b → guestArea r (leftOn n .memory) ≡ guestArea r (cond b (setIn n t (wordOf a) (word n)) n)
       put-area n b q =
           ap (λ x. guestArea r (writtenIn r (heldOf r) k 0 (putOn n) x .memory)) q
-          ∙ either b ∙ ap (λ x. guestArea r (cond x (setIn n t (wordOf a) v) n)) q
+          ∙ either b ∙ ap (λ x. guestArea r (cond x (setIn n t (wordOf a) (word n)) n)) q
         where
-          same : guestArea r (putOn n .memory) ≡ guestArea r (cond (putOn n .result .ok) (setIn n t (wordOf a) v) n)
-          same = shadow-drop c (outside-beside c (put-leaves c n (r .pools .shadow) t (wordOf a) v (found.rules s r m inv .shadow .0) .same))
+          same : guestArea r (putOn n .memory) ≡ guestArea r (cond (putOn n .result .ok) (setIn n t (wordOf a) (word n)) n)
+          same = shadow-drop c (outside-beside c (put-leaves c n (r .pools .shadow) t (wordOf a) (word n) (found.rules s r m inv .shadow .0) .same))
 
           either : (x : Bool) → guestArea r (writtenIn r (heldOf r) k 0 (putOn n) x .memory)
-              ≡ guestArea r (cond (putOn n .result .ok) (setIn n t (wordOf a) v) n)
+              ≡ guestArea r (cond (putOn n .result .ok) (setIn n t (wordOf a) (word n)) n)
           either true = same
           either false = same
 
-      touches : (n : List ℕ) → putOn n .result .ok ≡ true → Touches r n k (0 + putOn n .result .exits) t (wordOf a) v (leftOn n)
+      touches : (n : List ℕ) → putOn n .result .ok ≡ true → Touches r n k (0 + putOn n .result .exits) t a w v (leftOn n)
       touches n q = record {
         says = ap (λ b. writtenIn r (heldOf r) k 0 (putOn n) b .result .answer) q;
-        area = put-area n true q ∙ area-store c n t (wordOf a) v (there .0);
+        area = put-area n true q ∙ area-store c n t (wordOf a) (word n) (there .0);
       }
 
       refuses : (n : List ℕ) → putOn n .result .ok ≡ false → Refuses r n (leftOn n)
@@ -219,10 +226,10 @@ module _ (s : State) (r : Record) (m : List ℕ) (inv : Inv s r m) (a : ℕ) whe
         area = put-area n false q;
       }
 
-      either : (n : List ℕ) → ((y : ℕ) × Touches r n k y t (wordOf a) v (leftOn n)) ⊎ Refuses r n (leftOn n)
+      either : (n : List ℕ) → ((y : ℕ) × Touches r n k y t a w v (leftOn n)) ⊎ Refuses r n (leftOn n)
       either n = go (putOn n .result .ok) refl
         where
-          go : (b : Bool) → putOn n .result .ok ≡ b → ((y : ℕ) × Touches r n k y t (wordOf a) v (leftOn n)) ⊎ Refuses r n (leftOn n)
+          go : (b : Bool) → putOn n .result .ok ≡ b → ((y : ℕ) × Touches r n k y t a w v (leftOn n)) ⊎ Refuses r n (leftOn n)
           go true q = inl (0 + putOn n .result .exits, touches n q)
           go false q = inr (refuses n q)
 
@@ -238,41 +245,41 @@ module _ (s : State) (r : Record) (m : List ℕ) (inv : Inv s r m) (a : ℕ) whe
           scanned = drop-word tables (found.held-entries s r m inv) t (wordOf a) (word-fits a)
 
           go : (b : Bool)
-              → let x = cond b (put.putBy (r .pools .shadow) t (wordOf a) v (scanOf c (Word (page t) (wordOf a)) (r .pools .shadow) n)) (put.stored (r .pools .shadow) 0 true (setIn n t (wordOf a) v)) in
+              → let x = cond b (put.putBy (r .pools .shadow) t (wordOf a) (word n) (scanOf c (Word (page t) (wordOf a)) (r .pools .shadow) n)) (put.stored (r .pools .shadow) 0 true (setIn n t (wordOf a) (word n))) in
               (x .result .ok ≡ true) × (x .result .exits ≡ one b)
-          go true = subst (λ (o : After Left). (put.putBy (r .pools .shadow) t (wordOf a) v o .result .ok ≡ true) × (put.putBy (r .pools .shadow) t (wordOf a) v o .result .exits ≡ 1)) (sym (scanned .done)) (refl, refl)
+          go true = subst (λ (o : After Left). (put.putBy (r .pools .shadow) t (wordOf a) (word n) o .result .ok ≡ true) × (put.putBy (r .pools .shadow) t (wordOf a) (word n) o .result .exits ≡ 1)) (sym (scanned .done)) (refl, refl)
           go false = (refl, refl)
 
-      same-touches : (n : List ℕ) → length n ≡ length m → SameTables c m n → Touches r n k (0 + putOn m .result .exits) t (wordOf a) v (leftOn n)
+      same-touches : (n : List ℕ) → length n ≡ length m → SameTables c m n → Touches r n k (0 + putOn m .result .exits) t a w v (leftOn n)
       same-touches n e same =
           let there = whole-tables n e same in
           let here = whole-tables m refl (λ f l i q. refl) in
-          subst (λ x. Touches r n k (0 + x) t (wordOf a) v (leftOn n)) (there .1 ∙ sym (here .1)) (touches n (there .0))
+          subst (λ x. Touches r n k (0 + x) t a w v (leftOn n)) (there .1 ∙ sym (here .1)) (touches n (there .0))
 
     -- the frame that a granted translation arrives at lies in the guest area
     arrives : ArrivedIn c (translatedOf r m true a .result .walked)
     unfolding translatedOf
     arrives = translate-leaves c (hostTop r) m true (heldOf r) (found.rules s r m inv .shadow .0, found.rules s r m inv .held) (rootOf r) a (depthAt r a) .arrived
 
-    pub words-counted-store : HeldOrPlain c (s .book) true a → (k e : ℕ) → storeCall r m a v .result .answer ≡ answer.Done k e
-        → (n : List ℕ) → length n ≡ length m → SameWords m n (countedOf r m true a) → SameStore r m n a v k e
+    pub words-counted-store : HeldOrPlain c (s .book) true a → (k e : ℕ) → storeCall r m a w v .result .answer ≡ answer.Done k e
+        → (n : List ℕ) → length n ≡ length m → SameWords m n (countedOf r m true a) → SameStore r m n a w v k e
     unfolding touchedOf
-    words-counted-store h k e done n long counted = go (addressOk r a) refl
+    words-counted-store h k e done n long counted = go (widthFits w) (addressOk false c a w) refl refl
       where
         said : List ℕ → After Reply
-        said x = storedBy r a v (translatedOf r x true a) (translatedOf r x true a .result .walked)
+        said x = storedBy r a w v (translatedOf r x true a) (translatedOf r x true a .result .walked)
 
         by : (x : Walked) → translatedOf r m true a ≡ read.left r true a x m → translatedOf r n true a ≡ read.left r true a x n → ArrivedIn c x
-            → storeCall r m a v ≡ storedBy r a v (read.left r true a x m) x → storeCall r n a v ≡ storedBy r a v (read.left r true a x n) x → SameStore r m n a v k e
+            → storeCall r m a w v ≡ storedBy r a w v (read.left r true a x m) x → storeCall r n a w v ≡ storedBy r a w v (read.left r true a x n) x → SameStore r m n a w v k e
         by (walked.Faulted y j) p q i f g =
             let z : answer.Faulted y j (exitBy (walked.Faulted y j)) ≡ answer.Done k e = sym (ap (λ (x : After Reply). x .result .answer) f) ∙ done in
             let x : _≡_ {A = ℕ} 0 1 = cc in absurd (omega arith)
         by walked.Damaged p q i f g =
             let z : answer.Refused 11 ≡ answer.Done k e = sym (ap (λ (x : After Reply). x .result .answer) f) ∙ done in
             let x : _≡_ {A = ℕ} 0 1 = cc in absurd (omega arith)
-        by (walked.Arrived t w j) p q i f g = same (putOn (t .0) i j m .result .ok) refl
+        by (walked.Arrived t y j) p q i f g = same (putOn (t .0) i j m .result .ok) refl
           where
-            same : (b : Bool) → putOn (t .0) i j m .result .ok ≡ b → SameStore r m n a v k e
+            same : (b : Bool) → putOn (t .0) i j m .result .ok ≡ b → SameStore r m n a w v k e
             same false o =
                 let z : answer.Refused 11 ≡ answer.Done k e = sym (refuses (t .0) i j m o .says) ∙ sym (ap (λ (x : After Reply). x .result .answer) f) ∙ done in
                 let x : _≡_ {A = ℕ} 0 1 = cc in absurd (omega arith)
@@ -280,23 +287,30 @@ module _ (s : State) (r : Record) (m : List ℕ) (inv : Inv s r m) (a : ℕ) whe
                 let z : answer.Done j (0 + putOn (t .0) i j m .result .exits) ≡ answer.Done k e = sym (touches (t .0) i j m o .says) ∙ sym (ap (λ (x : After Reply). x .result .answer) f) ∙ done in
                 let x : j ≡ k = cc in
                 let y : 0 + putOn (t .0) i j m .result .exits ≡ e = cc in
-                subst (λ l. SameStore r m n a v l e) x (subst (SameStore r m n a v j) y (record {
+                subst (λ l. SameStore r m n a w v l e) x (subst (SameStore r m n a w v j) y (record {
                   frame = t .0;
                   touched = ap (λ (u : After Translated). touchedBy a (u .result .walked)) p;
-                  before = subst (Touches r m j (0 + putOn (t .0) i j m .result .exits) (t .0) (wordOf a) v) (sym f) (touches (t .0) i j m o);
-                  altered = subst (λ u. ((y : ℕ) × Touches r n j y (t .0) (wordOf a) v u) ⊎ Refuses r n u) (sym g) (either (t .0) i j n);
-                  only = λ tables. subst (Touches r n j (0 + putOn (t .0) i j m .result .exits) (t .0) (wordOf a) v) (sym g) (same-touches (t .0) i j n long tables);
+                  before = subst (Touches r m j (0 + putOn (t .0) i j m .result .exits) (t .0) a w v) (sym f) (touches (t .0) i j m o);
+                  altered = subst (λ u. ((y : ℕ) × Touches r n j y (t .0) a w v u) ⊎ Refuses r n u) (sym g) (either (t .0) i j n);
+                  only = λ tables. subst (Touches r n j (0 + putOn (t .0) i j m .result .exits) (t .0) a w v) (sym g) (same-touches (t .0) i j n long tables);
                 }))
 
-        go : (b : Bool) → addressOk r a ≡ b → SameStore r m n a v k e
-        go false q =
-            let z : answer.Refused 4 ≡ answer.Done k e = sym (ap (λ (x : After Reply). x .result .answer) (store-fits m refl ∙ ap (λ b. cond b (said m) (refused r 4 m)) q)) ∙ done in
+        fits : (d b : Bool) → widthFits w ≡ d → addressOk false c a w ≡ b → (x : List ℕ) → length x ≡ length m → storeCall r x a w v ≡ admitted d b r x (said x)
+        fits d b p q x l = store-fits x l ∙ ap₂ (λ d b. admitted d b r x (said x)) p q
+
+        refusal : (i : ℕ) → storeCall r m a w v ≡ refused r i m → SameStore r m n a w v k e
+        refusal i f =
+            let z : answer.Refused i ≡ answer.Done k e = sym (ap (λ (x : After Reply). x .result .answer) f) ∙ done in
             let x : _≡_ {A = ℕ} 0 1 = cc in absurd (omega arith)
-        go true q =
+
+        go : (d b : Bool) → widthFits w ≡ d → addressOk false c a w ≡ b → SameStore r m n a w v k e
+        go false b p q = refusal 15 (fits false b p q m refl)
+        go true false p q = refusal 4 (fits true false p q m refl)
+        go true true p q =
             let l = alike r true a m n (reaches true h) counted in
             by (l .walked) (l .before) (l .altered) (subst (λ (o : After Translated). ArrivedIn c (o .result .walked)) (l .before) arrives)
-            (store-fits m refl ∙ ap (λ b. cond b (said m) (refused r 4 m)) q ∙ ap (λ (o : After Translated). storedBy r a v o (o .result .walked)) (l .before))
-            (store-fits n long ∙ ap (λ b. cond b (said n) (refused r 4 n)) q ∙ ap (λ (o : After Translated). storedBy r a v o (o .result .walked)) (l .altered))
+            (fits true true p q m refl ∙ ap (λ (o : After Translated). storedBy r a w v o (o .result .walked)) (l .before))
+            (fits true true p q n long ∙ ap (λ (o : After Translated). storedBy r a w v o (o .result .walked)) (l .altered))
 
 -- a load through any held path
 pub held-load : (c : Config) (b : Book) (a : ℕ) (h : Held) → find (upper c (depth (b .marks) (addressIndexes c a)) (addressIndexes c a)) (b .held) ≡ some h → HeldOrPlain c b false a
@@ -333,22 +347,22 @@ module _ (m : List ℕ) (h s : ℕ) (xs : List Call) (granted : refusalOf (lengt
   here : (st : Bool) (a : ℕ) → HeldOrPlain config book st a → HeldOrPlain (configOf unit) book st a
   here st a k = subst (λ c. HeldOrPlain c book st a) (after-run m h s xs granted .0) k
 
-  -- a load whose path is held, or at depth N + 1: any words of the memory but those that it counts and the one that it loads may be
+  -- a load whose path is held, or at depth N + 1: any words of the memory but those that it counts and the one around the bytes that it loads may be
   -- altered, and its answer is the same
-  pub run-counted-load : (a : ℕ) → HeldOrPlain config book false a
+  pub run-counted-load : (a w : ℕ) → HeldOrPlain config book false a
       → (n : List ℕ) → length n ≡ length memory → SameWords memory n (countedOf unit memory false a) → SameWords memory n (touchedOf unit memory false a)
-      → loadCall unit n a ≡ ended unit (loadCall unit memory a .result .answer) n
-  run-counted-load a k = words-counted-load (after xs (opened (configBy (length m) h s) m)) unit memory stands a (here false a k)
+      → loadCall unit n a w ≡ ended unit (loadCall unit memory a w .result .answer) n
+  run-counted-load a w k = words-counted-load (after xs (opened (configBy (length m) h s) m)) unit memory stands a w (here false a k)
 
-  -- a store that is granted through a held path or at depth N + 1: after such a change it stores to the same word, or is refused
+  -- a store that is granted through a held path or at depth N + 1: after such a change it stores to the same bytes, or is refused
   -- with 11, which happens only if a host or shadow word was altered
-  pub run-counted-store : (a v k e : ℕ) → HeldOrPlain config book true a → storeCall unit memory a v .result .answer ≡ answer.Done k e
-      → (n : List ℕ) → length n ≡ length memory → SameWords memory n (countedOf unit memory true a) → SameStore unit memory n a v k e
-  run-counted-store a v k e q = words-counted-store (after xs (opened (configBy (length m) h s) m)) unit memory stands a v (here true a q) k e
+  pub run-counted-store : (a w v k e : ℕ) → HeldOrPlain config book true a → storeCall unit memory a w v .result .answer ≡ answer.Done k e
+      → (n : List ℕ) → length n ≡ length memory → SameWords memory n (countedOf unit memory true a) → SameStore unit memory n a w v k e
+  run-counted-store a w v k e q = words-counted-store (after xs (opened (configBy (length m) h s) m)) unit memory stands a w v (here true a q) k e
 
   -- those words are as many as the references of the answer
-  pub run-counted-words : (a : ℕ) → (HeldOrPlain config book false a → References (length (countedOf unit memory false a)) (loadCall unit memory a .result .answer))
-      × ((v : ℕ) → HeldOrPlain config book true a → References (length (countedOf unit memory true a)) (storeCall unit memory a v .result .answer))
-  run-counted-words a =
+  pub run-counted-words : (a w : ℕ) → (HeldOrPlain config book false a → References (length (countedOf unit memory false a)) (loadCall unit memory a w .result .answer))
+      × ((v : ℕ) → HeldOrPlain config book true a → References (length (countedOf unit memory true a)) (storeCall unit memory a w v .result .answer))
+  run-counted-words a w =
       let st = after xs (opened (configBy (length m) h s) m) in
-      (λ k. load-counted st unit memory stands a (here false a k), λ v k. store-counted st unit memory stands a v (here true a k))
+      (λ k. load-counted st unit memory stands a w (here false a k), λ v k. store-counted st unit memory stands a w v (here true a k))

@@ -31,9 +31,9 @@ follows (map g f w) s r m i = map-follows s r m i g f w
 follows (unmap g) s r m i = unmap-follows s r m i g
 follows (setMark a n) s r m i = set-mark-follows s r m i a n
 follows (clearMark a n) s r m i = clear-mark-follows s r m i a n
-follows (load a) s r m i = load-follows s r m i a
-follows (store a v) s r m i = store-follows s r m i a v
-follows (device a v) s r m i = device-follows s r m i a v
+follows (load a w) s r m i = load-follows s r m i a w
+follows (store a w v) s r m i = store-follows s r m i a w v
+follows (device a w v) s r m i = device-follows s r m i a w v
 follows (forecast xs) s r m i = forecast-follows s r m i xs
 
 -- a state that carries the record's configuration

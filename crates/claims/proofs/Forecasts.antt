@@ -22,7 +22,8 @@ use Rattle.spec.specs.Machine.{Machine, world}
 use Rattle.spec.specs.Book.{Held, Book, depth, find, paths, shadowTables}
 use Rattle.spec.specs.Call.{forecast, addressIndexes, plain, machineStep}
 use Rattle.spec.specs.Count.{Counted, one, hostExit, serves, request, bookStep}
-use Rattle.spec.specs.Refusal.{addressFits, wordAligned, forecastRoom, tests, refusal, firstFailed}
+use Rattle.spec.specs.Bytes.{aligned}
+use Rattle.spec.specs.Refusal.{addressFits, forecastRoom, tests, refusal, firstFailed}
 use Rattle.spec.specs.Forecast.{Figures, served, servedBy, figuresOf}
 use Rattle.spec.specs.Run.{State, figuresLine, answered, step}
 use Rattle.spec_laws.proofs.Indexes.{indexes-all}
@@ -338,7 +339,7 @@ module _ (s : State) (r : Record) (m : List ℕ) (inv : Inv s r m) where
     depth-is : depthAt r a ≡ deep
     depth-is = depth-book c (r .guest .marks) (s .book) (omega (arith, found.rules s r m inv .sizes .deep)) (inv .sorted) (inv .marks) a
 
-    address-advances : (addressFits c a && wordAligned a) ≡ true → Advances o (served c mach a b) (addressOf c ht m hold (rootOf r) (keysOf r) ks o a)
+    address-advances : (addressFits c a && aligned a 8) ≡ true → Advances o (served c mach a b) (addressOf c ht m hold (rootOf r) (keysOf r) ks o a)
     unfolding served refusal tests bookStep addressOf
     address-advances e =
         subst (λ y. Advances o (servedBy c mach a b (firstFailed ((y, 4) ∷ []))) (cond y (loadOf c ht m hold (rootOf r) ks o a (depthAt r a)) (yields (Go o) ks))) (sym e)
@@ -358,17 +359,17 @@ module _ (s : State) (r : Record) (m : List ℕ) (inv : Inv s r m) where
   same-figures x u y v z t p q e = ap₂ (λ i j. answer.Figures i j z) p q ∙ ap (answer.Figures u v) e
 
   -- an address that meets 4
-  unserved : (a : ℕ) (b : Book) → (addressFits c a && wordAligned a) ≡ false → served c mach a b ≡ record { references = 0; exits = 0; book = b }
+  unserved : (a : ℕ) (b : Book) → (addressFits c a && aligned a 8) ≡ false → served c mach a b ≡ record { references = 0; exits = 0; book = b }
   unfolding served refusal tests
   unserved a b e = ap (λ y. servedBy c mach a b (firstFailed ((y, 4) ∷ []))) e
 
-  passed-over : (a : ℕ) (ks : List ℕ) (o : Outlook) → (addressFits c a && wordAligned a) ≡ false → addressOf c ht m hold (rootOf r) (keysOf r) ks o a ≡ yields (Go o) ks
+  passed-over : (a : ℕ) (ks : List ℕ) (o : Outlook) → (addressFits c a && aligned a 8) ≡ false → addressOf c ht m hold (rootOf r) (keysOf r) ks o a ≡ yields (Go o) ks
   unfolding addressOf
   passed-over a ks o e = ap (λ y. cond y (loadOf c ht m hold (rootOf r) ks o a (depthAt r a)) (yields (Go o) ks)) e
 
   one-more : (a : ℕ) (xs ks : List ℕ) (o : Outlook) (b : Book) → ((ks : List ℕ) (o : Outlook) (b : Book) → ComesTo xs ks o b) → ComesTo (a ∷ xs) ks o b
   unfolding listOf figuresOf
-  one-more a xs ks o b ih kept e l most = go (addressFits c a && wordAligned a) refl
+  one-more a xs ks o b ih kept e l most = go (addressFits c a && aligned a 8) refl
     where
       k : Counted
       k = served c mach a b
@@ -382,7 +383,7 @@ module _ (s : State) (r : Record) (m : List ℕ) (inv : Inv s r m) where
       start-tables : o .paths .used ≡ shadowTables (b .held)
       start-tables = kept .used
 
-      go : (y : Bool) → (addressFits c a && wordAligned a) ≡ y
+      go : (y : Bool) → (addressFits c a && aligned a 8) ≡ y
           → on (addressOf c ht m hold (rootOf r) (keysOf r) ks o a)
           ≡ answer.Figures (o .sum .references + (k .references + f .references)) (o .sum .exits + (k .exits + f .exits)) (max (o .sum .tables) (max (shadowTables (b .held)) (f .tables)))
       go true q =

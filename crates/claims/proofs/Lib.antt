@@ -16,5 +16,6 @@ pub mod Safety
 pub mod Plain
 pub mod ByDepth
 pub mod Lookups
+pub mod Bytes
 pub mod Numbers
 pub mod Serving

@@ -34,9 +34,9 @@ tests-other c (map g f w) m b = (other 8 tt, (other 9 tt, (other 10 tt, tt)))
 tests-other c (unmap g) m b = (other 8 tt, (other 12 tt, tt))
 tests-other c (setMark a n) m b = (other 4 tt, (other 5 tt, (other 6 tt, (other 7 tt, tt))))
 tests-other c (clearMark a n) m b = (other 4 tt, (other 5 tt, (other 6 tt, tt)))
-tests-other c (load a) m b = (other 4 tt, tt)
-tests-other c (store a v) m b = (other 4 tt, tt)
-tests-other c (device a v) m b = (other 4 tt, tt)
+tests-other c (load a w) m b = (other 15 tt, (other 4 tt, tt))
+tests-other c (store a w v) m b = (other 15 tt, (other 4 tt, tt))
+tests-other c (device a w v) m b = (other 15 tt, (other 4 tt, tt))
 tests-other c (forecast xs) m b = (other 14 tt, tt)
 
 -- ---- a step, and a run, of the specification
@@ -62,9 +62,9 @@ step-covered x s = go (refusal (s .config) x (s .machine) (s .book)) refl
     spoken (unmap g) = by (unmap g)
     spoken (setMark a n) = by (setMark a n)
     spoken (clearMark a n) = by (clearMark a n)
-    spoken (load a) = by (load a)
-    spoken (store a v) = by (store a v)
-    spoken (device a v) = by (device a v)
+    spoken (load a w) = by (load a w)
+    spoken (store a w v) = by (store a w v)
+    spoken (device a w v) = by (device a w v)
     spoken (forecast xs) = tt
 
     go : (o : Option ℕ) → refusal c x (s .machine) (s .book) ≡ o → Covered ((answered x s o) .0)

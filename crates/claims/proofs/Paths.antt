@@ -84,13 +84,13 @@ pub held-same : (r : Record) → withHeld r (heldOf r) ≡ r
 unfolding headHeld headTables
 held-same r = refl
 
-abbrev pub loadedBy : Record → ℕ → After Translated → Walked → After Reply
-loadedBy r a o w = servedBy r (loadBy (heldOf r) a o w)
+abbrev pub loadedBy : Record → ℕ → ℕ → After Translated → Walked → After Reply
+loadedBy r a w o x = servedBy r (loadBy (heldOf r) a w o x)
 
-abbrev pub storedBy : Record → ℕ → ℕ → After Translated → Walked → After Reply
-storedBy r a v o w = servedBy r (storeBy (configOf r) (heldOf r) a v o w)
+abbrev pub storedBy : Record → ℕ → ℕ → ℕ → After Translated → Walked → After Reply
+storedBy r a w v o x = servedBy r (storeBy (configOf r) (heldOf r) a w v o x)
 
--- a store that came to its word, by whether the drops before it met no damage
+-- a store that came to its bytes, by whether the drops before it met no damage
 abbrev pub writtenIn : Record → Holding → ℕ → ℕ → After Put → Bool → After Reply
 writtenIn r h n e x b =
     servedBy r (cond b (serving (record { pool = x .result .pool; frame = h .frame }) (answer.Done n (e + x .result .exits)) (x .memory)) (refused (heldOf r) 11 (x .memory)))

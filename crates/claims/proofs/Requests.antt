@@ -1,6 +1,6 @@
 -- Loads, stores and device stores follow the specification's step.
 -- Assumes nothing.
-use mathlib.Core.Path.{_≡_, refl, sym, ap, _∙_, subst}
+use mathlib.Core.Path.{_≡_, refl, sym, ap, ap₂, _∙_, subst}
 use Prim.Native.Nat.{ℕ, _+_, _-_, _^_, _<_}
 use native.Mathlib.Nat.{zero-add, add-comm}
 use mathlib.Core.Bool.{Bool, true, false, cond}
@@ -22,7 +22,8 @@ use Rattle.spec.specs.Machine.{Machine, world, wordIn, stored}
 use Rattle.spec.specs.Book.{depth, holding, dropWord, watched}
 use Rattle.spec.specs.Call.{Call, load, store, device, addressIndexes, plain, deviceWalk, access, machineStep}
 use Rattle.spec.specs.Count.{Counted, one, hostExit, request, storing, unshadowed, bookStep}
-use Rattle.spec.specs.Refusal.{firstFailed, deviceFits, wordAligned, tests, refusal}
+use Rattle.spec.specs.Bytes.{widthFits, aligned, bytesAt, withBytes}
+use Rattle.spec.specs.Refusal.{firstFailed, deviceFits, tests, refusal}
 use Rattle.spec.specs.Run.{State, lineOf, answered, step}
 use Rattle.spec_laws.proofs.Lists.{and-left}
 use Rattle.spec_laws.proofs.Keeps.{shadow-asked}
@@ -38,7 +39,7 @@ use Rattle.translate.specs.Translate.{translation, exitBy}
 use Rattle.request.proofs.Device.{deviceScript, device-script}
 use Rattle.record.specs.Record.{headTables}
 use Rattle.request.specs.Access.{loadBy, loadOf, writtenBy, storeBy, storeOf, deviceBy, deviceOf}
-use Rattle.calls.specs.Calls.{hostTop, heldOf, headHeld, ended, refused, judged, withHeld, servedBy, addressOk, deviceOk, translatedOf, loadCall, storeCall, deviceCall}
+use Rattle.calls.specs.Calls.{hostTop, heldOf, headHeld, ended, refused, judged, admitted, placed, withHeld, servedBy, addressOk, translatedOf, loadCall, storeCall, deviceCall}
 use Rattle.claims.proofs.Invariant.{Inv, Follows, stands, at}
 use Rattle.claims.proofs.Paths.{exit-is}
 use Rattle.spec_laws.proofs.Indexes.{indexes-all}
@@ -70,11 +71,25 @@ module _ (s : State) (r : Record) (m : List ℕ) (inv : Inv s r m) where
   abbrev ht : ℕ
   ht = hostTop r
 
+  -- a call that is refused with n
+  turned : (n : ℕ) (x : Call) → refusal c x mach (s .book) ≡ some n → Follows x s r (refused r n m)
+  unfolding step
+  turned n x e = follows-by x s (at c s) r r (answer.Refused n) (say.no n) m (ap (answered x (at c s)) e) refl refl (at-inv inv)
+
   -- a call with one test, which fails with n
   pub tested : (n : ℕ) (x : Call) (b : Bool) (y : After Reply) → refusal c x mach (s .book) ≡ firstFailed ((b, n) ∷ []) → (b ≡ true → Follows x s r y) → Follows x s r (cond b y (refused r n m))
-  unfolding step
   tested n x true y e f = f refl
-  tested n x false y e f = follows-by x s (at c s) r r (answer.Refused n) (say.no n) m (ap (answered x (at c s)) e) refl refl (at-inv inv)
+  tested n x false y e f = turned n x e
+
+  -- a request of w bytes: 3, 15 and 4; ok: its address is that of so many bytes
+  pub placed-by : (x : Call) (w : ℕ) (ok : Bool) (y : After Reply) → refusal c x mach (s .book) ≡ firstFailed ((widthFits w, 15) ∷ (ok, 4) ∷ [])
+      → (widthFits w ≡ true → ok ≡ true → Follows x s r y) → Follows x s r (placed r m w ok y)
+  placed-by x w ok y e f = judged-by x s r m _ inv (go (widthFits w) ok refl refl)
+    where
+      go : (d b : Bool) → widthFits w ≡ d → ok ≡ b → Follows x s r (admitted d b r m y)
+      go true true p q = f p q
+      go true false p q = turned 4 x (e ∙ ap₂ (λ d b. firstFailed ((d, 15) ∷ (b, 4) ∷ [])) p q)
+      go false b p q = turned 15 x (e ∙ ap (λ d. firstFailed ((d, 15) ∷ (ok, 4) ∷ [])) p)
 
   -- the page of a granted walk is in the guest area
   pub page-in : (st : Bool) (a : ℕ) (p : Place) → (plain c mach st a) .result ≡ granted p → InGuestArea c (p .0)
@@ -88,21 +103,21 @@ module _ (s : State) (r : Record) (m : List ℕ) (inv : Inv s r m) where
   after-stands st a k o t = stands c mach (r .pools .host) (t .memory) (t .next .maps) (t .next .area)
 
   -- ---- load
-  module _ (a : ℕ) where
+  module _ (a w : ℕ) where
     abbrev costs : Bool → Counted
     costs st = request c mach (s .book) st a (depth (s .book .marks) (addressIndexes c a))
 
-    pub load-step : addressOk r a ≡ true
-        → let o = access c mach (wordOf a) none ((plain c mach false a) .result) in
-        step (load a) (at c s) ≡ (lineOf (o .0) ((costs false) .references) ((costs false) .exits), record { config = c; machine = o .1; book = (costs false) .book })
+    pub load-step : widthFits w ≡ true → addressOk false c a w ≡ true
+        → let o = access c mach a w none ((plain c mach false a) .result) in
+        step (load a w) (at c s) ≡ (lineOf (o .0) ((costs false) .references) ((costs false) .exits), record { config = c; machine = o .1; book = (costs false) .book })
     unfolding step refusal tests machineStep bookStep
-    load-step ok = ap (λ b. answered (load a) (at c s) (firstFailed ((b, 4) ∷ []))) ok
+    load-step wide ok = ap₂ (λ d b. answered (load a w) (at c s) (firstFailed ((d, 15) ∷ (b, 4) ∷ []))) wide ok
 
-    loaded : addressOk r a ≡ true → (x : Result Fault Place) → (plain c mach false a) .result ≡ x
-        → Follows (load a) s r (servedBy r (loadBy (heldOf r) a (translatedOf r m false a) (translatedOf r m false a .result .walked)))
+    loaded : widthFits w ≡ true → addressOk false c a w ≡ true → (x : Result Fault Place) → (plain c mach false a) .result ≡ x
+        → Follows (load a w) s r (servedBy r (loadBy (heldOf r) a w (translatedOf r m false a) (translatedOf r m false a .result .walked)))
     unfolding access headHeld headTables
-    loaded ok x e =
-        subst (Follows (load a) s r) (sym (ap (λ (o : After Translated). servedBy r (loadBy (heldOf r) a o (o .result .walked))) (t .done) ∙ ap (λ y. servedBy r (loadBy (heldOf r) a (left y) (plainWalked y (k .references)))) e)) (by x e)
+    loaded wide ok x e =
+        subst (Follows (load a w) s r) (sym (ap (λ (o : After Translated). servedBy r (loadBy (heldOf r) a w o (o .result .walked))) (t .done) ∙ ap (λ y. servedBy r (loadBy (heldOf r) a w (left y) (plainWalked y (k .references)))) e)) (by x e)
       where
         k : Counted
         k = costs false
@@ -113,36 +128,36 @@ module _ (s : State) (r : Record) (m : List ℕ) (inv : Inv s r m) where
         left : Result Fault Place → After Translated
         left y = yields (translation (t .held) (k .exits) (plainWalked y (k .references))) (t .memory)
 
-        by : (y : Result Fault Place) → (plain c mach false a) .result ≡ y → Follows (load a) s r (servedBy r (loadBy (heldOf r) a (left y) (plainWalked y (k .references))))
+        by : (y : Result Fault Place) → (plain c mach false a) .result ≡ y → Follows (load a w) s r (servedBy r (loadBy (heldOf r) a w (left y) (plainWalked y (k .references))))
         by (failed y) q =
-            follows-by (load a) s (record { config = c; machine = mach; book = k .book }) r (withHeld r (t .held)) (answer.Faulted y (k .references) (k .exits)) (faultLine y (k .references) (k .exits)) (t .memory)
-            (load-step ok ∙ ap (λ z. (lineOf ((access c mach (wordOf a) none z) .0) (k .references) (k .exits), record { config = c; machine = (access c mach (wordOf a) none z) .1; book = k .book })) q)
+            follows-by (load a w) s (record { config = c; machine = mach; book = k .book }) r (withHeld r (t .held)) (answer.Faulted y (k .references) (k .exits)) (faultLine y (k .references) (k .exits)) (t .memory)
+            (load-step wide ok ∙ ap (λ z. (lineOf ((access c mach a w none z) .0) (k .references) (k .exits), record { config = c; machine = (access c mach a w none z) .1; book = k .book })) q)
             refl refl (t .next)
         by (granted p) q =
-            follows-by (load a) s (record { config = c; machine = mach; book = k .book }) r (withHeld r (t .held)) (answer.Value (words.wordIn (t .memory) (p .0) (wordOf a)) (k .references) (k .exits))
-            (say.value (wordIn c mach (p .0) (wordOf a)) (k .references) (k .exits)) (t .memory)
-            (load-step ok ∙ ap (λ z. (lineOf ((access c mach (wordOf a) none z) .0) (k .references) (k .exits), record { config = c; machine = (access c mach (wordOf a) none z) .1; book = k .book })) q)
-            refl (ap (λ v. say.value v (k .references) (k .exits)) (same-word c mach ht (t .memory) (after-stands false a (costs false) (translatedOf r m false a) t) (p .0) (wordOf a) (page-in false a p q))) (t .next)
+            follows-by (load a w) s (record { config = c; machine = mach; book = k .book }) r (withHeld r (t .held)) (answer.Value (bytesAt a w (words.wordIn (t .memory) (p .0) (wordOf a))) (k .references) (k .exits))
+            (say.value (bytesAt a w (wordIn c mach (p .0) (wordOf a))) (k .references) (k .exits)) (t .memory)
+            (load-step wide ok ∙ ap (λ z. (lineOf ((access c mach a w none z) .0) (k .references) (k .exits), record { config = c; machine = (access c mach a w none z) .1; book = k .book })) q)
+            refl (ap (λ e. say.value (bytesAt a w e) (k .references) (k .exits)) (same-word c mach ht (t .memory) (after-stands false a (costs false) (translatedOf r m false a) t) (p .0) (wordOf a) (page-in false a p q))) (t .next)
 
-    pub load-follows : Follows (load a) s r (loadCall r m a)
+    pub load-follows : Follows (load a w) s r (loadCall r m a w)
     unfolding loadCall loadOf translatedOf refusal tests
-    load-follows = judged-by (load a) s r m _ inv (tested 4 (load a) (addressOk r a) _ refl (λ ok. loaded ok ((plain c mach false a) .result) refl))
+    load-follows = placed-by (load a w) w (addressOk false c a w) _ refl (λ wide ok. loaded wide ok ((plain c mach false a) .result) refl)
 
     -- ---- store
     module _ (v : ℕ) where
       -- the book and the machine after a granted store
-      pub store-step : addressOk r a ≡ true
-          → let o = access c mach (wordOf a) (some v) ((plain c mach true a) .result) in
+      pub store-step : widthFits w ≡ true → addressOk false c a w ≡ true
+          → let o = access c mach a w (some v) ((plain c mach true a) .result) in
           let k = storing (wordOf a) ((plain c mach true a) .result) (costs true) in
-          step (store a v) (at c s) ≡ (lineOf (o .0) (k .references) (k .exits), record { config = c; machine = o .1; book = k .book })
+          step (store a w v) (at c s) ≡ (lineOf (o .0) (k .references) (k .exits), record { config = c; machine = o .1; book = k .book })
       unfolding step refusal tests machineStep bookStep
-      store-step ok = ap (λ b. answered (store a v) (at c s) (firstFailed ((b, 4) ∷ []))) ok
+      store-step wide ok = ap₂ (λ d b. answered (store a w v) (at c s) (firstFailed ((d, 15) ∷ (b, 4) ∷ []))) wide ok
 
-      stored-is : addressOk r a ≡ true → (x : Result Fault Place) → (plain c mach true a) .result ≡ x
-          → Follows (store a v) s r (servedBy r (storeBy c (heldOf r) a v (translatedOf r m true a) (translatedOf r m true a .result .walked)))
+      stored-is : widthFits w ≡ true → addressOk false c a w ≡ true → (x : Result Fault Place) → (plain c mach true a) .result ≡ x
+          → Follows (store a w v) s r (servedBy r (storeBy c (heldOf r) a w v (translatedOf r m true a) (translatedOf r m true a .result .walked)))
       unfolding access headHeld headTables storing
-      stored-is ok x e =
-          subst (Follows (store a v) s r) (sym (ap (λ (o : After Translated). servedBy r (storeBy c (heldOf r) a v o (o .result .walked))) (t .done) ∙ ap (λ y. servedBy r (storeBy c (heldOf r) a v (left y) (plainWalked y (k .references)))) e)) (by x e)
+      stored-is wide ok x e =
+          subst (Follows (store a w v) s r) (sym (ap (λ (o : After Translated). servedBy r (storeBy c (heldOf r) a w v o (o .result .walked))) (t .done) ∙ ap (λ y. servedBy r (storeBy c (heldOf r) a w v (left y) (plainWalked y (k .references)))) e)) (by x e)
         where
           k : Counted
           k = costs true
@@ -153,42 +168,45 @@ module _ (s : State) (r : Record) (m : List ℕ) (inv : Inv s r m) where
           left : Result Fault Place → After Translated
           left y = yields (translation (t .held) (k .exits) (plainWalked y (k .references))) (t .memory)
 
-          by : (y : Result Fault Place) → (plain c mach true a) .result ≡ y → Follows (store a v) s r (servedBy r (storeBy c (heldOf r) a v (left y) (plainWalked y (k .references))))
+          by : (y : Result Fault Place) → (plain c mach true a) .result ≡ y → Follows (store a w v) s r (servedBy r (storeBy c (heldOf r) a w v (left y) (plainWalked y (k .references))))
           by (failed y) q =
-              follows-by (store a v) s (record { config = c; machine = mach; book = k .book }) r (withHeld r (t .held)) (answer.Faulted y (k .references) (k .exits)) (faultLine y (k .references) (k .exits)) (t .memory)
-              (store-step ok ∙ ap (λ z. (
-                lineOf ((access c mach (wordOf a) (some v) z) .0) ((storing (wordOf a) z (costs true)) .references) ((storing (wordOf a) z (costs true)) .exits),
-                record { config = c; machine = (access c mach (wordOf a) (some v) z) .1; book = (storing (wordOf a) z (costs true)) .book },
+              follows-by (store a w v) s (record { config = c; machine = mach; book = k .book }) r (withHeld r (t .held)) (answer.Faulted y (k .references) (k .exits)) (faultLine y (k .references) (k .exits)) (t .memory)
+              (store-step wide ok ∙ ap (λ z. (
+                lineOf ((access c mach a w (some v) z) .0) ((storing (wordOf a) z (costs true)) .references) ((storing (wordOf a) z (costs true)) .exits),
+                record { config = c; machine = (access c mach a w (some v) z) .1; book = (storing (wordOf a) z (costs true)) .book },
               )) q)
               refl refl (t .next)
           by (granted p) q =
-              let u = puts (record { config = c; machine = mach; book = k .book }) (withHeld r (t .held)) (t .memory) (t .next) (p .0) (wordOf a) v (word-fits a) (page-in true a p q) in
-              subst (λ z. Follows (store a v) s r (servedBy r (writtenBy (heldOf r) (t .held) (k .references) (k .exits) z))) (sym (u .done))
-              (follows-by (store a v) s (record { config = c; machine = stored c mach (p .0) (wordOf a) v; book = holding (k .book) (dropWord (p .0) (wordOf a) (k .book .held)) }) r
+              let there = page-in true a p q in
+              let word = same-word c mach ht (t .memory) (after-stands true a (costs true) (translatedOf r m true a) t) (p .0) (wordOf a) there in
+              let e = withBytes a w v (words.wordIn (t .memory) (p .0) (wordOf a)) in
+              let u = puts (record { config = c; machine = mach; book = k .book }) (withHeld r (t .held)) (t .memory) (t .next) (p .0) (wordOf a) e (word-fits a) there in
+              subst (λ z. Follows (store a w v) s r (servedBy r (writtenBy (heldOf r) (t .held) (k .references) (k .exits) z))) (sym (u .done))
+              (follows-by (store a w v) s (record { config = c; machine = stored c mach (p .0) (wordOf a) e; book = holding (k .book) (dropWord (p .0) (wordOf a) (k .book .held)) }) r
               (withHeld r (record { pool = u .pool; frame = t .held .frame })) (answer.Done (k .references) (k .exits + one (watched (p .0) (k .book .held)))) (say.done (k .references) (k .exits + one (watched (p .0) (k .book .held)))) (u .memory)
-              (store-step ok ∙ ap (λ z. (
-                lineOf ((access c mach (wordOf a) (some v) z) .0) ((storing (wordOf a) z (costs true)) .references) ((storing (wordOf a) z (costs true)) .exits),
-                record { config = c; machine = (access c mach (wordOf a) (some v) z) .1; book = (storing (wordOf a) z (costs true)) .book },
-              )) q)
+              (store-step wide ok ∙ ap (λ z. (
+                lineOf ((access c mach a w (some v) z) .0) ((storing (wordOf a) z (costs true)) .references) ((storing (wordOf a) z (costs true)) .exits),
+                record { config = c; machine = (access c mach a w (some v) z) .1; book = (storing (wordOf a) z (costs true)) .book },
+              )) q ∙ ap (λ z. (say.done (k .references) (k .exits + one (watched (p .0) (k .book .held))), record { config = c; machine = stored c mach (p .0) (wordOf a) (withBytes a w v z); book = holding (k .book) (dropWord (p .0) (wordOf a) (k .book .held)) })) (sym word))
               refl refl (u .next))
 
-      pub store-follows : Follows (store a v) s r (storeCall r m a v)
+      pub store-follows : Follows (store a w v) s r (storeCall r m a w v)
       unfolding storeCall storeOf translatedOf refusal tests
-      store-follows = judged-by (store a v) s r m _ inv (tested 4 (store a v) (addressOk r a) _ refl (λ ok. stored-is ok ((plain c mach true a) .result) refl))
+      store-follows = placed-by (store a w v) w (addressOk false c a w) _ refl (λ wide ok. stored-is wide ok ((plain c mach true a) .result) refl)
 
       -- ---- device store
-      device-step : deviceOk r a ≡ true
-          → let o = access c mach (wordOf a) (some v) ((deviceWalk c mach a) .result) in
+      pub device-step : widthFits w ≡ true → addressOk true c a w ≡ true
+          → let o = access c mach a w (some v) ((deviceWalk c mach a) .result) in
           let k = storing (wordOf a) ((deviceWalk c mach a) .result) (unshadowed (s .book) (deviceWalk c mach a)) in
-          step (device a v) (at c s) ≡ (lineOf (o .0) (k .references) (k .exits), record { config = c; machine = o .1; book = k .book })
+          step (device a w v) (at c s) ≡ (lineOf (o .0) (k .references) (k .exits), record { config = c; machine = o .1; book = k .book })
       unfolding step refusal tests machineStep bookStep
-      device-step ok = ap (λ b. answered (device a v) (at c s) (firstFailed ((b, 4) ∷ []))) ok
+      device-step wide ok = ap₂ (λ d b. answered (device a w v) (at c s) (firstFailed ((d, 15) ∷ (b, 4) ∷ []))) wide ok
 
       -- a device address that fits names a guest frame
-      device-small : deviceOk r a ≡ true → pageOf a < 2 ^ frameBits c
+      device-small : addressOk true c a w ≡ true → pageOf a < 2 ^ frameBits c
       unfolding pageOf
       device-small ok =
-          let l : a < 2 ^ (12 + frameBits c) = ltb→lt a (2 ^ (12 + frameBits c)) (and-left (deviceFits c a) (wordAligned a) (subst T (sym ok) tt)) in
+          let l : a < 2 ^ (12 + frameBits c) = ltb→lt a (2 ^ (12 + frameBits c)) (and-left (deviceFits c a) (aligned a w) (subst T (sym ok) tt)) in
           shr-lt (frameBits c) 12 (subst (λ n. a < 2 ^ n) (add-comm 12 (frameBits c)) l)
 
       device-asks : (g : ℕ) → g < 2 ^ frameBits c → Guest c (InGuestArea c) (deviceScript g) (λ q. InGuestArea c (q .0))
@@ -199,7 +217,7 @@ module _ (s : State) (r : Record) (m : List ℕ) (inv : Inv s r m) where
           go false q f = b
 
       -- the walk over memory is the machine's host walk
-      device-walked : deviceOk r a ≡ true
+      device-walked : addressOk true c a w ≡ true
           → walkedOf c ht m 0 (next true true (pageOf a) true) ≡ plainWalked ((deviceWalk c mach a) .result) ((deviceWalk c mach a) .count)
       unfolding deviceWalk
       device-walked ok =
@@ -207,39 +225,42 @@ module _ (s : State) (r : Record) (m : List ℕ) (inv : Inv s r m) where
           ∙ stands-walked c mach ht m (found.memory-stands s r m inv) 0 (deviceScript (pageOf a)) (λ q. InGuestArea c (q .0)) (device-asks (pageOf a) (device-small ok))
           ∙ ap (plainWalked ((trace (world c mach) (deviceScript (pageOf a))) .result)) (zero-add ((trace (world c mach) (deviceScript (pageOf a))) .count))
 
-      device-in : deviceOk r a ≡ true → (p : Place) → (deviceWalk c mach a) .result ≡ granted p → InGuestArea c (p .0)
+      pub device-in : addressOk true c a w ≡ true → (p : Place) → (deviceWalk c mach a) .result ≡ granted p → InGuestArea c (p .0)
       unfolding deviceWalk world
       device-in ok p e =
           asks-trace (AnswerIn (InGuestArea c)) (λ g. g < 2 ^ frameBits c) (λ t i. InGuestArea c t × (i < 512)) (FaultFits c) (world c mach) (deviceScript (pageOf a)) (λ (q : Place). InGuestArea c (q .0)) (found.memory-stands s r m inv .inside)
           (device-asks (pageOf a) (device-small ok)) .grants p e
 
-      device-is : deviceOk r a ≡ true → (x : Result Fault Place) → (deviceWalk c mach a) .result ≡ x
-          → Follows (device a v) s r (servedBy r (deviceBy c m (heldOf r) a v (walkedOf c ht m 0 (next true true (pageOf a) true))))
+      device-is : widthFits w ≡ true → addressOk true c a w ≡ true → (x : Result Fault Place) → (deviceWalk c mach a) .result ≡ x
+          → Follows (device a w v) s r (servedBy r (deviceBy c m (heldOf r) a w v (walkedOf c ht m 0 (next true true (pageOf a) true))))
       unfolding access headHeld headTables storing
-      device-is ok x e =
-          subst (λ y. Follows (device a v) s r (servedBy r (deviceBy c m (heldOf r) a v y))) (sym (device-walked ok ∙ ap (λ y. plainWalked y (w .count)) e)) (by x e)
+      device-is wide ok x e =
+          subst (λ y. Follows (device a w v) s r (servedBy r (deviceBy c m (heldOf r) a w v y))) (sym (device-walked ok ∙ ap (λ y. plainWalked y (tr .count)) e)) (by x e)
         where
-          w : Trace Fault Place
-          w = deviceWalk c mach a
+          tr : Trace Fault Place
+          tr = deviceWalk c mach a
 
           k : Result Fault Place → Counted
-          k y = storing (wordOf a) y (record { references = w .count; exits = hostExit y; book = s .book })
+          k y = storing (wordOf a) y (record { references = tr .count; exits = hostExit y; book = s .book })
 
-          stepped : (y : Result Fault Place) → w .result ≡ y
-              → step (device a v) (at c s) ≡ (lineOf ((access c mach (wordOf a) (some v) y) .0) ((k y) .references) ((k y) .exits), record { config = c; machine = (access c mach (wordOf a) (some v) y) .1; book = (k y) .book })
-          stepped y q = device-step ok ∙ ap (λ z. (lineOf ((access c mach (wordOf a) (some v) z) .0) ((k z) .references) ((k z) .exits), record { config = c; machine = (access c mach (wordOf a) (some v) z) .1; book = (k z) .book })) q
+          stepped : (y : Result Fault Place) → tr .result ≡ y
+              → step (device a w v) (at c s) ≡ (lineOf ((access c mach a w (some v) y) .0) ((k y) .references) ((k y) .exits), record { config = c; machine = (access c mach a w (some v) y) .1; book = (k y) .book })
+          stepped y q = device-step wide ok ∙ ap (λ z. (lineOf ((access c mach a w (some v) z) .0) ((k z) .references) ((k z) .exits), record { config = c; machine = (access c mach a w (some v) z) .1; book = (k z) .book })) q
 
-          by : (y : Result Fault Place) → w .result ≡ y → Follows (device a v) s r (servedBy r (deviceBy c m (heldOf r) a v (plainWalked y (w .count))))
+          by : (y : Result Fault Place) → tr .result ≡ y → Follows (device a w v) s r (servedBy r (deviceBy c m (heldOf r) a w v (plainWalked y (tr .count))))
           by (failed y) q =
-              follows-by (device a v) s (at c s) r r (answer.Faulted y (w .count) (exitBy (plainWalked (failed y) (w .count)))) (faultLine y (w .count) (hostExit {A = Place} (failed y))) m
-              (stepped (failed y) q) refl (ap (faultLine y (w .count)) (exit-is (failed y) (w .count))) (at-inv inv)
+              follows-by (device a w v) s (at c s) r r (answer.Faulted y (tr .count) (exitBy (plainWalked (failed y) (tr .count)))) (faultLine y (tr .count) (hostExit {A = Place} (failed y))) m
+              (stepped (failed y) q) refl (ap (faultLine y (tr .count)) (exit-is (failed y) (tr .count))) (at-inv inv)
           by (granted p) q =
-              let u = puts s r m inv (p .0) (wordOf a) v (word-fits a) (device-in ok p q) in
-              subst (λ z. Follows (device a v) s r (servedBy r (writtenBy (heldOf r) (heldOf r) (w .count) 0 z))) (sym (u .done))
-              (follows-by (device a v) s (record { config = c; machine = stored c mach (p .0) (wordOf a) v; book = holding (s .book) (dropWord (p .0) (wordOf a) (s .book .held)) }) r
-              (withHeld r (record { pool = u .pool; frame = r .guest .held })) (answer.Done (w .count) (0 + one (watched (p .0) (s .book .held)))) (say.done (w .count) (0 + one (watched (p .0) (s .book .held)))) (u .memory)
-              (stepped (granted p) q) refl refl (u .next))
+              let there = device-in ok p q in
+              let word = same-word c mach ht m (found.memory-stands s r m inv) (p .0) (wordOf a) there in
+              let e = withBytes a w v (words.wordIn m (p .0) (wordOf a)) in
+              let u = puts s r m inv (p .0) (wordOf a) e (word-fits a) there in
+              subst (λ z. Follows (device a w v) s r (servedBy r (writtenBy (heldOf r) (heldOf r) (tr .count) 0 z))) (sym (u .done))
+              (follows-by (device a w v) s (record { config = c; machine = stored c mach (p .0) (wordOf a) e; book = holding (s .book) (dropWord (p .0) (wordOf a) (s .book .held)) }) r
+              (withHeld r (record { pool = u .pool; frame = r .guest .held })) (answer.Done (tr .count) (0 + one (watched (p .0) (s .book .held)))) (say.done (tr .count) (0 + one (watched (p .0) (s .book .held)))) (u .memory)
+              (stepped (granted p) q ∙ ap (λ z. (say.done (tr .count) (0 + one (watched (p .0) (s .book .held))), record { config = c; machine = stored c mach (p .0) (wordOf a) (withBytes a w v z); book = holding (s .book) (dropWord (p .0) (wordOf a) (s .book .held)) })) (sym word)) refl refl (u .next))
 
-      pub device-follows : Follows (device a v) s r (deviceCall r m a v)
+      pub device-follows : Follows (device a w v) s r (deviceCall r m a w v)
       unfolding deviceCall deviceOf refusal tests
-      device-follows = judged-by (device a v) s r m _ inv (tested 4 (device a v) (deviceOk r a) _ refl (λ ok. device-is ok ((deviceWalk c mach a) .result) refl))
+      device-follows = placed-by (device a w v) w (addressOk true c a w) _ refl (λ wide ok. device-is wide ok ((deviceWalk c mach a) .result) refl)

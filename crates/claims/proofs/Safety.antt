@@ -18,6 +18,7 @@ use Rattle.spec.specs.declared.Answer.{Answer}
 use Rattle.spec.specs.declared.Answer.the-variants as answer
 use Rattle.spec.specs.Config.{Config, guestBase}
 use Rattle.spec.specs.Entry.{present, pageOf, wordOf, indexes}
+use Rattle.spec.specs.Bytes.{widthFits, withBytes}
 use Rattle.spec.specs.Plain.{next}
 use Rattle.spec.specs.Machine.{place}
 use Rattle.spec.specs.Call.{Call, root, map, unmap, setMark, clearMark, load, store, device, forecast}
@@ -28,7 +29,7 @@ use Rattle.pool.specs.declared.Area.{Area}
 use Rattle.pool.specs.declared.Pool.{Pool}
 use Rattle.pool.specs.declared.Way.{Way}
 use Rattle.pool.specs.declared.Way.the-variants.{To, Not, Damaged}
-use Rattle.words.specs.Words.{at, setIn}
+use Rattle.words.specs.Words.{at, wordIn, setIn}
 use Rattle.pool.specs.Header.{entryAtOf, putEntryOf, bareOf}
 use Rattle.pool.specs.Pool.{onWay, end, withTop, withFreed, freeWords}
 use Rattle.area.specs.Tree.{roomOf, enterOf, descendOf, downOf, placeOf, insertOf}
@@ -70,7 +71,7 @@ use Rattle.translate.proofs.Fits.{ArrivedIn}
 use Rattle.translate.proofs.Leaves.{Leaves, translate-leaves}
 use Rattle.request.proofs.Leaves.{put-leaves}
 use Rattle.request.proofs.Device.{device-in}
-use Rattle.calls.specs.Calls.{hostTop, heldOf, rootOf, headHeld, headHost, nothing, ended, refused, judged, withHeld, withHost, servedBy, addressOk, deviceOk, depthAt, translatedOf, loadCall, storeCall, deviceCall, rootCall, droppedBy, unmappedOf, mappedBy, mapCall, unmapCall, heldAfter, markedOf, callOf, keysOf, setMarkCall, clearMarkCall, forecastCall, openCall}
+use Rattle.calls.specs.Calls.{hostTop, heldOf, rootOf, headHeld, headHost, nothing, ended, refused, judged, placed, withHeld, withHost, servedBy, addressOk, depthAt, translatedOf, loadCall, storeCall, deviceCall, rootCall, droppedBy, unmappedOf, mappedBy, mapCall, unmapCall, heldAfter, markedOf, callOf, keysOf, setMarkCall, clearMarkCall, forecastCall, openCall}
 use Rattle.calls.proofs.Ranges.{fits-held}
 use Rattle.claims.specs.Safety.{GuestKept, Numbered, RefusalKept, Untouched, Foretells, Keeps, OpenKeeps}
 use Rattle.claims.specs.Run.{guestArea}
@@ -154,6 +155,10 @@ module _ (r : Record) (m : List ℕ) where
   tested-kept : (b : Bool) (e : After Reply) (n : ℕ) → Numbered n → Kept r m e → Kept r m (cond b e (refused r n m))
   tested-kept true e n l k = k
   tested-kept false e n l k = refusal-kept n l
+
+  -- those of a request: 3, 15 and 4
+  placed-kept : (w : ℕ) (b : Bool) (e : After Reply) → (fitsOf r (length m) ≡ true → Kept r m e) → Kept r m (placed r m w b e)
+  placed-kept w b e f = judged-kept _ (λ q. tested-kept (widthFits w) _ 15 tt (tested-kept b e 4 tt (f q)))
 
 -- ---- an insert or a remove that answers Not has changed nothing
 abbrev Sure : Way → Type 0
@@ -338,17 +343,17 @@ module _ (r : Record) (m : List ℕ) where
   unfolding translatedOf
   leaves f st a = translate-leaves (configOf r) (hostTop r) m st (heldOf r) (fits-held r (length m) f) (rootOf r) a (depthAt r a)
 
-  loaded-kept : (a : ℕ) (o : After Translated) → Tables r m (o .memory) → (w : Walked) → Kept r m (loadedBy r a o w)
-  loaded-kept a o x (walked.Arrived t w n) = guest-kept (held-layout r (o .result .held)) x
-  loaded-kept a o x (walked.Faulted y n) = guest-kept (held-layout r (o .result .held)) x
-  loaded-kept a o x walked.Damaged = damage-same (o .memory) x
+  loaded-kept : (a w : ℕ) (o : After Translated) → Tables r m (o .memory) → (x : Walked) → Kept r m (loadedBy r a w o x)
+  loaded-kept a w o x (walked.Arrived t y n) = guest-kept (held-layout r (o .result .held)) x
+  loaded-kept a w o x (walked.Faulted y n) = guest-kept (held-layout r (o .result .held)) x
+  loaded-kept a w o x walked.Damaged = damage-same (o .memory) x
 
-  load-kept : (a : ℕ) → Kept r m (loadCall r m a)
+  load-kept : (a w : ℕ) → Kept r m (loadCall r m a w)
   unfolding loadCall loadOf translatedOf
-  load-kept a =
+  load-kept a w =
       let o = translatedOf r m false a in
-      judged-kept r m _ (λ f. tested-kept r m (addressOk r a) _ 4 tt
-      (loaded-kept a o (shadow-tables r m (o .memory) (leaves f false a .same)) (o .result .walked)))
+      placed-kept r m w (addressOk false (configOf r) a w) _ (λ f.
+      (loaded-kept a w o (shadow-tables r m (o .memory) (leaves f false a .same)) (o .result .walked)))
 
   -- a store that came to word i of host frame t; n is the memory after its translation
   written-kept : Fits r (length m) → (h : Holding) (k x : ℕ) (n : List ℕ) (t i v : ℕ) → Tables r m n → h .pool .fresh ≤ r .layout .shadows → InGuestArea (configOf r) t → i < 512
@@ -379,29 +384,29 @@ module _ (r : Record) (m : List ℕ) where
       }
       go false z = damage-same (s .memory) (out-trans 0 (guestBase c) m n (s .memory) (shadow-tables r n (s .memory) z) y)
 
-  stored-kept : Fits r (length m) → (a v : ℕ) (o : After Translated) → Tables r m (o .memory) → o .result .held .pool .fresh ≤ r .layout .shadows → (w : Walked) → ArrivedIn (configOf r) w → Kept r m (storedBy r a v o w)
-  stored-kept f a v o x h (walked.Arrived t w n) g =
-      written-kept f (o .result .held) n (o .result .exits) (o .memory) (t .0) (wordOf a) v x h g (word-fits a)
-  stored-kept f a v o x h (walked.Faulted y n) g = guest-kept (held-layout r (o .result .held)) x
-  stored-kept f a v o x h walked.Damaged g = damage-same (o .memory) x
+  stored-kept : Fits r (length m) → (a w v : ℕ) (o : After Translated) → Tables r m (o .memory) → o .result .held .pool .fresh ≤ r .layout .shadows → (y : Walked) → ArrivedIn (configOf r) y → Kept r m (storedBy r a w v o y)
+  stored-kept f a w v o x h (walked.Arrived t y n) g =
+      written-kept f (o .result .held) n (o .result .exits) (o .memory) (t .0) (wordOf a) (withBytes a w v (wordIn (o .memory) (t .0) (wordOf a))) x h g (word-fits a)
+  stored-kept f a w v o x h (walked.Faulted y n) g = guest-kept (held-layout r (o .result .held)) x
+  stored-kept f a w v o x h walked.Damaged g = damage-same (o .memory) x
 
-  store-kept : (a v : ℕ) → Kept r m (storeCall r m a v)
+  store-kept : (a w v : ℕ) → Kept r m (storeCall r m a w v)
   unfolding storeCall storeOf translatedOf
-  store-kept a v =
+  store-kept a w v =
       let o = translatedOf r m true a in
-      judged-kept r m _ (λ f. tested-kept r m (addressOk r a) _ 4 tt
+      placed-kept r m w (addressOk false (configOf r) a w) _ (λ f.
       (let l = leaves f true a in
-      stored-kept (fits-layout r (length m) f) a v o (shadow-tables r m (o .memory) (l .same)) (l .held .0) (o .result .walked) (l .arrived)))
+      stored-kept (fits-layout r (length m) f) a w v o (shadow-tables r m (o .memory) (l .same)) (l .held .0) (o .result .walked) (l .arrived)))
 
-  device-kept : (a v : ℕ) → Kept r m (deviceCall r m a v)
+  device-kept : (a w v : ℕ) → Kept r m (deviceCall r m a w v)
   unfolding deviceCall deviceOf
-  device-kept a v =
-      judged-kept r m _ (λ f. tested-kept r m (deviceOk r a) _ 4 tt
+  device-kept a w v =
+      placed-kept r m w (addressOk true (configOf r) a w) _ (λ f.
       (go (fits-layout r (length m) f) (walkedOf (configOf r) (hostTop r) m 0 (next true true (pageOf a) true)) (device-in (configOf r) (hostTop r) m (pageOf a))))
     where
-      go : Fits r (length m) → (w : Walked) → ArrivedIn (configOf r) w → Kept r m (servedBy r (deviceBy (configOf r) m (heldOf r) a v w))
-      go f (walked.Arrived t w n) g =
-          written-kept f (heldOf r) n 0 m (t .0) (wordOf a) v (none-changed r m) (f .shadow .0) g (word-fits a)
+      go : Fits r (length m) → (y : Walked) → ArrivedIn (configOf r) y → Kept r m (servedBy r (deviceBy (configOf r) m (heldOf r) a w v y))
+      go f (walked.Arrived t y n) g =
+          written-kept f (heldOf r) n 0 m (t .0) (wordOf a) (withBytes a w v (wordIn m (t .0) (wordOf a))) (none-changed r m) (f .shadow .0) g (word-fits a)
       go f (walked.Faulted y n) g = guest-kept (held-layout r (heldOf r)) (none-changed r m)
       go f walked.Damaged g = damage-same m (none-changed r m)
 
@@ -546,9 +551,9 @@ demand-1 (map g f w) r m = map-call-kept r m g f w
 demand-1 (unmap g) r m = unmap-call-kept r m g
 demand-1 (setMark a n) r m = set-kept r m a n
 demand-1 (clearMark a n) r m = clear-kept r m a n
-demand-1 (load a) r m = load-kept r m a
-demand-1 (store a v) r m = store-kept r m a v
-demand-1 (device a v) r m = device-kept r m a v
+demand-1 (load a w) r m = load-kept r m a w
+demand-1 (store a w v) r m = store-kept r m a w v
+demand-1 (device a w v) r m = device-kept r m a w v
 demand-1 (forecast xs) r m = forecast-kept r m xs
 
 open-numbers : (words h s : ℕ) → refusalOf words h s ≢ 0 → (refusalOf words h s ≡ 1) ⊎ (refusalOf words h s ≡ 2)

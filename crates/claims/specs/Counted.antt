@@ -12,6 +12,7 @@ use Rattle.spec.specs.declared.Answer.{Answer}
 use Rattle.spec.specs.declared.Answer.the-variants as answer
 use Rattle.spec.specs.Config.{Config, guestBase}
 use Rattle.spec.specs.Entry.{wordOf, pageOf, indexes}
+use Rattle.spec.specs.Bytes.{withBytes}
 use Rattle.spec.specs.Walk.{Walk, done, fail, host, word}
 use Rattle.spec.specs.Plain.{levels, walk, upper}
 use Rattle.spec.specs.Machine.{place}
@@ -83,7 +84,7 @@ touchedBy a (walked.Arrived t w n) = (t .0, wordOf a) ∷ []
 touchedBy a (walked.Faulted x n) = []
 touchedBy a walked.Damaged = []
 
--- the word that a load loads or a store stores, if it is granted
+-- the word around the bytes that a load loads or a store stores, if it is granted
 unfoldable pub touchedOf : Record → List ℕ → Bool → ℕ → List Word
 touchedOf r m st a = touchedBy a (translatedOf r m st a .result .walked)
 
@@ -103,11 +104,11 @@ References x (answer.Faulted y n e) = n ≡ x
 References x (answer.Refused n) = Unit {0}
 References x (answer.Figures n e t) = n ≡ x
 
--- a call on memory m is granted with k references and x exits and touches word i of host frame t: v stands there, and no other
--- word of the guest area changes
-pub record Touches (r : Record) (m : List ℕ) (k x t i v : ℕ) (e : After Reply) : Type 0 where
+-- a store of w bytes at the address a, on memory m, is granted with k references and x exits in host frame t: they are those of v,
+-- and nothing else of the guest area changes
+pub record Touches (r : Record) (m : List ℕ) (k x t a w v : ℕ) (e : After Reply) : Type 0 where
   pub says : e .result .answer ≡ answer.Done k x
-  pub area : guestArea r (e .memory) ≡ set (guestArea r m) (place (configOf r) t i) v
+  pub area : guestArea r (e .memory) ≡ set (guestArea r m) (place (configOf r) t (wordOf a)) (withBytes a w v (wordIn m t (wordOf a)))
 
 -- a call on memory m is refused with 11, and no word of the guest area changes
 pub record Refuses (r : Record) (m : List ℕ) (e : After Reply) : Type 0 where
@@ -119,11 +120,11 @@ pub record Refuses (r : Record) (m : List ℕ) (e : After Reply) : Type 0 where
 abbrev pub SameTables : Config → List ℕ → List ℕ → Type 0
 SameTables c m n = (f : ℕ) → f < guestBase c → SameFrame m n f
 
--- a store that is granted on memory m, and the same store on memory n: there it touches the same word with as many references, or
--- is refused with 11; if no host or shadow word differs it touches the word, and its exits stay the same too
-pub record SameStore (r : Record) (m n : List ℕ) (a v k x : ℕ) : Type 0 where
+-- a store that is granted on memory m, and the same store on memory n: there it touches the same bytes with as many references, or
+-- is refused with 11; if no host or shadow word differs it touches them, and its exits stay the same too
+pub record SameStore (r : Record) (m n : List ℕ) (a w v k x : ℕ) : Type 0 where
   pub frame : ℕ
   pub touched : touchedOf r m true a ≡ (frame, wordOf a) ∷ []
-  pub before : Touches r m k x frame (wordOf a) v (storeCall r m a v)
-  pub altered : ((y : ℕ) × Touches r n k y frame (wordOf a) v (storeCall r n a v)) ⊎ Refuses r n (storeCall r n a v)
-  pub only : SameTables (configOf r) m n → Touches r n k x frame (wordOf a) v (storeCall r n a v)
+  pub before : Touches r m k x frame a w v (storeCall r m a w v)
+  pub altered : ((y : ℕ) × Touches r n k y frame a w v (storeCall r n a w v)) ⊎ Refuses r n (storeCall r n a w v)
+  pub only : SameTables (configOf r) m n → Touches r n k x frame a w v (storeCall r n a w v)

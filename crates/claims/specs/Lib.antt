@@ -3,3 +3,4 @@ pub mod Safety
 pub mod Plain
 pub mod Counted
 pub mod Lookups
+pub mod Bytes

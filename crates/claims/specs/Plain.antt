@@ -1,4 +1,4 @@
--- What demand 2 says of a load or a store: granted at the word of the plain two-level walk, or with its fault; and how many words it read.
+-- What demand 2 says of a load or a store: granted at the bytes of the plain two-level walk, or with its fault; and how many words it read.
 -- Assumes nothing.
 use mathlib.Core.Path.{_≡_}
 use Prim.Native.Nat.{ℕ, suc, _+_, _*_, _≤_}
@@ -12,6 +12,7 @@ use Rattle.spec.specs.declared.Answer.the-variants as answer
 use Rattle.spec.specs.Answer as say
 use Rattle.spec.specs.Answer.{Line, line, faultLine}
 use Rattle.spec.specs.Entry.{wordOf, pageOf, indexes}
+use Rattle.spec.specs.Bytes.{bytesAt, withBytes}
 use Rattle.spec.specs.Plain.{walk}
 use Rattle.spec.specs.Machine.{place}
 use Rattle.spec.specs.Call.{Call, load, store}
@@ -26,36 +27,36 @@ use Rattle.claims.specs.Run.{guestArea}
 use Rattle.words.specs.After.{After}
 use Rattle.calls.specs.declared.Reply.{Reply}
 
--- ---- a load, or a store of a value
+-- ---- a load of w bytes, or a store of the low w bytes of a value
 abbrev pub isStore : Option ℕ → Bool
 isStore none = false
 isStore (some v) = true
 
-abbrev pub requestAt : ℕ → Option ℕ → Call
-requestAt a none = load a
-requestAt a (some v) = store a v
+abbrev pub requestAt : ℕ → ℕ → Option ℕ → Call
+requestAt a w none = load a w
+requestAt a w (some v) = store a w v
 
--- what it says with n references and x exits where it is granted at the word w
-abbrev pub grantedLine : Option ℕ → ℕ → ℕ → ℕ → Line
-grantedLine none w n x = say.value w n x
-grantedLine (some v) w n x = say.done n x
+-- what it says with n references and x exits where it is granted and its bytes lie in the word e
+abbrev pub grantedLine : ℕ → ℕ → Option ℕ → ℕ → ℕ → ℕ → Line
+grantedLine a w none e n x = say.value (bytesAt a w e) n x
+grantedLine a w (some v) e n x = say.done n x
 
--- what it makes of the guest area, at a place of it
-abbrev pub touched : Option ℕ → List ℕ → ℕ → List ℕ
-touched none area k = area
-touched (some v) area k = set area k v
+-- what it makes of the guest area, in the word e at a place of it
+abbrev pub touched : ℕ → ℕ → Option ℕ → ℕ → List ℕ → ℕ → List ℕ
+touched a w none e area k = area
+touched a w (some v) e area k = set area k (withBytes a w v e)
 
 -- the plain two-level walk of a over the guest's and the host's tables as they stand in the memory
 abbrev pub plainWalk : Record → List ℕ → Bool → ℕ → Walked
 plainWalk r m st a = walkedOf (configOf r) (hostTop r) m 0 (walk (configOf r) st (rootOf r) (indexes (configOf r .levels) (pageOf a)))
 
--- e is what a request leaves that is granted at its word of host frame t. It read N + N·d words for the depth d of its address, at
+-- e is what a request leaves that is granted at its bytes of host frame t. It read N + N·d words for the depth d of its address, at
 -- most 24 with four levels
-pub record Granted (r : Record) (m : List ℕ) (a : ℕ) (v : Option ℕ) (e : After Reply) (t : ℕ) : Type 0 where
+pub record Granted (r : Record) (m : List ℕ) (a w : ℕ) (v : Option ℕ) (e : After Reply) (t : ℕ) : Type 0 where
   pub exits : ℕ
-  pub says : line (e .result .answer) ≡ grantedLine v (words.wordIn m t (wordOf a)) (configOf r .levels + configOf r .levels * depthAt r a) exits
+  pub says : line (e .result .answer) ≡ grantedLine a w v (words.wordIn m t (wordOf a)) (configOf r .levels + configOf r .levels * depthAt r a) exits
   pub most : configOf r .levels + configOf r .levels * depthAt r a ≤ configOf r .levels + configOf r .levels * suc (configOf r .levels)
-  pub area : guestArea r (e .memory) ≡ touched v (guestArea r m) (place (configOf r) t (wordOf a))
+  pub area : guestArea r (e .memory) ≡ touched a w v (words.wordIn m t (wordOf a)) (guestArea r m) (place (configOf r) t (wordOf a))
 
 -- and one that meets the fault y
 pub record Faulted (r : Record) (m : List ℕ) (e : After Reply) (y : Fault) : Type 0 where
@@ -65,10 +66,10 @@ pub record Faulted (r : Record) (m : List ℕ) (e : After Reply) (y : Fault) : T
   pub area : guestArea r (e .memory) ≡ guestArea r m
 
 -- by what the plain walk came to
-abbrev pub AsWalked : Record → List ℕ → ℕ → Option ℕ → After Reply → Walked → Type 0
-AsWalked r m a v e (walked.Arrived t w n) = Granted r m a v e (t .0)
-AsWalked r m a v e (walked.Faulted y n) = Faulted r m e y
-AsWalked r m a v e walked.Damaged = ⊥
+abbrev pub AsWalked : Record → List ℕ → ℕ → ℕ → Option ℕ → After Reply → Walked → Type 0
+AsWalked r m a w v e (walked.Arrived t y n) = Granted r m a w v e (t .0)
+AsWalked r m a w v e (walked.Faulted y n) = Faulted r m e y
+AsWalked r m a w v e walked.Damaged = ⊥
 
 abbrev pub Unrefused : Answer → Type 0
 Unrefused answer.Ok = Unit {0}

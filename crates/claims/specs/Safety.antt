@@ -33,7 +33,7 @@ pub record OneWord (r : Record) (m : List ℕ) (e : After Reply) : Type 0 where
 
 -- the numbers of the refusals of later calls; 1 and 2 are an opening's, 13 is a job's
 abbrev pub refusals : List ℕ
-refusals = 3 ∷ 4 ∷ 5 ∷ 6 ∷ 7 ∷ 8 ∷ 9 ∷ 10 ∷ 11 ∷ 12 ∷ 14 ∷ []
+refusals = 3 ∷ 4 ∷ 5 ∷ 6 ∷ 7 ∷ 8 ∷ 9 ∷ 10 ∷ 11 ∷ 12 ∷ 14 ∷ 15 ∷ []
 
 abbrev pub Numbered : ℕ → Type 0
 Numbered n = T (any (eqb n) refusals)

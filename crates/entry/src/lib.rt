@@ -1,9 +1,11 @@
-// The three address sorts and the bits of an entry. What each function yields is what the specification's definition gives.
+// The three address sorts, the widths of an access and the bits of an entry. What each function yields is what the specification's definition gives.
 ghost use mathlib.Core.Path.{_≡_};
 ghost use mathlib.Core.Bool.{_&&_};
 ghost use Prim.Native.Nat.{_+_, _*_, _<_};
 ghost use Rattle.spec.specs.Config.{frameBits};
-ghost use Rattle.spec.specs.Refusal.{addressFits, wordAligned};
+ghost use lib.Dec.{T};
+ghost use Rattle.spec.specs.Bytes.{widthFits, aligned};
+ghost use Rattle.spec.specs.Refusal.{addressFits};
 ghost use Rattle.entry.specs.Levels.{ofLevels};
 ghost use Rattle.spec.specs.Entry.{present, writable, switch, frameOf, malformed, index, pageOf};
 
@@ -32,13 +34,13 @@ impl GuestVirtual {
         moved >> (12 + 9 * levels) == 0
     }
 
-    // Is it the address of a word that tables of that many levels translate?
-    pub fn names_word(self, levels: u64) -> bool
-        requires { ⌜ levels < 6 ⌝ }
-        ensures { λ r. ⌜ r ≡ (addressFits (ofLevels levels) (self .0) && wordAligned (self .0)) ⌝ }
+    // Is it the address of so many bytes that tables of that many levels translate?
+    pub fn names_bytes(self, levels: u64, width: u64) -> bool
+        requires { ⌜ (levels < 6) × (T (widthFits width)) ⌝ }
+        ensures { λ r. ⌜ r ≡ (addressFits (ofLevels levels) (self .0) && aligned (self .0) width) ⌝ }
     {
         if self.fits(levels) {
-            self.0 % 8 == 0
+            aligned(self.0, width)
         } else {
             false
         }
@@ -50,6 +52,27 @@ impl GuestVirtual {
     {
         self.0 / 4096
     }
+}
+
+// Is it the width of an access, in bytes? From 1 to 8, the powers of two have no bit in common with the number below them.
+pub fn width_fits(width: u64) -> bool
+    ensures { λ r. ⌜ r ≡ widthFits width ⌝ }
+{
+    if width == 0 {
+        return false;
+    }
+    if 8 < width {
+        return false;
+    }
+    width & (width - 1) == 0
+}
+
+// Is the address a multiple of the width? That is a power of two, so the bits below it say it without a division.
+pub fn aligned(address: u64, width: u64) -> bool
+    requires { ⌜ T (widthFits width) ⌝ }
+    ensures { λ r. ⌜ r ≡ aligned address width ⌝ }
+{
+    address & (width - 1) == 0
 }
 
 // The index of a page or frame number that has `below` levels below it.

@@ -15,7 +15,8 @@ use Rattle.spec.specs.Entry.{indexes, pageOf}
 use Rattle.spec.specs.Prefix.{any}
 use Rattle.spec.specs.Plain.{walk}
 use Rattle.spec.specs.Count.{one}
-use Rattle.spec.specs.Refusal.{addressFits, wordAligned}
+use Rattle.spec.specs.Bytes.{aligned}
+use Rattle.spec.specs.Refusal.{addressFits}
 use Rattle.spec_laws.proofs.Indexes.{indexes-length}
 use Rattle.words.specs.After.{After, yields}
 use Rattle.layout.specs.declared.HostWalk.{HostWalk}
@@ -142,7 +143,7 @@ module _ (c : Config) (ht : ℕ) (m : List ℕ) (h : Held) (root : ℕ) (five : 
 
   pub address-fits : (marks : List ℕ) (a : ℕ) → NextFits (suc i) (addressOf c ht m h root marks ks o a .result)
   unfolding addressOf
-  address-fits marks a = go (addressFits c a && wordAligned a)
+  address-fits marks a = go (addressFits c a && aligned a 8)
     where
       go : (b : Bool) → NextFits (suc i) (cond {A = After Next} b (loadOf c ht m h root ks o a (searchOf (c .levels) (lowPage (c .levels) a) marks .depth)) (yields (Go o) ks) .result)
       go true = load-fits a (searchOf (c .levels) (lowPage (c .levels) a) marks .depth)

@@ -14,7 +14,8 @@ use Rattle.spec.specs.Config.{Config}
 use Rattle.spec.specs.Prefix.{any}
 use Rattle.spec.specs.Plain.{walk}
 use Rattle.spec.specs.Count.{one}
-use Rattle.spec.specs.Refusal.{addressFits, wordAligned, forecastRoom}
+use Rattle.spec.specs.Bytes.{aligned}
+use Rattle.spec.specs.Refusal.{addressFits, forecastRoom}
 use Rattle.words.specs.After.{After, yields}
 use Rattle.layout.specs.declared.HostWalk.{HostWalk}
 use Rattle.layout.specs.declared.HostWalk.the-variants as host
@@ -113,7 +114,7 @@ loadOf c ht m h root ks o a d =
 -- an address that would meet 4 costs nothing; marks: the keys of those that are set
 unfoldable pub addressOf : Config → ℕ → List ℕ → Held → ℕ → List ℕ → List ℕ → Outlook → ℕ → After Next
 addressOf c ht m h root marks ks o a =
-    cond (addressFits c a && wordAligned a) (loadOf c ht m h root ks o a (searchOf (c .levels) (lowPage (c .levels) a) marks .depth)) (yields (Go o) ks)
+    cond (addressFits c a && aligned a 8) (loadOf c ht m h root ks o a (searchOf (c .levels) (lowPage (c .levels) a) marks .depth)) (yields (Go o) ks)
 
 -- on with the list, or 11
 abbrev pub onward : Next → (Outlook → Answer) → Answer

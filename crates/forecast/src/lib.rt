@@ -354,7 +354,7 @@ fn one_address(
     ensures { λ r. ⌜ yields r (now (room .exit)) ≡ addressOf (config (space .layout)) (space .top) (now (mem .entry)) held (root .0) (keys (now (place .entry)) set) (now (room .entry)) before (address .0) ⌝ }
 {
     let levels = space.layout.levels;
-    if !address.names_word(levels) {
+    if !address.names_bytes(levels, 8) {
         return Next::Go(before);
     }
     let d = depth::depth(place, set, levels, address);

@@ -52,9 +52,9 @@ asked (call.Map g f w) = asks.map g f w
 asked (call.Unmap g) = asks.unmap g
 asked (call.SetMark a n) = asks.setMark a n
 asked (call.ClearMark a n) = asks.clearMark a n
-asked (call.Load a) = asks.load a
-asked (call.Store a v) = asks.store a v
-asked (call.Device a v) = asks.device a v
+asked (call.Load a) = asks.loadWord a
+asked (call.Store a v) = asks.storeWord a v
+asked (call.Device a v) = asks.deviceWord a v
 
 -- a body of another length than its kind's is 13
 abbrev pub sized : ℕ → List ℕ → Job → Job

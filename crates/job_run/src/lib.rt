@@ -10,6 +10,9 @@ use job_records::Job;
 use record::Record;
 use spec::Answer;
 
+// A job's loads and stores are of whole words.
+const WIDTH: u64 = 8;
+
 // What a record leaves: whether an open was granted so far, the record in use, the answer, and whether the job goes on.
 pub struct Ran {
     pub opened: bool,
@@ -32,9 +35,9 @@ fn run_call(unit: Record, mem: &mut [u64], call: Call) -> Reply
         Call::Unmap(g) => unit::unmap(unit, mem, g),
         Call::SetMark { address, level } => unit::set_mark(unit, mem, address, level),
         Call::ClearMark { address, level } => unit::clear_mark(unit, mem, address, level),
-        Call::Load(a) => unit::load(unit, mem, a),
-        Call::Store { address, value } => unit::store(unit, mem, address, value),
-        Call::Device { address, value } => unit::device_store(unit, mem, address, value),
+        Call::Load(a) => unit::load(unit, mem, a, WIDTH),
+        Call::Store { address, value } => unit::store(unit, mem, address, WIDTH, value),
+        Call::Device { address, value } => unit::device_store(unit, mem, address, WIDTH, value),
     }
 }
 

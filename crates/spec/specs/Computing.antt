@@ -2,6 +2,7 @@
 -- Assumes nothing.
 use Prim.Native.Nat.{ℕ}
 use Rattle.spec.specs.Entry.{bitSet, present, writable, frameOf, malformed, index, indexes, pageOf, wordOf}
+use Rattle.spec.specs.Bytes.{part, withPart, bytesAt, withBytes}
 use Rattle.spec.specs.Walk.{trace}
 use Rattle.spec.specs.Plain.{hosted, entry, next, levels, walk}
 use Rattle.spec.specs.Machine.{hostCost, world}
@@ -13,5 +14,5 @@ use Rattle.spec.specs.Run.{step, run, after, opening}
 
 -- written `unfolding specifying`; its value is nobody's
 unfoldable pub specifying : ℕ
-unfolding bitSet present writable frameOf malformed index indexes pageOf wordOf trace hosted entry next levels walk hostCost world plain deviceWalk access machineStep request storing bookStep openRefusal alikeFrom tests refusal served figuresOf step run after opening
+unfolding bitSet present writable frameOf malformed index indexes pageOf wordOf part withPart bytesAt withBytes trace hosted entry next levels walk hostCost world plain deviceWalk access machineStep request storing bookStep openRefusal alikeFrom tests refusal served figuresOf step run after opening
 specifying = 0

@@ -72,7 +72,7 @@ request c m b st a d =
     (unshadowed b (plain c m st a))
 
 -- a store that is granted, after its path is filled: one exit more if its frame is watched, then the paths that read the word are
--- dropped. i: the word of the frame that the store came to
+-- dropped. i: the word of the frame around the bytes that the store came to
 unfoldable pub storing : ℕ → Result Fault Place → Counted → Counted
 storing i (failed x) k = k
 storing i (granted p) k = record {
@@ -94,10 +94,10 @@ bookStep c (setMark a n) m b =
 bookStep c (clearMark a n) m b =
     let x : Mark = markAt c n (addressIndexes c a) in
     free (record { marks = keep (λ y. not (sameMark x y)) (b .marks); held = dropPrefix (x .prefix) (b .held) })
-bookStep c (load a) m b = request c m b false a (depth (b .marks) (addressIndexes c a))
-bookStep c (store a v) m b =
+bookStep c (load a w) m b = request c m b false a (depth (b .marks) (addressIndexes c a))
+bookStep c (store a w v) m b =
     storing (wordOf a) ((plain c m true a) .result) (request c m b true a (depth (b .marks) (addressIndexes c a)))
-bookStep c (device a v) m b =
+bookStep c (device a w v) m b =
     let r : Trace Fault Place = deviceWalk c m a in
     storing (wordOf a) (r .result) (unshadowed b r)
 bookStep c (forecast xs) m b = free b

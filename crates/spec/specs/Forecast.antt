@@ -1,4 +1,4 @@
--- What serving a list of load addresses, one after the other, would cost. Document 02, 2).
+-- What serving a list of load addresses, one after the other and of a word each, would cost. Document 02, 2).
 -- Assumes nothing.
 use Prim.Native.Nat.{ℕ, _+_, max}
 use mathlib.Core.List.{List, [], _∷_}
@@ -6,7 +6,7 @@ use mathlib.Core.Option.{Option, none, some}
 use Rattle.spec.specs.Config.{Config}
 use Rattle.spec.specs.Machine.{Machine}
 use Rattle.spec.specs.Book.{Book, shadowTables}
-use Rattle.spec.specs.Call.{load}
+use Rattle.spec.specs.Call.{loadWord}
 use Rattle.spec.specs.Count.{Counted, free, bookStep}
 use Rattle.spec.specs.Refusal.{refusal}
 
@@ -20,10 +20,10 @@ pub record Figures : Type 0 where
 -- A load leaves the machine as it is
 abbrev pub servedBy : Config → Machine → ℕ → Book → Option ℕ → Counted
 servedBy c m a b (some n) = free b
-servedBy c m a b none = bookStep c (load a) m b
+servedBy c m a b none = bookStep c (loadWord a) m b
 
 unfoldable pub served : Config → Machine → ℕ → Book → Counted
-served c m a b = servedBy c m a b (refusal c (load a) m b)
+served c m a b = servedBy c m a b (refusal c (loadWord a) m b)
 
 -- a load that was served, and the figures of those after it; t: the tables in use before it
 abbrev pub plus : ℕ → Counted → Figures → Figures

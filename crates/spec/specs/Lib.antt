@@ -2,6 +2,7 @@ pub mod Answer
 pub mod Config
 pub mod Entry
 pub mod Prefix
+pub mod Bytes
 pub mod Walk
 pub mod Plain
 pub mod Machine

@@ -7,6 +7,7 @@ use mathlib.Core.Option.{Option, none, some}
 use lib.Dec.{eqb, leb, ltb}
 use lib.ListN.{length}
 use Rattle.spec.specs.Config.{Config, guestBase, signBit, frameBits}
+use Rattle.spec.specs.Bytes.{widthFits, aligned}
 use Rattle.spec.specs.Machine.{Machine, with, isMapped, hostTables}
 use Rattle.spec.specs.Book.{Mark, Book, markAt, isSet}
 use Rattle.spec.specs.Call.{Call, root, map, unmap, setMark, clearMark, load, store, device, forecast, addressIndexes}
@@ -85,7 +86,7 @@ recordFits r len =
 unfoldable pub alikeFrom : ℕ → ℕ → Bool
 alikeFrom k a = eqb (a / 2 ^ k) 0 || eqb (a / 2 ^ k) (2 ^ (64 - k) - 1)
 
--- refused with 4 unless the address is legal and a multiple of 8; a mark's must only be legal. A guest-virtual address is legal in the
+-- refused with 4 unless the address is legal and a multiple of the width; a mark's must only be legal. A guest-virtual address is legal in the
 -- lower half and in the upper, where every bit above its indexes repeats the sign bit (document 02, 1)
 abbrev pub addressFits : Config → ℕ → Bool
 addressFits c a = alikeFrom (signBit c) a
@@ -94,18 +95,19 @@ addressFits c a = alikeFrom (signBit c) a
 abbrev pub deviceFits : Config → ℕ → Bool
 deviceFits c a = ltb a (2 ^ (12 + frameBits c))
 
-abbrev pub wordAligned : ℕ → Bool
-wordAligned a = eqb (a % 8) 0
-
 -- how many addresses a forecast takes; more are refused with 14, whatever they are (document 02, 2)
 abbrev pub forecastRoom : ℕ
 forecastRoom = 256
 
+-- the tests of a load or a store of w bytes at the address a; legal: the address is
+abbrev pub accessTests : Bool → ℕ → ℕ → List (Bool × ℕ)
+accessTests legal a w = (widthFits w, 15) ∷ (legal && aligned a w, 4) ∷ []
+
 -- the tests of a call in their order, each with the number that it refuses with
 unfoldable pub tests : Config → Call → Machine → Book → List (Bool × ℕ)
-tests c (load a) m b = (addressFits c a && wordAligned a, 4) ∷ []
-tests c (store a v) m b = (addressFits c a && wordAligned a, 4) ∷ []
-tests c (device a v) m b = (deviceFits c a && wordAligned a, 4) ∷ []
+tests c (load a w) m b = accessTests (addressFits c a) a w
+tests c (store a w v) m b = accessTests (addressFits c a) a w
+tests c (device a w v) m b = accessTests (deviceFits c a) a w
 tests c (root r) m b = (frameFits c r, 8) ∷ []
 tests c (map g f w) m b =
     (frameFits c g, 8) ∷ (inGuestArea c f, 9) ∷ (leb (hostTables c (with g f w (m .mappings))) (c .hosts), 10) ∷ []

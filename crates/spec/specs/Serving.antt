@@ -4,7 +4,7 @@ use Prim.Native.Nat.{ℕ, _+_, max}
 use mathlib.Core.List.{List, [], _∷_}
 use Rattle.spec.specs.Answer.{Line, ok, value, done, fault, no, figures}
 use Rattle.spec.specs.Book.{shadowTables}
-use Rattle.spec.specs.Call.{Call, load}
+use Rattle.spec.specs.Call.{Call, loadWord}
 use Rattle.spec.specs.Forecast.{Figures}
 use Rattle.spec.specs.Run.{State, run}
 
@@ -32,7 +32,7 @@ allPaid f (o ∷ os) = f (o .0) + allPaid f os
 
 abbrev pub loads : List ℕ → List Call
 loads [] = []
-loads (a ∷ xs) = load a ∷ loads xs
+loads (a ∷ xs) = loadWord a ∷ loads xs
 
 abbrev pub tablesIn : State → ℕ
 tablesIn s = shadowTables (s .book .held)

@@ -10,11 +10,10 @@ use lib.ListN.{length}
 use Rattle.spec.specs.declared.Fault.{Fault}
 use Rattle.spec.specs.Answer.{Line}
 use Rattle.spec.specs.Config.{Config}
-use Rattle.spec.specs.Entry.{wordOf}
 use Rattle.spec.specs.Walk.{Result, granted, failed}
 use Rattle.spec.specs.Plain.{Place}
 use Rattle.spec.specs.Machine.{Machine}
-use Rattle.spec.specs.Call.{load, forecast, plain, access, machineStep}
+use Rattle.spec.specs.Call.{loadWord, forecast, plain, access, machineStep}
 use Rattle.spec.specs.Count.{Counted, bookStep}
 use Rattle.spec.specs.Refusal.{forecastRoom, tests, refusal}
 use Rattle.spec.specs.Forecast.{Figures, served, servedBy, plus, figuresOf}
@@ -34,17 +33,17 @@ forecast-changes-nothing xs s = go (refusal (s .config) (forecast xs) (s .machin
 -- ---- one load: a forecast counts it on the machine that it began with
 
 -- and there it stays
-pub load-leaves : (c : Config) (m : Machine) (i : ℕ) (x : Result Fault Place) → (access c m i none x) .1 ≡ m
+pub load-leaves : (c : Config) (m : Machine) (a w : ℕ) (x : Result Fault Place) → (access c m a w none x) .1 ≡ m
 unfolding access
-load-leaves c m i (failed x) = refl
-load-leaves c m i (granted p) = refl
+load-leaves c m a w (failed x) = refl
+load-leaves c m a w (granted p) = refl
 
 -- a load's line says both counts, whether it has a value or a fault
-load-paid : (c : Config) (m : Machine) (i : ℕ) (x : Result Fault Place) (r e : ℕ)
-    → let l = lineOf ((access c m i none x) .0) r e in (referencesPaid l ≡ r) × (exitsPaid l ≡ e)
+load-paid : (c : Config) (m : Machine) (a w : ℕ) (x : Result Fault Place) (r e : ℕ)
+    → let l = lineOf ((access c m a w none x) .0) r e in (referencesPaid l ≡ r) × (exitsPaid l ≡ e)
 unfolding access
-load-paid c m i (failed x) r e = (refl, refl)
-load-paid c m i (granted p) r e = (refl, refl)
+load-paid c m a w (failed x) r e = (refl, refl)
+load-paid c m a w (granted p) r e = (refl, refl)
 
 -- the step o of a load that is really made in state s pays what the forecast counts for it, and leaves the forecast's book
 pub record Loaded (s : State) (k : Counted) (o : Line × State) : Type 0 where
@@ -52,9 +51,9 @@ pub record Loaded (s : State) (k : Counted) (o : Line × State) : Type 0 where
   pub exits : exitsPaid (o .0) ≡ k .exits
   pub state : o .1 ≡ record { config = s .config; machine = s .machine; book = k .book }
 
-pub load-served : (a : ℕ) (s : State) → Loaded s (served (s .config) (s .machine) a (s .book)) (step (load a) s)
+pub load-served : (a : ℕ) (s : State) → Loaded s (served (s .config) (s .machine) a (s .book)) (step (loadWord a) s)
 unfolding step served machineStep bookStep
-load-served a s = go (refusal c (load a) m (s .book))
+load-served a s = go (refusal c (loadWord a) m (s .book))
   where
     c : Config
     c = s .config
@@ -63,14 +62,14 @@ load-served a s = go (refusal c (load a) m (s .book))
     m = s .machine
 
     k : Counted
-    k = bookStep c (load a) m (s .book)
+    k = bookStep c (loadWord a) m (s .book)
 
-    go : (r : Option ℕ) → Loaded s (servedBy c m a (s .book) r) (answered (load a) s r)
+    go : (r : Option ℕ) → Loaded s (servedBy c m a (s .book) r) (answered (loadWord a) s r)
     go (some n) = record { references = refl; exits = refl; state = refl }
     go none =
         let x = (plain c m false a) .result in
-        let p = load-paid c m (wordOf a) x (k .references) (k .exits) in
-        record { references = p .0; exits = p .1; state = ap (λ z. record { config = c; machine = z; book = k .book }) (load-leaves c m (wordOf a) x) }
+        let p = load-paid c m a 8 x (k .references) (k .exits) in
+        record { references = p .0; exits = p .1; state = ap (λ z. record { config = c; machine = z; book = k .book }) (load-leaves c m a 8 x) }
 
 -- ---- the list
 
@@ -78,7 +77,7 @@ pub forecast-serves : (xs : List ℕ) (s : State) → figuresOf (s .config) (s .
 unfolding figuresOf servingFigures run
 forecast-serves [] s = refl
 forecast-serves (a ∷ xs) s =
-    let o = step (load a) s in
+    let o = step (loadWord a) s in
     let k = served (s .config) (s .machine) a (s .book) in
     let l = load-served a s in
     let f : Figures = servingFigures xs (o .1) in

@@ -147,9 +147,9 @@ step-fits x s i = go (refusal (s .config) x (s .machine) (s .book)) refl
     by (unmap g) e = kept-fits c b (λ h. not (usesMapping g h)) i
     by (setMark a n) e = set-keeps c b (markAt c n (addressIndexes c a)) (mark-fits c n a (all-passed (tests c (setMark a n) m b) e .1 .0)) i
     by (clearMark a n) e = clear-keeps c b (markAt c n (addressIndexes c a)) i
-    by (load a) e = request-keeps c m b false a i
-    by (store a v) e = storing-keeps c (wordOf a) _ _ (request-keeps c m b true a i)
-    by (device a v) e = storing-keeps c (wordOf a) _ _ i
+    by (load a w) e = request-keeps c m b false a i
+    by (store a w v) e = storing-keeps c (wordOf a) _ _ (request-keeps c m b true a i)
+    by (device a w v) e = storing-keeps c (wordOf a) _ _ i
     by (forecast xs) e = i
 
     go : (r : Option ℕ) → refusal c x m b ≡ r → BookFits ((answered x s r) .1 .config) ((answered x s r) .1 .book)

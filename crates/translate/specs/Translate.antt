@@ -123,3 +123,7 @@ translateOf c ht m h root st a d =
     cond (ltb (c .levels) d)
     (yields (plainOf c ht m h root st a) m)
     (foundBy c ht m h root st a d (foundOf c m h a d))
+
+-- the translation of a request that no held path serves
+unfoldable pub unservedOf : Config → ℕ → List ℕ → Held → ℕ → Bool → ℕ → ℕ → After Translated
+unservedOf c ht m h root st a d = cond (ltb (c .levels) d) (yields (plainOf c ht m h root st a) m) (missedOf c ht m h root st a d)

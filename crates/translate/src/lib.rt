@@ -4,7 +4,7 @@ ghost use Prim.Native.Nat.{_<_, _≤_};
 ghost use Rattle.spec.specs.Entry.{frameLimit};
 ghost use Rattle.words.specs.After.{yields};
 ghost use Rattle.layout.specs.Layout.{LayoutFits, config};
-ghost use Rattle.translate.specs.Translate.{exitBy, directOf, servedOf, servesOf, pathOf, foundOf, filledOf, missedOf, plainOf, translateOf};
+ghost use Rattle.translate.specs.Translate.{exitBy, directOf, servedOf, servesOf, pathOf, foundOf, filledOf, missedOf, plainOf, unservedOf};
 use entry::GuestPhysical;
 use entry::GuestVirtual;
 use entry::HostPhysical;
@@ -61,7 +61,13 @@ pub fn exit_of(walked: Walked) -> u64
 }
 
 // The walk on from the guest table of the request's depth, or from its page at depth 0.
-fn direct(mem: &[u64], space: Space, request: Request, page: HostPhysical, writable: bool) -> Walked
+pub fn direct(
+    mem: &[u64],
+    space: Space,
+    request: Request,
+    page: HostPhysical,
+    writable: bool,
+) -> Walked
     requires { ⌜ (LayoutFits (space .layout)) × (request .depth ≤ space .layout .levels) × (page .0 < frameLimit) ⌝ }
     ensures { λ r. ⌜ r ≡ directOf (config (space .layout)) (space .top) (now (mem .entry)) (request .store) (request .address .0) (request .depth) (page .0) writable ⌝ }
 {
@@ -110,7 +116,7 @@ pub fn serve(
 // ---- held paths
 
 // Whether a held path with this writable bit serves the request.
-fn serves(store: bool, depth: u64, writable: bool) -> bool
+pub fn serves(store: bool, depth: u64, writable: bool) -> bool
     ensures { λ r. ⌜ r ≡ servesOf store depth writable ⌝ }
 {
     if depth == 0 {
@@ -284,28 +290,19 @@ pub fn plain(
     }
 }
 
-// A request's translation.
-pub fn translate(
+// The translation of a request that no held path serves.
+pub fn unserved(
     mem: &mut [u64],
     space: Space,
     root: GuestPhysical,
     held: Held,
     request: Request,
 ) -> Translated
-    requires { ⌜ (LayoutFits (space .layout)) × (held .frame .0 < frameLimit) ⌝ }
-    ensures { λ r. ⌜ yields r (now (mem .exit)) ≡ translateOf (config (space .layout)) (space .top) (now (mem .entry)) held (root .0) (request .store) (request .address .0) (request .depth) ⌝ }
+    requires { ⌜ LayoutFits (space .layout) ⌝ }
+    ensures { λ r. ⌜ yields r (now (mem .exit)) ≡ unservedOf (config (space .layout)) (space .top) (now (mem .entry)) held (root .0) (request .store) (request .address .0) (request .depth) ⌝ }
 {
     if space.layout.levels < request.depth {
         return plain(mem, space, root, held, request.store, request.address);
     }
-    match found(mem, space.layout, held, request.address, request.depth) {
-        HostWalk::Found { page, writable } => {
-            if serves(request.store, request.depth, writable) {
-                return serve(mem, space, held, request, page, writable, 0);
-            }
-            missed(mem, space, root, held, request)
-        }
-        HostWalk::Absent { reads } => missed(mem, space, root, held, request),
-        HostWalk::Damaged => damaged(held),
-    }
+    missed(mem, space, root, held, request)
 }

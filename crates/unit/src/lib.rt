@@ -78,24 +78,38 @@ pub fn open(mem: &mut [u64], hosts: u64, shadows: u64) -> Reply
     }
 }
 
-pub fn load(unit: Record, mem: &mut [u64], address: u64) -> Reply
-    ensures { λ r. ⌜ Promises r (now (mem .exit)) (loadCall unit (now (mem .entry)) address) ⌝ }
+pub fn load(unit: Record, mem: &mut [u64], address: u64, width: u64) -> Reply
+    ensures { λ r. ⌜ Promises r (now (mem .exit)) (loadCall unit (now (mem .entry)) address width) ⌝ }
 {
-    let s = calls::load_at(unit.head(), &unit.guest.marks.place, mem, address);
+    let s = calls::load_at(unit.head(), &unit.guest.marks.place, mem, address, width);
     served(unit, s)
 }
 
-pub fn store(unit: Record, mem: &mut [u64], address: u64, value: u64) -> Reply
-    ensures { λ r. ⌜ Promises r (now (mem .exit)) (storeCall unit (now (mem .entry)) address value) ⌝ }
+pub fn store(unit: Record, mem: &mut [u64], address: u64, width: u64, value: u64) -> Reply
+    ensures { λ r. ⌜ Promises r (now (mem .exit)) (storeCall unit (now (mem .entry)) address width value) ⌝ }
 {
-    let s = calls::store_at(unit.head(), &unit.guest.marks.place, mem, address, value);
+    let s = calls::store_at(
+        unit.head(),
+        &unit.guest.marks.place,
+        mem,
+        address,
+        width,
+        value,
+    );
     served(unit, s)
 }
 
-pub fn device_store(unit: Record, mem: &mut [u64], address: u64, value: u64) -> Reply
-    ensures { λ r. ⌜ Promises r (now (mem .exit)) (deviceCall unit (now (mem .entry)) address value) ⌝ }
+pub fn device_store(unit: Record, mem: &mut [u64], address: u64, width: u64, value: u64) -> Reply
+    ensures { λ r. ⌜ Promises r (now (mem .exit)) (deviceCall unit (now (mem .entry)) address width value) ⌝ }
 {
-    let s = calls::device_store_at(unit.head(), &unit.guest.marks.place, mem, address, value);
+    let s = calls::device_store_at(
+        unit.head(),
+        &unit.guest.marks.place,
+        mem,
+        address,
+        width,
+        value,
+    );
     served(unit, s)
 }
 

@@ -1,7 +1,8 @@
-// Words of the lent memory: total reads and stores, by place and by frame, and a frame set to 0.
+// Words of the lent memory: total reads and stores, by place and by frame, a frame set to 0, and a part of a word.
 ghost use mathlib.Core.Path.{_≡_};
-ghost use Prim.Native.Nat.{_*_, _<_};
+ghost use Prim.Native.Nat.{_+_, _*_, _<_, _≤_};
 ghost use lib.ListN.{getD, set};
+ghost use Rattle.spec.specs.Bytes.{part, withPart};
 ghost use Rattle.spec.specs.Entry.{frameLimit};
 ghost use Rattle.words.specs.Words.{wordIn, setIn, zeroed};
 
@@ -48,4 +49,20 @@ pub fn zero_frame(mem: &mut [u64], frame: u64)
         set_word(mem, base + i, 0);
         i += 1;
     }
+}
+
+// So many bits of a word from a bit on: those below are shifted out, then those above.
+pub fn part(word: u64, bits: u64, from: u64) -> u64
+    requires { ⌜ (0 < bits) × (bits + from ≤ 64) ⌝ }
+    ensures { λ r. ⌜ r ≡ part bits from word ⌝ }
+{
+    ((word >> from) << (64 - bits)) >> (64 - bits)
+}
+
+// The word with the low bits of a value there: the part that it has is taken away and the new one put in its place.
+pub fn with_part(word: u64, bits: u64, from: u64, value: u64) -> u64
+    requires { ⌜ (0 < bits) × (bits + from ≤ 64) ⌝ }
+    ensures { λ r. ⌜ r ≡ withPart bits from value word ⌝ }
+{
+    word - (part(word, bits, from) << from) + (part(value, bits, 0) << from)
 }

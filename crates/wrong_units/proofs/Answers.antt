@@ -6,7 +6,7 @@ use Prim.Native.Nat.{_^_}
 use mathlib.Core.Bool.{true, false}
 use mathlib.Core.List.{List, [], _∷_, _++_}
 use Rattle.spec.specs.Answer.{ok, value, fault, no}
-use Rattle.spec.specs.Call.{Call, map, setMark, load, store}
+use Rattle.spec.specs.Call.{Call, map, setMark, loadWord, storeWord}
 use Rattle.spec.specs.Guest.{marksOn}
 use Rattle.spec.specs.Run.{step}
 use Rattle.spec.specs.Computing.{specifying}
@@ -20,7 +20,7 @@ use Rattle.wrong_units.proofs.Refute.{Comes, refuted, refuted-opened, b
 abbrev pub plain : List Call
 plain = setMark 0 5 ∷ []
 
-load-right : (step (load 0) (specified memory 4 4 (begin ++ plain))) .0 ≡ value 0x3003 24 0
+load-right : (step (loadWord 0) (specified memory 4 4 (begin ++ plain))) .0 ≡ value 0x3003 24 0
 unfolding specifying
 load-right = refl
 
@@ -30,12 +30,12 @@ flat-comes : Comes flatCounts begin (firstRecord, mappedWords)
 unfolding flatCounts afterBy
 flat-comes = begins-at flatCounts refl other-maps
 
-flat-says : ((unitBy flatCounts) .call (load 0) (afterBy (unitBy flatCounts) plain (firstRecord, mappedWords))) .0 ≡ value 0x3003 4 0
+flat-says : ((unitBy flatCounts) .call (loadWord 0) (afterBy (unitBy flatCounts) plain (firstRecord, mappedWords))) .0 ≡ value 0x3003 4 0
 unfolding flatCounts afterBy calling
 flat-says = refl
 
 pub flat-counts-refuted : Demand-3 (unitBy flatCounts) → ⊥
-flat-counts-refuted = refuted flatCounts begin plain (load 0) (firstRecord, mappedWords) (value 0x3003 4 0) (value 0x3003 24 0) flat-comes flat-says load-right tt
+flat-counts-refuted = refuted flatCounts begin plain (loadWord 0) (firstRecord, mappedWords) (value 0x3003 4 0) (value 0x3003 24 0) flat-comes flat-says load-right tt
 
 -- ---- every request faults: this load is granted
 
@@ -43,12 +43,12 @@ pub faults-comes : Comes faultsAll begin (firstRecord, mappedWords)
 unfolding faultsAll afterBy
 faults-comes = begins-at faultsAll refl other-maps
 
-faults-says : ((unitBy faultsAll) .call (load 0) (afterBy (unitBy faultsAll) plain (firstRecord, mappedWords))) .0 ≡ fault 65 4 0 5 1
+faults-says : ((unitBy faultsAll) .call (loadWord 0) (afterBy (unitBy faultsAll) plain (firstRecord, mappedWords))) .0 ≡ fault 65 4 0 5 1
 unfolding faultsAll afterBy calling
 faults-says = refl
 
 pub faults-all-refuted : Demand-3 (unitBy faultsAll) → ⊥
-faults-all-refuted = refuted faultsAll begin plain (load 0) (firstRecord, mappedWords) (fault 65 4 0 5 1) (value 0x3003 24 0) faults-comes faults-says load-right tt
+faults-all-refuted = refuted faultsAll begin plain (loadWord 0) (firstRecord, mappedWords) (fault 65 4 0 5 1) (value 0x3003 24 0) faults-comes faults-says load-right tt
 
 -- ---- one word for all: the first guest word is the top table's entry 0, and the page has another
 
@@ -56,32 +56,32 @@ pub one-word-comes : Comes oneWord begin (firstRecord, mappedWords)
 unfolding oneWord afterBy
 one-word-comes = begins-at oneWord refl other-maps
 
-one-word-says : ((unitBy oneWord) .call (load 0) (afterBy (unitBy oneWord) plain (firstRecord, mappedWords))) .0 ≡ value 0x1003 24 0
+one-word-says : ((unitBy oneWord) .call (loadWord 0) (afterBy (unitBy oneWord) plain (firstRecord, mappedWords))) .0 ≡ value 0x1003 24 0
 unfolding oneWord afterBy calling
 one-word-says = refl
 
 pub one-word-refuted : Demand-3 (unitBy oneWord) → ⊥
-one-word-refuted = refuted oneWord begin plain (load 0) (firstRecord, mappedWords) (value 0x1003 24 0) (value 0x3003 24 0) one-word-comes one-word-says load-right tt
+one-word-refuted = refuted oneWord begin plain (loadWord 0) (firstRecord, mappedWords) (value 0x1003 24 0) (value 0x3003 24 0) one-word-comes one-word-says load-right tt
 
 -- ---- nothing is stored: a 7 written is read again as 0
 
 abbrev written : List Call
-written = setMark 0 5 ∷ store 0x10 7 ∷ []
+written = setMark 0 5 ∷ storeWord 0x10 7 ∷ []
 
 stores-nothing-comes : Comes storesNothing begin (firstRecord, mappedWords)
 unfolding storesNothing afterBy
 stores-nothing-comes = begins-at storesNothing refl other-maps
 
-stores-nothing-says : ((unitBy storesNothing) .call (load 0x10) (afterBy (unitBy storesNothing) written (firstRecord, mappedWords))) .0 ≡ value 0 24 0
+stores-nothing-says : ((unitBy storesNothing) .call (loadWord 0x10) (afterBy (unitBy storesNothing) written (firstRecord, mappedWords))) .0 ≡ value 0 24 0
 unfolding storesNothing afterBy calling
 stores-nothing-says = refl
 
-written-right : (step (load 0x10) (specified memory 4 4 (begin ++ written))) .0 ≡ value 7 24 0
+written-right : (step (loadWord 0x10) (specified memory 4 4 (begin ++ written))) .0 ≡ value 7 24 0
 unfolding specifying
 written-right = refl
 
 pub stores-nothing-refuted : Demand-3 (unitBy storesNothing) → ⊥
-stores-nothing-refuted = refuted storesNothing begin written (load 0x10) (firstRecord, mappedWords) (value 0 24 0) (value 7 24 0) stores-nothing-comes stores-nothing-says written-right tt
+stores-nothing-refuted = refuted storesNothing begin written (loadWord 0x10) (firstRecord, mappedWords) (value 0 24 0) (value 7 24 0) stores-nothing-comes stores-nothing-says written-right tt
 
 -- ---- version 1: a page that is mapped read-only is W, and no missing page
 
@@ -92,16 +92,16 @@ missing-comes : Comes readOnlyMissing begin (firstRecord, mappedWords)
 unfolding readOnlyMissing afterBy
 missing-comes = begins-at readOnlyMissing refl other-maps
 
-missing-says : ((unitBy readOnlyMissing) .call (store 0 1) (afterBy (unitBy readOnlyMissing) locked (firstRecord, mappedWords))) .0 ≡ fault 72 0 3 24 1
+missing-says : ((unitBy readOnlyMissing) .call (storeWord 0 1) (afterBy (unitBy readOnlyMissing) locked (firstRecord, mappedWords))) .0 ≡ fault 72 0 3 24 1
 unfolding readOnlyMissing afterBy calling
 missing-says = refl
 
-locked-right : (step (store 0 1) (specified memory 4 4 (begin ++ locked))) .0 ≡ fault 87 0 3 24 1
+locked-right : (step (storeWord 0 1) (specified memory 4 4 (begin ++ locked))) .0 ≡ fault 87 0 3 24 1
 unfolding specifying
 locked-right = refl
 
 pub read-only-missing-refuted : Demand-3 (unitBy readOnlyMissing) → ⊥
-read-only-missing-refuted = refuted readOnlyMissing begin locked (store 0 1) (firstRecord, mappedWords) (fault 72 0 3 24 1) (fault 87 0 3 24 1) missing-comes missing-says locked-right tt
+read-only-missing-refuted = refuted readOnlyMissing begin locked (storeWord 0 1) (firstRecord, mappedWords) (fault 72 0 3 24 1) (fault 87 0 3 24 1) missing-comes missing-says locked-right tt
 
 -- ---- 10 with tables free: the second frame has all its tables already
 

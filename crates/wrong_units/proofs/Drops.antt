@@ -6,7 +6,7 @@ use Prim.Native.Nat.{ℕ, _+_, _^_}
 use mathlib.Core.Bool.{Bool, true}
 use mathlib.Core.List.{List, [], _∷_, _++_}
 use Rattle.spec.specs.Answer.{value, no}
-use Rattle.spec.specs.Call.{Call, map, setMark, clearMark, load, store, device}
+use Rattle.spec.specs.Call.{Call, map, setMark, clearMark, loadWord, storeWord, deviceWord}
 use Rattle.spec.specs.Run.{step}
 use Rattle.spec.specs.Computing.{specifying}
 use Rattle.layout.specs.declared.HostWalk.the-variants as host
@@ -48,16 +48,16 @@ stale-mapping-comes : Comes staleMapping (begin ++ hold) (heldRecord, heldWords)
 unfolding staleMapping afterBy
 stale-mapping-comes = holds-at staleMapping marks-set refl (begins-at staleMapping first-same stale-mapping-others)
 
-stale-mapping-says : ((unitBy staleMapping) .call (load 0) (afterBy (unitBy staleMapping) remap (heldRecord, heldWords))) .0 ≡ value 0x3003 16 0
+stale-mapping-says : ((unitBy staleMapping) .call (loadWord 0) (afterBy (unitBy staleMapping) remap (heldRecord, heldWords))) .0 ≡ value 0x3003 16 0
 unfolding staleMapping mapKeeping afterBy calling
 stale-mapping-says = refl
 
-remap-right : (step (load 0) (specified memory 4 4 ((begin ++ hold) ++ remap))) .0 ≡ value 0x2003 16 1
+remap-right : (step (loadWord 0) (specified memory 4 4 ((begin ++ hold) ++ remap))) .0 ≡ value 0x2003 16 1
 unfolding specifying
 remap-right = refl
 
 pub stale-mapping-refuted : Demand-3 (unitBy staleMapping) → ⊥
-stale-mapping-refuted = refuted staleMapping (begin ++ hold) remap (load 0) (heldRecord, heldWords) (value 0x3003 16 0) (value 0x2003 16 1) stale-mapping-comes stale-mapping-says remap-right tt
+stale-mapping-refuted = refuted staleMapping (begin ++ hold) remap (loadWord 0) (heldRecord, heldWords) (value 0x3003 16 0) (value 0x2003 16 1) stale-mapping-comes stale-mapping-says remap-right tt
 
 -- ---- version 3
 
@@ -74,47 +74,47 @@ stale-switch-comes : Comes staleSwitch (begin ++ hold) (heldRecord, heldWords)
 unfolding staleSwitch afterBy
 stale-switch-comes = holds-at staleSwitch stale-switch-marks refl (begins-at staleSwitch refl other-maps)
 
-stale-switch-says : ((unitBy staleSwitch) .call (load 0) (afterBy (unitBy staleSwitch) unmark (heldRecord, heldWords))) .0 ≡ no 11
+stale-switch-says : ((unitBy staleSwitch) .call (loadWord 0) (afterBy (unitBy staleSwitch) unmark (heldRecord, heldWords))) .0 ≡ no 11
 unfolding staleSwitch markKeeping afterBy calling
 stale-switch-says = refl
 
-unmark-right : (step (load 0) (specified memory 4 4 ((begin ++ hold) ++ unmark))) .0 ≡ value 0x3003 4 1
+unmark-right : (step (loadWord 0) (specified memory 4 4 ((begin ++ hold) ++ unmark))) .0 ≡ value 0x3003 4 1
 unfolding specifying
 unmark-right = refl
 
 pub stale-switch-refuted : Demand-3 (unitBy staleSwitch) → ⊥
-stale-switch-refuted = refuted staleSwitch (begin ++ hold) unmark (load 0) (heldRecord, heldWords) (no 11) (value 0x3003 4 1) stale-switch-comes stale-switch-says unmark-right tt
+stale-switch-refuted = refuted staleSwitch (begin ++ hold) unmark (loadWord 0) (heldRecord, heldWords) (no 11) (value 0x3003 4 1) stale-switch-comes stale-switch-says unmark-right tt
 
 -- ---- device stores forgotten
 
 -- A device writes another table's number into entry 0 of the top table, which the held path read. The exit is counted, the path stays,
 -- and the load goes on through the table that was there before.
 abbrev write : List Call
-write = device 0 0x2003 ∷ []
+write = deviceWord 0 0x2003 ∷ []
 
 device-forgotten-comes : Comes deviceForgotten (begin ++ hold) (heldRecord, heldWords)
 unfolding deviceForgotten afterBy
 device-forgotten-comes = holds-at deviceForgotten marks-set refl (begins-at deviceForgotten refl other-maps)
 
-device-forgotten-says : ((unitBy deviceForgotten) .call (load 0) (afterBy (unitBy deviceForgotten) write (heldRecord, heldWords))) .0 ≡ value 0x3003 16 0
+device-forgotten-says : ((unitBy deviceForgotten) .call (loadWord 0) (afterBy (unitBy deviceForgotten) write (heldRecord, heldWords))) .0 ≡ value 0x3003 16 0
 unfolding deviceForgotten deviceWith putKeeping afterBy calling
 device-forgotten-says = refl
 
-write-right : (step (load 0) (specified memory 4 4 ((begin ++ hold) ++ write))) .0 ≡ value 0x2003 16 1
+write-right : (step (loadWord 0) (specified memory 4 4 ((begin ++ hold) ++ write))) .0 ≡ value 0x2003 16 1
 unfolding specifying
 write-right = refl
 
 pub device-forgotten-refuted : Demand-3 (unitBy deviceForgotten) → ⊥
-device-forgotten-refuted = refuted deviceForgotten (begin ++ hold) write (load 0) (heldRecord, heldWords) (value 0x3003 16 0) (value 0x2003 16 1) device-forgotten-comes device-forgotten-says write-right tt
+device-forgotten-refuted = refuted deviceForgotten (begin ++ hold) write (loadWord 0) (heldRecord, heldWords) (value 0x3003 16 0) (value 0x2003 16 1) device-forgotten-comes device-forgotten-says write-right tt
 
 -- ---- drops by guest-virtual page only
 
 -- The guest reaches its own top table through another address, under the second mark, and writes the same entry. What is dropped is
 -- looked for under that address; the path that read the word stays, and leads to the old table.
 abbrev pub through : List Call
-through = store (2 ^ 39 + 0x1000) 0x2003 ∷ []
+through = storeWord (2 ^ 39 + 0x1000) 0x2003 ∷ []
 
-through-right : (step (load 0) (specified memory 4 4 ((begin ++ hold) ++ through))) .0 ≡ value 0x2003 16 1
+through-right : (step (loadWord 0) (specified memory 4 4 ((begin ++ hold) ++ through))) .0 ≡ value 0x2003 16 1
 unfolding specifying
 through-right = refl
 
@@ -122,12 +122,12 @@ by-own-page-comes : Comes byOwnPage (begin ++ hold) (heldRecord, heldWords)
 unfolding byOwnPage afterBy
 by-own-page-comes = holds-at byOwnPage marks-set refl (begins-at byOwnPage refl other-maps)
 
-by-own-page-says : ((unitBy byOwnPage) .call (load 0) (afterBy (unitBy byOwnPage) through (heldRecord, heldWords))) .0 ≡ value 0x3003 16 0
+by-own-page-says : ((unitBy byOwnPage) .call (loadWord 0) (afterBy (unitBy byOwnPage) through (heldRecord, heldWords))) .0 ≡ value 0x3003 16 0
 unfolding byOwnPage storeWith putKeeping afterBy calling
 by-own-page-says = refl
 
 pub by-own-page-refuted : Demand-3 (unitBy byOwnPage) → ⊥
-by-own-page-refuted = refuted byOwnPage (begin ++ hold) through (load 0) (heldRecord, heldWords) (value 0x3003 16 0) (value 0x2003 16 1) by-own-page-comes by-own-page-says through-right tt
+by-own-page-refuted = refuted byOwnPage (begin ++ hold) through (loadWord 0) (heldRecord, heldWords) (value 0x3003 16 0) (value 0x2003 16 1) by-own-page-comes by-own-page-says through-right tt
 
 -- ---- nothing is dropped
 
@@ -144,31 +144,31 @@ pub never-drops-comes : Comes neverDrops (begin ++ hold) (heldRecord, heldWords)
 unfolding neverDrops afterBy
 never-drops-comes = holds-at neverDrops never-drops-marks refl (begins-at neverDrops first-same never-drops-others)
 
-never-drops-says : ((unitBy neverDrops) .call (load 0) (afterBy (unitBy neverDrops) through (heldRecord, heldWords))) .0 ≡ value 0x3003 16 0
+never-drops-says : ((unitBy neverDrops) .call (loadWord 0) (afterBy (unitBy neverDrops) through (heldRecord, heldWords))) .0 ≡ value 0x3003 16 0
 unfolding neverDrops storeWith putKeeping afterBy calling
 never-drops-says = refl
 
 pub never-drops-refuted : Demand-3 (unitBy neverDrops) → ⊥
-never-drops-refuted = refuted neverDrops (begin ++ hold) through (load 0) (heldRecord, heldWords) (value 0x3003 16 0) (value 0x2003 16 1) never-drops-comes never-drops-says through-right tt
+never-drops-refuted = refuted neverDrops (begin ++ hold) through (loadWord 0) (heldRecord, heldWords) (value 0x3003 16 0) (value 0x2003 16 1) never-drops-comes never-drops-says through-right tt
 
 -- ---- all is forgotten at a store
 
 -- With a mark of level 4 the path is the root's frame, held in the record. A store into a word that no path read leaves it held, so that
 -- the next load has no exit; this unit fills again.
 abbrev fill-store : List Call
-fill-store = setMark 0 4 ∷ load 0 ∷ store 0x10 7 ∷ []
+fill-store = setMark 0 4 ∷ loadWord 0 ∷ storeWord 0x10 7 ∷ []
 
 forgets-comes : Comes forgetsAtStore begin (firstRecord, mappedWords)
 unfolding forgetsAtStore afterBy
 forgets-comes = begins-at forgetsAtStore refl other-maps
 
-forgets-says : ((unitBy forgetsAtStore) .call (load 0) (afterBy (unitBy forgetsAtStore) fill-store (firstRecord, mappedWords))) .0 ≡ value 0x3003 20 1
+forgets-says : ((unitBy forgetsAtStore) .call (loadWord 0) (afterBy (unitBy forgetsAtStore) fill-store (firstRecord, mappedWords))) .0 ≡ value 0x3003 20 1
 unfolding forgetsAtStore afterBy calling
 forgets-says = refl
 
-fill-store-right : (step (load 0) (specified memory 4 4 (begin ++ fill-store))) .0 ≡ value 0x3003 20 0
+fill-store-right : (step (loadWord 0) (specified memory 4 4 (begin ++ fill-store))) .0 ≡ value 0x3003 20 0
 unfolding specifying
 fill-store-right = refl
 
 pub forgets-at-store-refuted : Demand-3 (unitBy forgetsAtStore) → ⊥
-forgets-at-store-refuted = refuted forgetsAtStore begin fill-store (load 0) (firstRecord, mappedWords) (value 0x3003 20 1) (value 0x3003 20 0) forgets-comes forgets-says fill-store-right tt
+forgets-at-store-refuted = refuted forgetsAtStore begin fill-store (loadWord 0) (firstRecord, mappedWords) (value 0x3003 20 1) (value 0x3003 20 0) forgets-comes forgets-says fill-store-right tt

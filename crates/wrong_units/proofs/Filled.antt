@@ -5,7 +5,7 @@ use Prim.Native.Nat.{ℕ, _+_, _*_, _^_}
 use mathlib.Core.Bool.{true}
 use mathlib.Core.List.{List, [], _∷_}
 use lib.ListN.{replicate}
-use Rattle.spec.specs.Call.{Call, map, setMark, load}
+use Rattle.spec.specs.Call.{Call, map, setMark, loadWord}
 use Rattle.spec.specs.declared.Answer.the-variants as answer
 use Rattle.spec.specs.Entry.{entryLimit}
 use Rattle.pool.specs.declared.Area.{Area}
@@ -74,6 +74,6 @@ place-end = rw (enter-clear area none mappedWords 8 ready no-top)
 inserts : insertOf area trail none mappedWords (0 ∷ []) 0x9203 ≡ end (heldRecord .pools .shadow) (To 4) heldWords
 inserts = insert-place ∙ place-end
 
-pub fills : callOf (load 0) marked mappedWords ≡ ended heldRecord (answer.Value 0x3003 16 1) heldWords
+pub fills : callOf (loadWord 0) marked mappedWords ≡ ended heldRecord (answer.Value 0x3003 16 1) heldWords
 unfolding besides
 fills = rw inserts

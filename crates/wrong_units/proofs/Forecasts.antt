@@ -5,7 +5,7 @@ use mathlib.Core.Path.{_≡_, refl, ap, _∙_}
 use Prim.Native.Nat.{ℕ, _*_, _^_}
 use mathlib.Core.List.{List, [], _∷_, _++_}
 use Rattle.spec.specs.Answer.{value, figures}
-use Rattle.spec.specs.Call.{Call, setMark, load, device, forecast}
+use Rattle.spec.specs.Call.{Call, setMark, loadWord, deviceWord, forecast}
 use Rattle.spec.specs.Run.{step}
 use Rattle.spec.specs.Computing.{specifying}
 use Rattle.words.specs.After.{After}
@@ -46,7 +46,7 @@ each-alone-refuted = refuted eachAlone begin [] (forecast (0 ∷ 8 ∷ [])) (fir
 -- Entries 2 and 3 of the top table lead where entry 0 does; their paths have no mark and take four tables each. With the path held at 0 the first
 -- needs all four, so that the second forgets everything: then 0 is not held any more.
 abbrev more : List Call
-more = device 0x10 0x1003 ∷ device 0x18 0x1003 ∷ []
+more = deviceWord 0x10 0x1003 ∷ deviceWord 0x18 0x1003 ∷ []
 
 abbrev overfull : Call
 overfull = forecast (2 ^ 40 ∷ 3 * 2 ^ 39 ∷ 0 ∷ [])
@@ -119,15 +119,15 @@ served-comes =
     ap (λ (e : Record × List ℕ). (told (serveAll (0 ∷ []) (e .0) (e .1))) .1) marks-set
     ∙ ap (λ (e : After Reply). (e .result .unit, e .memory)) fills
 
-served-says : ((unitBy servesForReal) .call (load 0) (heldRecord, heldWords)) .0 ≡ value 0x3003 16 0
+served-says : ((unitBy servesForReal) .call (loadWord 0) (heldRecord, heldWords)) .0 ≡ value 0x3003 16 0
 unfolding servesForReal calling
 served-says = refl
 
-served-right : (step (load 0) (specified memory 4 4 (begin ++ (marks ++ (forecast (0 ∷ []) ∷ []))))) .0 ≡ value 0x3003 16 1
+served-right : (step (loadWord 0) (specified memory 4 4 (begin ++ (marks ++ (forecast (0 ∷ []) ∷ []))))) .0 ≡ value 0x3003 16 1
 unfolding specifying
 served-right = refl
 
 pub serves-for-real-refuted : Demand-3 (unitBy servesForReal) → ⊥
 serves-for-real-refuted =
-    refuted servesForReal begin (marks ++ (forecast (0 ∷ []) ∷ [])) (load 0) (firstRecord, mappedWords) (value 0x3003 16 0) (value 0x3003 16 1) served-begun
-    (ap (λ e. ((unitBy servesForReal) .call (load 0) e) .0) served-comes ∙ served-says) served-right tt
+    refuted servesForReal begin (marks ++ (forecast (0 ∷ []) ∷ [])) (loadWord 0) (firstRecord, mappedWords) (value 0x3003 16 0) (value 0x3003 16 1) served-begun
+    (ap (λ e. ((unitBy servesForReal) .call (loadWord 0) e) .0) served-comes ∙ served-says) served-right tt

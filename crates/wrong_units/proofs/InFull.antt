@@ -13,7 +13,7 @@ use lib.ListN.{length, set, length-set}
 use Rattle.spec.specs.declared.Answer.{Answer}
 use Rattle.spec.specs.declared.Answer.the-variants as answer
 use Rattle.spec.specs.Answer.{line, value, fault}
-use Rattle.spec.specs.Call.{root, map, unmap, setMark, clearMark, load, store, device, forecast}
+use Rattle.spec.specs.Call.{root, map, unmap, setMark, clearMark, load, store, device, forecast, loadWord}
 use Rattle.spec.specs.Refusal.{allOf}
 use Rattle.spec.specs.Computing.{specifying}
 use Rattle.spec_laws.proofs.Lists.{and-left, and-right}
@@ -39,39 +39,39 @@ use Rattle.wrong_units.proofs.Refute.{Comes, begin, begins-at, hold, ho
 -- ---- demand 3 lets it pass
 
 -- what the plain walk over the memory comes to is what the load said
-rewalked-same : (r : Record) (m : List ℕ) (a : ℕ) (e : After Reply) (w : Walked) (x : Answer) → e .result .answer ≡ x → (Unrefused x → AsWalked r m a none e w)
-    → line (rewalked m a w x) ≡ line x
-rewalked-same r m a e w answer.Ok p k = refl
-rewalked-same r m a e w (answer.Done n c) p k = refl
-rewalked-same r m a e w (answer.Refused n) p k = refl
-rewalked-same r m a e w (answer.Figures n c t) p k = refl
-rewalked-same r m a e (walked.Arrived t b i) (answer.Value v n c) p k =
+rewalked-same : (r : Record) (m : List ℕ) (a w : ℕ) (e : After Reply) (y : Walked) (x : Answer) → e .result .answer ≡ x → (Unrefused x → AsWalked r m a w none e y)
+    → line (rewalked m a w y x) ≡ line x
+rewalked-same r m a w e y answer.Ok p k = refl
+rewalked-same r m a w e y (answer.Done n c) p k = refl
+rewalked-same r m a w e y (answer.Refused n) p k = refl
+rewalked-same r m a w e y (answer.Figures n c t) p k = refl
+rewalked-same r m a w e (walked.Arrived t b i) (answer.Value v n c) p k =
     let z = sym (ap line p) ∙ k tt .says in
     cc
-rewalked-same r m a e (walked.Faulted y i) (answer.Value v n c) p k =
+rewalked-same r m a w e (walked.Faulted y i) (answer.Value v n c) p k =
     let z = sym (ap line p) ∙ k tt .says in
     let o : _≡_ {A = ℕ} 0 1 = cc in absurd (omega arith)
-rewalked-same r m a e walked.Damaged (answer.Value v n c) p k = absurd (k tt)
-rewalked-same r m a e (walked.Arrived t b i) (answer.Faulted x n c) p k =
+rewalked-same r m a w e walked.Damaged (answer.Value v n c) p k = absurd (k tt)
+rewalked-same r m a w e (walked.Arrived t b i) (answer.Faulted x n c) p k =
     let z = sym (ap line p) ∙ k tt .says in
     let o : _≡_ {A = ℕ} 0 1 = cc in absurd (omega arith)
-rewalked-same r m a e (walked.Faulted y i) (answer.Faulted x n c) p k =
+rewalked-same r m a w e (walked.Faulted y i) (answer.Faulted x n c) p k =
     let z = sym (ap line p) ∙ k tt .says in
     cc
-rewalked-same r m a e walked.Damaged (answer.Faulted x n c) p k = absurd (k tt)
+rewalked-same r m a w e walked.Damaged (answer.Faulted x n c) p k = absurd (k tt)
 
 in-full-as-ours : AsOurs walksInFull
 unfolding walksInFull
-in-full-as-ours s r m i (load a) =
-    let e = callOf (load a) r m in
-    ap (λ l. (l, (e .result .unit, e .memory))) (rewalked-same r m a e (plainWalk r m false a) (e .result .answer) refl (as-walked s r m i a none))
+in-full-as-ours s r m i (load a w) =
+    let e = callOf (load a w) r m in
+    ap (λ l. (l, (e .result .unit, e .memory))) (rewalked-same r m a w e (plainWalk r m false a) (e .result .answer) refl (as-walked s r m i a w none))
 in-full-as-ours s r m i (root g) = refl
 in-full-as-ours s r m i (map g f w) = refl
 in-full-as-ours s r m i (unmap g) = refl
 in-full-as-ours s r m i (setMark a n) = refl
 in-full-as-ours s r m i (clearMark a n) = refl
-in-full-as-ours s r m i (store a v) = refl
-in-full-as-ours s r m i (device a v) = refl
+in-full-as-ours s r m i (store a w v) = refl
+in-full-as-ours s r m i (device a w v) = refl
 in-full-as-ours s r m i (forecast xs) = refl
 
 pub in-full-demand-3 : Demand-3 (unitBy walksInFull)
@@ -109,11 +109,11 @@ path-held : HeldOrPlain ((specified memory 4 4 (begin ++ hold)) .config) ((speci
 unfolding HeldOrPlain specifying
 path-held = inl tt
 
-says-before : line (walksInFull (load 0) heldRecord heldWords .result .answer) ≡ value 0x3003 16 0
+says-before : line (walksInFull (loadWord 0) heldRecord heldWords .result .answer) ≡ value 0x3003 16 0
 unfolding walksInFull calling
 says-before = refl
 
-says-altered : line (walksInFull (load 0) heldRecord altered .result .answer) ≡ fault 65 4 0 16 0
+says-altered : line (walksInFull (loadWord 0) heldRecord altered .result .answer) ≡ fault 65 4 0 16 0
 unfolding walksInFull calling
 says-altered = refl
 
@@ -122,11 +122,11 @@ unfolding WordsCounted
 walks-in-full-refuted d =
     differ (fault 65 4 0 16 0) (value 0x3003 16 0) tt
     (sym says-altered
-    ∙ subst Same in-full-comes (d memory 4 4 (begin ++ hold) grants 0 path-held) altered (length-set heldWords 4096 0)
+    ∙ subst Same in-full-comes (d memory 4 4 (begin ++ hold) grants 0 8 path-held) altered (length-set heldWords 4096 0)
     (same-words heldWords altered (countedOf heldRecord heldWords false 0) same-counted)
     (same-words heldWords altered (touchedOf heldRecord heldWords false 0) same-touched)
     ∙ says-before)
   where
     Same : Record × List ℕ → Type 0
     Same e = (n : List ℕ) → length n ≡ length (e .1) → SameWords (e .1) n (countedOf (e .0) (e .1) false 0) → SameWords (e .1) n (touchedOf (e .0) (e .1) false 0)
-        → line (walksInFull (load 0) (e .0) n .result .answer) ≡ line (walksInFull (load 0) (e .0) (e .1) .result .answer)
+        → line (walksInFull (loadWord 0) (e .0) n .result .answer) ≡ line (walksInFull (loadWord 0) (e .0) (e .1) .result .answer)

@@ -11,3 +11,4 @@ pub mod Walks
 pub mod InFull
 pub mod Forecasts
 pub mod Lookups
+pub mod Widths

@@ -9,7 +9,7 @@ use lib.ListN.{length}
 use Rattle.spec.specs.declared.Lookup.{Lookup}
 use Rattle.spec.specs.Answer.{value}
 use Rattle.spec.specs.Search.{search}
-use Rattle.spec.specs.Call.{Call, setMark, clearMark, load, addressIndexes}
+use Rattle.spec.specs.Call.{Call, setMark, clearMark, loadWord, addressIndexes}
 use Rattle.spec.specs.Run.{step}
 use Rattle.spec.specs.Computing.{specifying}
 use Rattle.record.specs.declared.Record.{Record}
@@ -60,16 +60,16 @@ loads-comes : Comes loadsEndAtN begin (firstRecord, mappedWords)
 unfolding loadsEndAtN afterBy
 loads-comes = begins-at loadsEndAtN refl other-maps
 
-loads-say : ((unitBy loadsEndAtN) .call (load 0) (afterBy (unitBy loadsEndAtN) both (firstRecord, mappedWords))) .0 ≡ value 0x3003 20 1
+loads-say : ((unitBy loadsEndAtN) .call (loadWord 0) (afterBy (unitBy loadsEndAtN) both (firstRecord, mappedWords))) .0 ≡ value 0x3003 20 1
 unfolding loadsEndAtN endsAtN searchTo afterBy calling
 loads-say = refl
 
-loads-right : (step (load 0) (specified memory 4 4 (begin ++ both))) .0 ≡ value 0x3003 24 0
+loads-right : (step (loadWord 0) (specified memory 4 4 (begin ++ both))) .0 ≡ value 0x3003 24 0
 unfolding specifying
 loads-right = refl
 
 pub loads-end-at-n-refuted : Demand-3 (unitBy loadsEndAtN) → ⊥
-loads-end-at-n-refuted = refuted loadsEndAtN begin both (load 0) (firstRecord, mappedWords) (value 0x3003 20 1) (value 0x3003 24 0) loads-comes loads-say loads-right tt
+loads-end-at-n-refuted = refuted loadsEndAtN begin both (loadWord 0) (firstRecord, mappedWords) (value 0x3003 20 1) (value 0x3003 24 0) loads-comes loads-say loads-right tt
 
 -- ---- a mark that was cleared leaves its place: only the mark of level 5, at the second one, is set and read
 

@@ -23,13 +23,13 @@ use Rattle.record.specs.Record.{configOf, configBy}
 use Rattle.record.specs.Open.{grantedOf}
 use Rattle.translate.specs.declared.Held.{Held}
 use Rattle.translate.specs.declared.Translated.{Translated}
-use Rattle.request.specs.Access.{putWordOf, storeBy, storeOf, deviceBy, deviceOf}
+use Rattle.request.specs.Access.{putBytesOf, storeBy, storeOf, deviceBy, deviceOf}
 use Rattle.calls.specs.declared.Reply.{Reply}
 use Rattle.forecast.specs.declared.Outlook.{Outlook}
 use Rattle.forecast.specs.declared.Next.{Next}
 use Rattle.forecast.specs.declared.Next.the-variants.{Go, Damaged}
 use Rattle.forecast.specs.Forecast.{addressOf, onward, listOf, start, forecastOf}
-use Rattle.calls.specs.Calls.{hostTop, heldOf, rootOf, keysOf, ended, judged, refused, servedBy, addressOk, deviceOk, lookupAt, translatedOf, openCall, callOf, loadCall, storeCall, deviceCall, forecastCall}
+use Rattle.calls.specs.Calls.{hostTop, heldOf, rootOf, keysOf, ended, judged, placed, refused, servedBy, addressOk, lookupAt, translatedOf, openCall, callOf, loadCall, storeCall, deviceCall, forecastCall}
 use Rattle.claims.specs.Run.{guestArea, unitRun, unitAfter}
 use Rattle.claims.specs.Counted.{SameWords, countedOf, touchedOf}
 use Rattle.claims.proofs.Invariant.{Inv, at}
@@ -81,23 +81,23 @@ after-is (x ∷ xs) r m e p q = after-is xs (callOf x r m .result .unit) (callOf
 
 pub cangrieb-demand-2 : Demand-2 callOf
 unfolding Demand-2
-cangrieb-demand-2 m h s xs g a v =
+cangrieb-demand-2 m h s xs g a w v =
     let o = openCall m h s in
-    subst Walks (sym (after-is xs (o .result .unit) (o .memory) o refl refl)) (demand-2 m h s xs g a v)
+    subst Walks (sym (after-is xs (o .result .unit) (o .memory) o refl refl)) (demand-2 m h s xs g a w v)
   where
     Walks : Record × List ℕ → Type 0
-    Walks e = Unrefused (callOf (requestAt a v) (e .0) (e .1) .result .answer) → AsWalked (e .0) (e .1) a v (callOf (requestAt a v) (e .0) (e .1)) (plainWalk (e .0) (e .1) (isStore v) a)
+    Walks e = Unrefused (callOf (requestAt a w v) (e .0) (e .1) .result .answer) → AsWalked (e .0) (e .1) a w v (callOf (requestAt a w v) (e .0) (e .1)) (plainWalk (e .0) (e .1) (isStore v) a)
 
 pub cangrieb-words-counted : WordsCounted callOf
 unfolding WordsCounted callOf
-cangrieb-words-counted m h s xs g a k =
+cangrieb-words-counted m h s xs g a w k =
     let o = openCall m h s in
     subst Same (sym (after-is xs (o .result .unit) (o .memory) o refl refl))
-    (λ n l c t. ap (λ (x : After Reply). line (x .result .answer)) (run-counted-load m h s xs g a k n l c t))
+    (λ n l c t. ap (λ (x : After Reply). line (x .result .answer)) (run-counted-load m h s xs g a w k n l c t))
   where
     Same : Record × List ℕ → Type 0
     Same e = (n : List ℕ) → length n ≡ length (e .1) → SameWords (e .1) n (countedOf (e .0) (e .1) false a) → SameWords (e .1) n (touchedOf (e .0) (e .1) false a)
-        → line (loadCall (e .0) n a .result .answer) ≡ line (loadCall (e .0) (e .1) a .result .answer)
+        → line (loadCall (e .0) n a w .result .answer) ≡ line (loadCall (e .0) (e .1) a w .result .answer)
 
 pub cangrieb-lookups : Lookups lookupAt
 unfolding Lookups
@@ -110,27 +110,27 @@ cangrieb-lookups m h s xs g a =
 
 -- ---- the calls of specs/Wrong.antt that take an argument for what is changed are ours with our own argument
 
-store-as-ours : (c : Config) (h : Held) (a v : ℕ) (o : After Translated) (w : Walked) → storeAs putWordOf c h a v o w ≡ storeBy c h a v o w
-store-as-ours c h a v o (walked.Arrived t w n) = refl
-store-as-ours c h a v o (walked.Faulted x n) = refl
-store-as-ours c h a v o walked.Damaged = refl
+store-as-ours : (c : Config) (h : Held) (a w v : ℕ) (o : After Translated) (y : Walked) → storeAs putBytesOf c h a w v o y ≡ storeBy c h a w v o y
+store-as-ours c h a w v o (walked.Arrived t y n) = refl
+store-as-ours c h a w v o (walked.Faulted x n) = refl
+store-as-ours c h a w v o walked.Damaged = refl
 
-pub store-with-ours : (r : Record) (m : List ℕ) (a v : ℕ) → storeWith putWordOf a v r m ≡ callOf (store a v) r m
+pub store-with-ours : (r : Record) (m : List ℕ) (a w v : ℕ) → storeWith putBytesOf a w v r m ≡ callOf (store a w v) r m
 unfolding storeWith callOf storeCall storeOf translatedOf
-store-with-ours r m a v =
+store-with-ours r m a w v =
     let o = translatedOf r m true a in
-    ap (λ s. judged r m (cond (addressOk r a) (servedBy r s) (refused r 4 m))) (store-as-ours (configOf r) (heldOf r) a v o (o .result .walked))
+    ap (λ s. placed r m w (addressOk false (configOf r) a w) (servedBy r s)) (store-as-ours (configOf r) (heldOf r) a w v o (o .result .walked))
 
-device-as-ours : (c : Config) (m : List ℕ) (h : Held) (a v : ℕ) (w : Walked) → deviceAs putWordOf c m h a v w ≡ deviceBy c m h a v w
-device-as-ours c m h a v (walked.Arrived t w n) = refl
-device-as-ours c m h a v (walked.Faulted x n) = refl
-device-as-ours c m h a v walked.Damaged = refl
+device-as-ours : (c : Config) (m : List ℕ) (h : Held) (a w v : ℕ) (y : Walked) → deviceAs putBytesOf c m h a w v y ≡ deviceBy c m h a w v y
+device-as-ours c m h a w v (walked.Arrived t y n) = refl
+device-as-ours c m h a w v (walked.Faulted x n) = refl
+device-as-ours c m h a w v walked.Damaged = refl
 
-pub device-with-ours : (r : Record) (m : List ℕ) (a v : ℕ) → deviceWith putWordOf a v r m ≡ callOf (device a v) r m
+pub device-with-ours : (r : Record) (m : List ℕ) (a w v : ℕ) → deviceWith putBytesOf a w v r m ≡ callOf (device a w v) r m
 unfolding deviceWith callOf deviceCall deviceOf
-device-with-ours r m a v =
-    ap (λ s. judged r m (cond (deviceOk r a) (servedBy r s) (refused r 4 m)))
-    (device-as-ours (configOf r) m (heldOf r) a v (walkedOf (configOf r) (hostTop r) m 0 (next true true (pageOf a) true)))
+device-with-ours r m a w v =
+    ap (λ s. placed r m w (addressOk true (configOf r) a w) (servedBy r s))
+    (device-as-ours (configOf r) m (heldOf r) a w v (walkedOf (configOf r) (hostTop r) m 0 (next true true (pageOf a) true)))
 
 list-as-ours : (r : Record) (m ks : List ℕ) (o : Outlook) (xs : List ℕ)
     → listWith ourStep ourEnd r m ks o xs ≡ listOf (configOf r) (hostTop r) m (heldOf r) (rootOf r) (keysOf r) ks o xs

@@ -10,7 +10,8 @@ use lib.ListN.{length}
 use Rattle.spec.specs.declared.Answer.{Answer}
 use Rattle.spec.specs.Answer.{Line, ok, value, line}
 use Rattle.spec.specs.Entry.{wordOf}
-use Rattle.spec.specs.Call.{Call, map, setMark, load}
+use Rattle.spec.specs.Bytes.{bytesAt}
+use Rattle.spec.specs.Call.{Call, map, setMark, load, loadWord}
 use Rattle.spec.specs.Guest.{code, equal}
 use Rattle.spec.specs.Run.{State, step, run, after, opened}
 use Rattle.spec_laws.proofs.Lists.{both, not-both}
@@ -90,21 +91,22 @@ pub refuted-opened : (f : Calls) (ys : List Call) (x : Call) (wrong right : Line
 unfolding afterBy
 refuted-opened f ys x wrong right = refuted f [] ys x (openedRecord, openedWords) wrong right (ap (λ e. (told e) .1) opens)
 
--- a unit whose load there is not refused and does not yield the word u that the plain walk over its memory comes to, in host frame t
-pub not-as-walked : (f : Calls) (xs ys : List Call) (a u : ℕ) (s : Record × List ℕ) (t : HostPhysical) (w : Bool) (k : ℕ) (x : Answer) → Comes f xs s
+-- a unit whose load of w bytes there is not refused and does not yield u, which stands where the plain walk over its memory comes to, in
+-- host frame t
+pub not-as-walked : (f : Calls) (xs ys : List Call) (a w u : ℕ) (s : Record × List ℕ) (t : HostPhysical) (y : Bool) (k : ℕ) (x : Answer) → Comes f xs s
     → let e : Record × List ℕ = afterBy (unitBy f) ys s in
-    f (load a) (e .0) (e .1) .result .answer ≡ x → Unrefused x → plainWalk (e .0) (e .1) false a ≡ walked.Arrived t w k → words.wordIn (e .1) (t .0) (wordOf a) ≡ u
+    f (load a w) (e .0) (e .1) .result .answer ≡ x → Unrefused x → plainWalk (e .0) (e .1) false a ≡ walked.Arrived t y k → bytesAt a w (words.wordIn (e .1) (t .0) (wordOf a)) ≡ u
     → ((n c : ℕ) → line x ≡ value u n c → ⊥) → Demand-2 f → ⊥
 unfolding Demand-2
-not-as-walked f xs ys a u s t w k x c p q r o clash d =
+not-as-walked f xs ys a w u s t y k x c p q r o clash d =
     let e = afterBy (unitBy f) ys s in
-    let l = subst Walks (goes-on f xs ys s e c refl) (d memory 4 4 (xs ++ ys) grants a none) (subst Unrefused (sym p) q) in
-    let g = subst (AsWalked (e .0) (e .1) a none (f (load a) (e .0) (e .1))) r l in
+    let l = subst Walks (goes-on f xs ys s e c refl) (d memory 4 4 (xs ++ ys) grants a w none) (subst Unrefused (sym p) q) in
+    let g = subst (AsWalked (e .0) (e .1) a w none (f (load a w) (e .0) (e .1))) r l in
     let n : ℕ = configOf (e .0) .levels + configOf (e .0) .levels * depthAt (e .0) a in
     clash n (g .exits) (ap line (sym p) ∙ g .says ∙ ap (λ v. value v n (g .exits)) o)
   where
     Walks : Record × List ℕ → Type 0
-    Walks e = Unrefused (f (load a) (e .0) (e .1) .result .answer) → AsWalked (e .0) (e .1) a none (f (load a) (e .0) (e .1)) (plainWalk (e .0) (e .1) false a)
+    Walks e = Unrefused (f (load a w) (e .0) (e .1) .result .answer) → AsWalked (e .0) (e .1) a w none (f (load a w) (e .0) (e .1)) (plainWalk (e .0) (e .1) false a)
 
 -- the four frames are mapped
 abbrev pub begin : List Call
@@ -121,13 +123,13 @@ begins-at f p q =
 
 -- marks of level 3 at two addresses, and a load through the first: its path is held
 abbrev pub hold : List Call
-hold = setMark 0 3 ∷ setMark (2 ^ 39) 3 ∷ load 0 ∷ []
+hold = setMark 0 3 ∷ setMark (2 ^ 39) 3 ∷ loadWord 0 ∷ []
 
 -- a unit that sets the marks, and whose load is ours
 pub holds-at : (f : Calls) → afterBy (unitBy f) (setMark 0 3 ∷ setMark (2 ^ 39) 3 ∷ []) (firstRecord, mappedWords) ≡ (marked, mappedWords)
-    → (told (f (load 0) marked mappedWords)) .1 ≡ (told (callOf (load 0) marked mappedWords)) .1
+    → (told (f (loadWord 0) marked mappedWords)) .1 ≡ (told (callOf (loadWord 0) marked mappedWords)) .1
     → Comes f begin (firstRecord, mappedWords) → Comes f (begin ++ hold) (heldRecord, heldWords)
 unfolding afterBy
 holds-at f p q c =
     goes-on f begin hold (firstRecord, mappedWords) (heldRecord, heldWords) c
-    (ap (λ (e : Record × List ℕ). (told (f (load 0) (e .0) (e .1))) .1) p ∙ q ∙ ap (λ e. (told e) .1) fills)
+    (ap (λ (e : Record × List ℕ). (told (f (loadWord 0) (e .0) (e .1))) .1) p ∙ q ∙ ap (λ e. (told e) .1) fills)

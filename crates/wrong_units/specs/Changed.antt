@@ -14,37 +14,37 @@ use Rattle.wrong_units.specs.Unit.{Calls}
 abbrev pub Does : Type 0
 Does = Record → List ℕ → After Reply
 
-abbrev pub onLoads : (ℕ → Does) → Calls → Calls
-onLoads does calls (load a) = does a
+abbrev pub onLoads : (ℕ → ℕ → Does) → Calls → Calls
+onLoads does calls (load a w) = does a w
 onLoads does calls (root g) = calls (root g)
 onLoads does calls (map g f w) = calls (map g f w)
 onLoads does calls (unmap g) = calls (unmap g)
 onLoads does calls (setMark a n) = calls (setMark a n)
 onLoads does calls (clearMark a n) = calls (clearMark a n)
-onLoads does calls (store a v) = calls (store a v)
-onLoads does calls (device a v) = calls (device a v)
+onLoads does calls (store a w v) = calls (store a w v)
+onLoads does calls (device a w v) = calls (device a w v)
 onLoads does calls (forecast xs) = calls (forecast xs)
 
-abbrev pub onStores : (ℕ → ℕ → Does) → Calls → Calls
-onStores does calls (store a v) = does a v
+abbrev pub onStores : (ℕ → ℕ → ℕ → Does) → Calls → Calls
+onStores does calls (store a w v) = does a w v
 onStores does calls (root g) = calls (root g)
 onStores does calls (map g f w) = calls (map g f w)
 onStores does calls (unmap g) = calls (unmap g)
 onStores does calls (setMark a n) = calls (setMark a n)
 onStores does calls (clearMark a n) = calls (clearMark a n)
-onStores does calls (load a) = calls (load a)
-onStores does calls (device a v) = calls (device a v)
+onStores does calls (load a w) = calls (load a w)
+onStores does calls (device a w v) = calls (device a w v)
 onStores does calls (forecast xs) = calls (forecast xs)
 
-abbrev pub onDevices : (ℕ → ℕ → Does) → Calls → Calls
-onDevices does calls (device a v) = does a v
+abbrev pub onDevices : (ℕ → ℕ → ℕ → Does) → Calls → Calls
+onDevices does calls (device a w v) = does a w v
 onDevices does calls (root g) = calls (root g)
 onDevices does calls (map g f w) = calls (map g f w)
 onDevices does calls (unmap g) = calls (unmap g)
 onDevices does calls (setMark a n) = calls (setMark a n)
 onDevices does calls (clearMark a n) = calls (clearMark a n)
-onDevices does calls (load a) = calls (load a)
-onDevices does calls (store a v) = calls (store a v)
+onDevices does calls (load a w) = calls (load a w)
+onDevices does calls (store a w v) = calls (store a w v)
 onDevices does calls (forecast xs) = calls (forecast xs)
 
 abbrev pub onMaps : (ℕ → ℕ → Bool → Does) → Calls → Calls
@@ -53,9 +53,9 @@ onMaps does calls (root g) = calls (root g)
 onMaps does calls (unmap g) = calls (unmap g)
 onMaps does calls (setMark a n) = calls (setMark a n)
 onMaps does calls (clearMark a n) = calls (clearMark a n)
-onMaps does calls (load a) = calls (load a)
-onMaps does calls (store a v) = calls (store a v)
-onMaps does calls (device a v) = calls (device a v)
+onMaps does calls (load a w) = calls (load a w)
+onMaps does calls (store a w v) = calls (store a w v)
+onMaps does calls (device a w v) = calls (device a w v)
 onMaps does calls (forecast xs) = calls (forecast xs)
 
 abbrev pub onUnmaps : (ℕ → Does) → Calls → Calls
@@ -64,9 +64,9 @@ onUnmaps does calls (root g) = calls (root g)
 onUnmaps does calls (map g f w) = calls (map g f w)
 onUnmaps does calls (setMark a n) = calls (setMark a n)
 onUnmaps does calls (clearMark a n) = calls (clearMark a n)
-onUnmaps does calls (load a) = calls (load a)
-onUnmaps does calls (store a v) = calls (store a v)
-onUnmaps does calls (device a v) = calls (device a v)
+onUnmaps does calls (load a w) = calls (load a w)
+onUnmaps does calls (store a w v) = calls (store a w v)
+onUnmaps does calls (device a w v) = calls (device a w v)
 onUnmaps does calls (forecast xs) = calls (forecast xs)
 
 abbrev pub onSets : (ℕ → ℕ → Does) → Calls → Calls
@@ -75,9 +75,9 @@ onSets does calls (root g) = calls (root g)
 onSets does calls (map g f w) = calls (map g f w)
 onSets does calls (unmap g) = calls (unmap g)
 onSets does calls (clearMark a n) = calls (clearMark a n)
-onSets does calls (load a) = calls (load a)
-onSets does calls (store a v) = calls (store a v)
-onSets does calls (device a v) = calls (device a v)
+onSets does calls (load a w) = calls (load a w)
+onSets does calls (store a w v) = calls (store a w v)
+onSets does calls (device a w v) = calls (device a w v)
 onSets does calls (forecast xs) = calls (forecast xs)
 
 abbrev pub onClears : (ℕ → ℕ → Does) → Calls → Calls
@@ -86,9 +86,9 @@ onClears does calls (root g) = calls (root g)
 onClears does calls (map g f w) = calls (map g f w)
 onClears does calls (unmap g) = calls (unmap g)
 onClears does calls (setMark a n) = calls (setMark a n)
-onClears does calls (load a) = calls (load a)
-onClears does calls (store a v) = calls (store a v)
-onClears does calls (device a v) = calls (device a v)
+onClears does calls (load a w) = calls (load a w)
+onClears does calls (store a w v) = calls (store a w v)
+onClears does calls (device a w v) = calls (device a w v)
 onClears does calls (forecast xs) = calls (forecast xs)
 
 abbrev pub onForecasts : (List ℕ → Does) → Calls → Calls
@@ -98,6 +98,6 @@ onForecasts does calls (map g f w) = calls (map g f w)
 onForecasts does calls (unmap g) = calls (unmap g)
 onForecasts does calls (setMark a n) = calls (setMark a n)
 onForecasts does calls (clearMark a n) = calls (clearMark a n)
-onForecasts does calls (load a) = calls (load a)
-onForecasts does calls (store a v) = calls (store a v)
-onForecasts does calls (device a v) = calls (device a v)
+onForecasts does calls (load a w) = calls (load a w)
+onForecasts does calls (store a w v) = calls (store a w v)
+onForecasts does calls (device a w v) = calls (device a w v)

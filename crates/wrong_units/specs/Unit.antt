@@ -74,22 +74,22 @@ abbrev pub cangrieb : MemoryUnit
 cangrieb = unitBy callOf
 
 -- demand 2: after any run, a load or a store that is not refused comes to what the plain two-level walk over that very memory comes to,
--- the same word or the same fault
+-- the same bytes or the same fault
 unfoldable pub Demand-2 : Calls → Type 0
 Demand-2 f =
-    (m : List ℕ) (h s : ℕ) (xs : List Call) → refusalOf (length m) h s ≡ 0 → (a : ℕ) (v : Option ℕ)
+    (m : List ℕ) (h s : ℕ) (xs : List Call) → refusalOf (length m) h s ≡ 0 → (a w : ℕ) (v : Option ℕ)
     → let e : Record × List ℕ = afterBy (unitBy f) xs ((unitBy f) .opens m h s) in
-    Unrefused (f (requestAt a v) (e .0) (e .1) .result .answer) → AsWalked (e .0) (e .1) a v (f (requestAt a v) (e .0) (e .1)) (plainWalk (e .0) (e .1) (isStore v) a)
+    Unrefused (f (requestAt a w v) (e .0) (e .1) .result .answer) → AsWalked (e .0) (e .1) a w v (f (requestAt a w v) (e .0) (e .1)) (plainWalk (e .0) (e .1) (isStore v) a)
 
 -- words counted: after any run, a load whose path is held or whose depth is N + 1 says the same on any memory that has the words
--- which it counts and the word that it loads, whatever the others are
+-- which it counts and the word around the bytes that it loads, whatever the others are
 unfoldable pub WordsCounted : Calls → Type 0
 WordsCounted f =
-    (m : List ℕ) (h s : ℕ) (xs : List Call) → refusalOf (length m) h s ≡ 0 → (a : ℕ)
+    (m : List ℕ) (h s : ℕ) (xs : List Call) → refusalOf (length m) h s ≡ 0 → (a w : ℕ)
     → let e : Record × List ℕ = afterBy (unitBy f) xs ((unitBy f) .opens m h s) in
     HeldOrPlain ((specified m h s xs) .config) ((specified m h s xs) .book) false a
     → (n : List ℕ) → length n ≡ length (e .1) → SameWords (e .1) n (countedOf (e .0) (e .1) false a) → SameWords (e .1) n (touchedOf (e .0) (e .1) false a)
-    → line (f (load a) (e .0) n .result .answer) ≡ line (f (load a) (e .0) (e .1) .result .answer)
+    → line (f (load a w) (e .0) n .result .answer) ≡ line (f (load a w) (e .0) (e .1) .result .answer)
 
 -- ---- the search among the marks
 

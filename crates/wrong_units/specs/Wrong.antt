@@ -3,7 +3,7 @@
 -- goes stale in them are real shadow entries. Their runs are computed word by word on a memory of 12 frames; only clearing a frame that
 -- is clear, which would take most of the time, goes by a law (proofs/Clear.antt).
 -- Assumes nothing.
-use Prim.Native.Nat.{ℕ, suc, _-_, _*_, _^_, min}
+use Prim.Native.Nat.{ℕ, suc, _+_, _-_, _*_, _%_, _^_, min}
 use mathlib.Core.Bool.{Bool, true, false, _&&_, cond}
 use mathlib.Core.List.{List, [], _∷_, _++_}
 use lib.Dec.{eqb, leb, ltb}
@@ -17,7 +17,8 @@ use Rattle.spec.specs.declared.Answer.the-variants as answer
 use Rattle.spec.specs.Config.{Config, guestBase, signBit}
 use Rattle.spec.specs.Entry.{pageOf, wordOf, indexes}
 use Rattle.spec.specs.Plain.{next}
-use Rattle.spec.specs.Refusal.{alikeFrom, addressFits, wordAligned, forecastRoom}
+use Rattle.spec.specs.Bytes.{part, withPart, aligned, bitOf, bytesAt, withBytes}
+use Rattle.spec.specs.Refusal.{alikeFrom, addressFits, forecastRoom}
 use Rattle.spec.specs.Call.{map, setMark, load, store, device, forecast}
 use Rattle.spec.specs.Search.{nothing as none, more}
 use Rattle.spec.specs.Serving.{loads}
@@ -44,7 +45,7 @@ use Rattle.request.specs.declared.Served.{Served}
 use Rattle.request.specs.Access as access
 use Rattle.request.specs.Access.{serving, stored, writtenBy}
 use Rattle.calls.specs.declared.Reply.{Reply}
-use Rattle.calls.specs.Calls.{hostTop, heldOf, rootOf, withHeld, withHost, nothing, ended, refused, judged, servedBy, lookupAt, depthAt, addressOk, deviceOk, translatedOf, keysOf, markRefusal, markedOf, marksAfter, callOf}
+use Rattle.calls.specs.Calls.{hostTop, heldOf, rootOf, withHeld, withHost, nothing, ended, refused, judged, placed, servedBy, lookupAt, depthAt, addressOk, translatedOf, keysOf, markRefusal, markedOf, marksAfter, callOf}
 use Rattle.forecast.specs.declared.Outlook.{Outlook}
 use Rattle.forecast.specs.declared.Next.{Next}
 use Rattle.forecast.specs.declared.Next.the-variants.{Go, Damaged}
@@ -108,14 +109,14 @@ abbrev pub faults : Does
 faults r m = judged r m (ended r (answer.Faulted (Absent (r .layout .levels)) 5 1) m)
 
 unfoldable pub faultsAll : Calls
-faultsAll = onLoads (λ a. faults) (onStores (λ a v. faults) (onDevices (λ a v. faults) callOf))
+faultsAll = onLoads (λ a w. faults) (onStores (λ a w v. faults) (onDevices (λ a w v. faults) callOf))
 
 -- a store is answered as by ours, but the guest words stay as they were
 abbrev pub unwritten : Record → List ℕ → After Reply → After Reply
 unwritten r m e = let words : ℕ = 512 * guestBase (configOf r) in ended (e .result .unit) (e .result .answer) (take words (e .memory) ++ drop words m)
 
 unfoldable pub storesNothing : Calls
-storesNothing = onStores (λ a v r m. unwritten r m (callOf (store a v) r m)) (onDevices (λ a v r m. unwritten r m (callOf (device a v) r m)) callOf)
+storesNothing = onStores (λ a w v r m. unwritten r m (callOf (store a w v) r m)) (onDevices (λ a w v r m. unwritten r m (callOf (device a w v) r m)) callOf)
 
 -- ---- refusals that come too early
 
@@ -130,11 +131,11 @@ marksFull = onSets (λ a n r m. elim (ltb (ones (r .guest .marks .set)) 4) [ tru
 -- ---- addresses of both halves (document 02, 1), misread
 
 -- a load by another test of its address, and by another depth
-abbrev pub loadBy : (Config → ℕ → Bool) → (Record → ℕ → ℕ) → ℕ → Does
-loadBy legal deep a r m =
-    judged r m (cond (legal (configOf r) a && wordAligned a) (servedBy r (access.loadOf (configOf r) (hostTop r) m (heldOf r) (rootOf r) a (deep r a))) (refused r 4 m))
+abbrev pub loadBy : (Config → ℕ → Bool) → (Record → ℕ → ℕ) → ℕ → ℕ → Does
+loadBy legal deep a w r m =
+    placed r m w (legal (configOf r) a && aligned a w) (servedBy r (access.loadOf (configOf r) (hostTop r) m (heldOf r) (rootOf r) a w (deep r a)))
 
-abbrev pub loadIf : (Config → ℕ → Bool) → ℕ → Does
+abbrev pub loadIf : (Config → ℕ → Bool) → ℕ → ℕ → Does
 loadIf legal = loadBy legal depthAt
 
 -- the limit of document 01
@@ -147,7 +148,7 @@ signNotCompared = onLoads (loadIf (λ c a. alikeFrom (suc (signBit c)) a)) callO
 
 -- a device's address is tested as a guest-virtual one
 unfoldable pub devicesSigned : Calls
-devicesSigned = onDevices (λ a v r m. judged r m (cond (addressOk r a) (servedBy r (access.deviceOf (configOf r) (hostTop r) m (heldOf r) a v)) (refused r 4 m))) callOf
+devicesSigned = onDevices (λ a w v r m. placed r m w (addressOk false (configOf r) a w) (servedBy r (access.deviceOf (configOf r) (hostTop r) m (heldOf r) a w v))) callOf
 
 -- a mark that is set has the page number of all 64 bits in its key
 abbrev pub setByAllBits : ℕ → ℕ → Does
@@ -159,33 +160,33 @@ marksByAllBits = onSets setByAllBits callOf
 
 -- ---- drops, changed. The calls are ours with what drops the paths as an argument
 
--- how a word is written: configuration, memory, shadow tables, host frame, index, value
+-- how bytes are written: configuration, memory, shadow tables, host frame, address, width, value
 abbrev pub Puts : Type 0
-Puts = Config → List ℕ → Pool → ℕ → ℕ → ℕ → After Put
+Puts = Config → List ℕ → Pool → ℕ → ℕ → ℕ → ℕ → After Put
 
-abbrev pub storeAs : Puts → Config → Held → ℕ → ℕ → After Translated → Walked → After Served
-storeAs put c h a v o (walked.Arrived t w n) =
-    writtenBy h (o .result .held) n (o .result .exits) (put c (o .memory) (o .result .held .pool) (t .0) (wordOf a) v)
-storeAs put c h a v o (walked.Faulted x n) = serving (o .result .held) (answer.Faulted x n (o .result .exits)) (o .memory)
-storeAs put c h a v o walked.Damaged = access.refused h 11 (o .memory)
+abbrev pub storeAs : Puts → Config → Held → ℕ → ℕ → ℕ → After Translated → Walked → After Served
+storeAs put c h a w v o (walked.Arrived t y n) = writtenBy h (o .result .held) n (o .result .exits) (put c (o .memory) (o .result .held .pool) (t .0) a w v)
+storeAs put c h a w v o (walked.Faulted x n) = serving (o .result .held) (answer.Faulted x n (o .result .exits)) (o .memory)
+storeAs put c h a w v o walked.Damaged = access.refused h 11 (o .memory)
 
-unfoldable pub storeWith : Puts → ℕ → ℕ → Does
-storeWith put a v r m =
+unfoldable pub storeWith : Puts → ℕ → ℕ → ℕ → Does
+storeWith put a w v r m =
     let o : After Translated = translatedOf r m true a in
-    judged r m (cond (addressOk r a) (servedBy r (storeAs put (configOf r) (heldOf r) a v o (o .result .walked))) (refused r 4 m))
+    placed r m w (addressOk false (configOf r) a w) (servedBy r (storeAs put (configOf r) (heldOf r) a w v o (o .result .walked)))
 
-abbrev pub deviceAs : Puts → Config → List ℕ → Held → ℕ → ℕ → Walked → After Served
-deviceAs put c m h a v (walked.Arrived t w n) = writtenBy h h n 0 (put c m (h .pool) (t .0) (wordOf a) v)
-deviceAs put c m h a v (walked.Faulted x n) = serving h (answer.Faulted x n (exitBy (walked.Faulted x n))) m
-deviceAs put c m h a v walked.Damaged = access.refused h 11 m
+abbrev pub deviceAs : Puts → Config → List ℕ → Held → ℕ → ℕ → ℕ → Walked → After Served
+deviceAs put c m h a w v (walked.Arrived t y n) = writtenBy h h n 0 (put c m (h .pool) (t .0) a w v)
+deviceAs put c m h a w v (walked.Faulted x n) = serving h (answer.Faulted x n (exitBy (walked.Faulted x n))) m
+deviceAs put c m h a w v walked.Damaged = access.refused h 11 m
 
-unfoldable pub deviceWith : Puts → ℕ → ℕ → Does
-deviceWith put a v r m =
-    judged r m (cond (deviceOk r a) (servedBy r (deviceAs put (configOf r) m (heldOf r) a v (walkedOf (configOf r) (hostTop r) m 0 (next true true (pageOf a) true)))) (refused r 4 m))
+unfoldable pub deviceWith : Puts → ℕ → ℕ → ℕ → Does
+deviceWith put a w v r m =
+    placed r m w (addressOk true (configOf r) a w)
+    (servedBy r (deviceAs put (configOf r) m (heldOf r) a w v (walkedOf (configOf r) (hostTop r) m 0 (next true true (pageOf a) true))))
 
--- the word is written and a watched frame is an exit, but no path is dropped
+-- the bytes are written and a watched frame is an exit, but no path is dropped
 unfoldable pub putKeeping : Puts
-putKeeping c m p t i v = stored p (cond (watchedOf c m (p .fresh) t) 1 0) true (setIn m t i v)
+putKeeping c m p t a w v = stored p (cond (watchedOf c m (p .fresh) t) 1 0) true (setIn m t (wordOf a) (withBytes a w v (wordIn m t (wordOf a))))
 
 -- a frame is mapped or unmapped, and no path is dropped
 abbrev pub remapped : Record → After Change → After Reply
@@ -232,42 +233,91 @@ ownPage a r m (answer.Refused n) = ended r (answer.Refused n) m
 ownPage a r m (answer.Figures n e t) = ended r (answer.Figures n e t) m
 
 -- a store drops by its own guest-virtual page alone
-abbrev pub storeByOwnPage : ℕ → ℕ → Does
-storeByOwnPage a v r m =
-    let e : After Reply = storeWith putKeeping a v r m in
+abbrev pub storeByOwnPage : ℕ → ℕ → ℕ → Does
+storeByOwnPage a w v r m =
+    let e : After Reply = storeWith putKeeping a w v r m in
     ownPage a (e .result .unit) (e .memory) (e .result .answer)
 
 unfoldable pub byOwnPage : Calls
 byOwnPage = onStores storeByOwnPage callOf
 
 -- a store drops all that is held
-abbrev pub storeForgetting : ℕ → ℕ → Does
-storeForgetting a v r m =
-    let e : After Reply = callOf (store a v) r m in
+abbrev pub storeForgetting : ℕ → ℕ → ℕ → Does
+storeForgetting a w v r m =
+    let e : After Reply = callOf (store a w v) r m in
     ended (withHeld (e .result .unit) nothing) (e .result .answer) (e .memory)
 
 unfoldable pub forgetsAtStore : Calls
 forgetsAtStore = onStores storeForgetting callOf
 
+-- ---- widths (document 02, 4), misread
+
+-- the first byte of a word is its highest
+abbrev pub highFirst : ℕ → ℕ → ℕ
+highFirst a w = 64 - (8 * w + bitOf a)
+
+abbrev pub bigValue : ℕ → ℕ → Answer → Answer
+bigValue a w answer.Ok = answer.Ok
+bigValue a w (answer.Value e n x) = answer.Value (part (8 * w) (highFirst a w) e) n x
+bigValue a w (answer.Done n x) = answer.Done n x
+bigValue a w (answer.Faulted y n x) = answer.Faulted y n x
+bigValue a w (answer.Refused n) = answer.Refused n
+bigValue a w (answer.Figures n x t) = answer.Figures n x t
+
+unfoldable pub putBig : Puts
+putBig c m p t a w v = access.putWordOf c m p t (wordOf a) (withPart (8 * w) (highFirst a w) v (wordIn m t (wordOf a)))
+
+abbrev pub loadBig : ℕ → ℕ → Does
+loadBig a w r m = placed r m w (addressOk false (configOf r) a w) (saying (bigValue a w) (callOf (load (a - a % 8) 8) r m))
+
+unfoldable pub bigEndian : Calls
+bigEndian = onLoads loadBig (onStores (storeWith putBig) (onDevices (deviceWith putBig) callOf))
+
+-- a narrow store clears the rest of its word
+unfoldable pub putClearing : Puts
+putClearing c m p t a w v = access.putWordOf c m p t (wordOf a) (withBytes a w v 0)
+
+unfoldable pub clearsTheRest : Calls
+clearsTheRest = onStores (storeWith putClearing) (onDevices (deviceWith putClearing) callOf)
+
+-- a store drops only where it touches byte 0 of the word
+unfoldable pub putAtZero : Puts
+putAtZero c m p t a w v = cond (eqb (a % 8) 0) (access.putBytesOf c m p t a w v) (putKeeping c m p t a w v)
+
+unfoldable pub dropsAtByteZero : Calls
+dropsAtByteZero = onStores (storeWith putAtZero) (onDevices (deviceWith putAtZero) callOf)
+
+-- a load of any width is at a multiple of 8
+unfoldable pub multiplesOfEight : Calls
+multiplesOfEight = onLoads (loadIf (λ c a. addressFits c a && aligned a 8)) callOf
+
+-- 4 comes before 15
+unfoldable pub addressFirst : Calls
+addressFirst = onLoads (λ a w r m. judged r m (cond (addressFits (configOf r) a) (callOf (load a w) r m) (refused r 4 m))) callOf
+
+-- a device stores whole words, whatever its width
+unfoldable pub devicesWhole : Calls
+devicesWhole = onDevices (λ a w v. callOf (device a 8 v)) callOf
+
 -- ---- words that are not counted
 
-abbrev pub walkedTo : List ℕ → ℕ → Walked → ℕ → ℕ → Answer
-walkedTo m a (walked.Arrived t w k) n e = answer.Value (wordIn m (t .0) (wordOf a)) n e
-walkedTo m a (walked.Faulted x k) n e = answer.Faulted x n e
-walkedTo m a walked.Damaged n e = answer.Refused 11
+abbrev pub walkedTo : List ℕ → ℕ → ℕ → Walked → ℕ → ℕ → Answer
+walkedTo m a w (walked.Arrived t y k) n e = answer.Value (bytesAt a w (wordIn m (t .0) (wordOf a))) n e
+walkedTo m a w (walked.Faulted x k) n e = answer.Faulted x n e
+walkedTo m a w walked.Damaged n e = answer.Refused 11
 
 -- a load's value or fault, by another walk; references and exits stay
-abbrev pub rewalked : List ℕ → ℕ → Walked → Answer → Answer
-rewalked m a w answer.Ok = answer.Ok
-rewalked m a w (answer.Value v n e) = walkedTo m a w n e
-rewalked m a w (answer.Done n e) = answer.Done n e
-rewalked m a w (answer.Faulted x n e) = walkedTo m a w n e
-rewalked m a w (answer.Refused n) = answer.Refused n
-rewalked m a w (answer.Figures n e t) = answer.Figures n e t
+abbrev pub rewalked : List ℕ → ℕ → ℕ → Walked → Answer → Answer
+rewalked m a w y answer.Ok = answer.Ok
+rewalked m a w y (answer.Value v n e) = walkedTo m a w y n e
+rewalked m a w y (answer.Done n e) = answer.Done n e
+rewalked m a w y (answer.Faulted x n e) = walkedTo m a w y n e
+rewalked m a w y (answer.Refused n) = answer.Refused n
+rewalked m a w y (answer.Figures n e t) = answer.Figures n e t
 
 -- each load walks both sets of tables in full, and reports the counts of the held path
 unfoldable pub walksInFull : Calls
-walksInFull = onLoads (λ a r m. saying (rewalked m a (plainWalk r m false a)) (callOf (load a) r m)) callOf
+walksInFull = onLoads (λ a w r m. saying (rewalked m a w (plainWalk r m false a)) (callOf (load a w) r m)) callOf
 
 -- ---- forecasts (document 02, 2), misread. A forecast is ours with what an address does, and what is said at the end, as arguments
 
@@ -316,7 +366,7 @@ tablesAtEnd = onForecasts (forecastWith ourStep (λ o. answer.Figures (o .sum .r
 -- an address that meets 4 ends the list
 abbrev pub untilIllegal : Record → List ℕ → List ℕ
 untilIllegal r [] = []
-untilIllegal r (a ∷ xs) = cond (addressOk r a) (a ∷ untilIllegal r xs) []
+untilIllegal r (a ∷ xs) = cond (addressOk false (configOf r) a 8) (a ∷ untilIllegal r xs) []
 
 unfoldable pub endsAtFour : Calls
 endsAtFour = onForecasts (λ xs r m. callOf (forecast (untilIllegal r xs)) r m) callOf

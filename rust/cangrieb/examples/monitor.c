@@ -1,5 +1,5 @@
-/* The six records of document 01's job program, as calls; prints the lines that the program prints, a forecast's, and what
-   a search among the marks finds. */
+/* The six records of document 01's job program, as calls; prints the lines that the program prints, a forecast's, those of
+   single bytes, and what a search among the marks finds. */
 #include "cangrieb.h"
 #include <inttypes.h>
 #include <stdio.h>
@@ -39,21 +39,25 @@ int main(void)
     say(1, cangrieb_open(head, place, memory, words, 4, 4));
     say(2, cangrieb_map(head, place, memory, words, 0, 8, true));
     say(3, cangrieb_root(head, place, memory, words, 0));
-    say(4, cangrieb_device_store(head, place, memory, words, 0, 0x1003));
-    say(5, cangrieb_load(head, place, memory, words, 0));
-    say(6, cangrieb_load(head, place, memory, words, 4));
+    say(4, cangrieb_device_store(head, place, memory, words, 0, 8, 0x1003));
+    say(5, cangrieb_load(head, place, memory, words, 0, 8));
+    say(6, cangrieb_load(head, place, memory, words, 4, 8));
     /* What these loads would cost once more, and what none would. */
     const uint64_t addresses[] = {0, 4};
     say(7, cangrieb_forecast(head, place, memory, words, addresses, 2));
     say(8, cangrieb_forecast(head, place, memory, words, NULL, 0));
+    /* Byte 1 of the entry is cleared, so that it names frame 0; then its byte 0 is loaded through it. No access has 3 bytes. */
+    say(9, cangrieb_device_store(head, place, memory, words, 1, 1, 0));
+    say(10, cangrieb_load(head, place, memory, words, 0, 1));
+    say(11, cangrieb_load(head, place, memory, words, 0, 3));
     /* The depth of address 0, and how many marks are read for it: both, and of three those up to that of level 5. */
-    say(9, cangrieb_set_mark(head, place, memory, words, 0, 1));
-    say(10, cangrieb_set_mark(head, place, memory, words, 0x200000, 1));
-    say_lookup(11, cangrieb_depth(head, place, 0));
-    say(12, cangrieb_set_mark(head, place, memory, words, 0, 5));
-    say_lookup(13, cangrieb_depth(head, place, 0));
+    say(12, cangrieb_set_mark(head, place, memory, words, 0, 1));
+    say(13, cangrieb_set_mark(head, place, memory, words, 0x200000, 1));
+    say_lookup(14, cangrieb_depth(head, place, 0));
+    say(15, cangrieb_set_mark(head, place, memory, words, 0, 5));
+    say_lookup(16, cangrieb_depth(head, place, 0));
     /* No memory at all is refused too. */
-    say(14, cangrieb_load(head, place, NULL, 0, 0));
-    say(15, cangrieb_open(head, place, NULL, 0, 4, 4));
+    say(17, cangrieb_load(head, place, NULL, 0, 0, 8));
+    say(18, cangrieb_open(head, place, NULL, 0, 4, 4));
     return 0;
 }

@@ -11,7 +11,7 @@ fn main() {
     }
     unit.root(&mut memory, 0);
     for (address, entry) in [(0x0000, 0x1003), (0x1000, 0x2003), (0x2000, 0x3003), (0x3000, 0x4003)] {
-        unit.device_store(&mut memory, address, entry);
+        unit.device_store(&mut memory, address, 8, entry);
     }
     let lookup = unit.depth(0);
     println!("address 0 has depth {}, by {} marks", lookup.depth, lookup.read);
@@ -20,7 +20,7 @@ fn main() {
         println!("forecast: {references} references, {exits} exits, {tables} shadow tables");
     }
     for address in addresses {
-        match unit.load(&mut memory, address) {
+        match unit.load(&mut memory, address, 8) {
             Answer::Value { word, references, exits } => {
                 println!("{address:#x}: {word:#x}, {references} references, {exits} exits")
             }

@@ -66,7 +66,7 @@ enum cangrieb_kind {
 /* The answer of a call. What its kind does not have is 0. */
 struct cangrieb_answer {
     uint64_t kind;
-    uint64_t number;     /* the word loaded, the number of the refusal, or a forecast's shadow tables */
+    uint64_t number;     /* what was loaded, the number of the refusal, or a forecast's shadow tables */
     uint64_t letter;     /* in ASCII: A absent, M malformed, P protected, H host absent, W host read-only */
     uint64_t level;      /* the guest level of A, M, P */
     uint64_t frame;      /* the guest frame of H, W */
@@ -92,9 +92,9 @@ _Static_assert(sizeof(struct cangrieb_lookup) == 2 * sizeof(uint64_t), "a lookup
    1 the words are no multiple of 512, or the frames are 0 or more than 65,536; 2 fewer than 4 host or shadow frames, or no
    guest frame; 3 the memory's length or the record; 4 the address; 5 the mark's level; 6 the mark is set already, or is not
    set; 7 64 marks are set; 8 the guest frame; 9 the host frame; 10 no host table is free; 12 not mapped; 14 more than 256
-   addresses; 11 a damaged host or shadow table.
+   addresses; 15 the width is not 1, 2, 4 or 8; 11 a damaged host or shadow table.
    For 4: a guest-virtual address is legal when its bits 48 to 63 all equal bit 47; a device's address, which is
-   guest-physical, is below 2^48. Loads and stores are at multiples of 8; a mark's address need not be.
+   guest-physical, is below 2^48. Loads and stores are at multiples of their width; a mark's address need not be.
    A refusal leaves the head and the places as given; that of an opening sets them to 0. */
 
 /* Opens a memory (1, 2): clears its host and shadow frames, keeps its guest words; nothing is mapped, the root is 0, no mark is
@@ -102,17 +102,19 @@ _Static_assert(sizeof(struct cangrieb_lookup) == 2 * sizeof(uint64_t), "a lookup
 struct cangrieb_answer cangrieb_open(struct cangrieb_head *head, uint64_t place[64], uint64_t *memory, size_t words,
                                      uint64_t hosts, uint64_t shadows);
 
-/* Loads the word at a guest-virtual address (3, 4, 11). */
+/* Loads width bytes, 1, 2, 4 or 8, at a guest-virtual address (3, 15, 4, 11). The first byte is the lowest of the number, and
+   above the last are zeros. */
 struct cangrieb_answer cangrieb_load(struct cangrieb_head *head, const uint64_t place[64], uint64_t *memory,
-                                     size_t words, uint64_t address);
+                                     size_t words, uint64_t address, uint64_t width);
 
-/* Stores a word at a guest-virtual address (3, 4, 11). */
+/* Stores the low width bytes of a value, 1, 2, 4 or 8, at a guest-virtual address (3, 15, 4, 11). No other byte is changed; the
+   bits of the value above the width are not read. */
 struct cangrieb_answer cangrieb_store(struct cangrieb_head *head, const uint64_t place[64], uint64_t *memory,
-                                      size_t words, uint64_t address, uint64_t value);
+                                      size_t words, uint64_t address, uint64_t width, uint64_t value);
 
-/* A device stores a word at a guest-physical address (3, 4, 11). */
+/* A device stores so at a guest-physical address (3, 15, 4, 11). */
 struct cangrieb_answer cangrieb_device_store(struct cangrieb_head *head, const uint64_t place[64], uint64_t *memory,
-                                             size_t words, uint64_t address, uint64_t value);
+                                             size_t words, uint64_t address, uint64_t width, uint64_t value);
 
 /* Loads a root (3, 8): the guest frame of the guest's top table. All held paths are dropped. */
 struct cangrieb_answer cangrieb_root(struct cangrieb_head *head, const uint64_t place[64], const uint64_t *memory,

@@ -15,9 +15,9 @@
 //! assert_eq!(unit.map(&mut memory, 0, 8, true), Answer::Ok);
 //! assert_eq!(unit.root(&mut memory, 0), Answer::Ok);
 //! // The guest's top table is its frame 0; its entry 0 names frame 0 again, at each of the four levels.
-//! assert_eq!(unit.device_store(&mut memory, 0, 3), Answer::Done { references: 4, exits: 0 });
-//! assert_eq!(unit.load(&mut memory, 0), Answer::Value { word: 3, references: 4, exits: 1 });
-//! assert_eq!(unit.load(&mut memory, 0), Answer::Value { word: 3, references: 4, exits: 0 });
+//! assert_eq!(unit.device_store(&mut memory, 0, 8, 3), Answer::Done { references: 4, exits: 0 });
+//! assert_eq!(unit.load(&mut memory, 0, 8), Answer::Value { word: 3, references: 4, exits: 1 });
+//! assert_eq!(unit.load(&mut memory, 0, 8), Answer::Value { word: 3, references: 4, exits: 0 });
 //! ```
 
 #![no_std]
@@ -125,14 +125,16 @@ pub enum Fault {
 }
 
 /// What a call answers. References are the words of tables read; exits are calls of the guest's processor to the monitor.
+///
+/// `W` is what a load yields: 64 bits, or as many as the load of that width has ([`Record::load_u8`] and its like).
 #[derive(Clone, Copy, Debug, PartialEq, Eq)]
-pub enum Answer {
+pub enum Answer<W = u64> {
     /// Done, where a call has nothing to count.
     Ok,
-    /// A load's word.
+    /// What a load found.
     Value {
-        /// The word loaded.
-        word: u64,
+        /// The bytes loaded, the first of them lowest; zeros above them.
+        word: W,
         /// Words of tables read.
         references: u64,
         /// Calls of the guest's processor to the monitor.
@@ -167,10 +169,10 @@ pub enum Answer {
     Refused(Refusal),
 }
 
-/// Why a call was refused: its number, 1 to 12 or 14.
+/// Why a call was refused: its number, 1 to 12, 14 or 15.
 ///
 /// For 4: a guest-virtual address is legal when its bits 48 to 63 all equal bit 47; a device's address, which is
-/// guest-physical, is below 2^48. Loads and stores are at multiples of 8; a mark's address need not be.
+/// guest-physical, is below 2^48. Loads and stores are at multiples of their width; a mark's address need not be.
 #[derive(Clone, Copy, Debug, PartialEq, Eq)]
 pub struct Refusal(pub u64);
 
@@ -180,7 +182,7 @@ impl fmt::Display for Refusal {
             1 => "the words are no multiple of 512, or the frames are 0 or more than 65,536",
             2 => "fewer than 4 host or shadow frames, or no guest frame is left",
             3 => "the memory has another length, or the record breaks a rule",
-            4 => "the address is not legal, or no multiple of 8",
+            4 => "the address is not legal, or no multiple of the width",
             5 => "the mark's level is not 1 to 5",
             6 => "the mark is set already, or is not set",
             7 => "64 marks are set",
@@ -190,6 +192,7 @@ impl fmt::Display for Refusal {
             11 => "a host or shadow table is damaged",
             12 => "the guest frame is not mapped",
             14 => "more than 256 addresses",
+            15 => "the width is not 1, 2, 4 or 8",
             _ => "no number of the unit's",
         };
         write!(out, "refused with {}: {why}", self.0)
@@ -215,6 +218,20 @@ impl fmt::Display for Fault {
 impl core::error::Error for Fault {}
 
 impl Answer {
+    /// With the value in another type, the rest as it is.
+    fn map<W>(self, narrow: fn(u64) -> W) -> Answer<W> {
+        match self {
+            Answer::Ok => Answer::Ok,
+            Answer::Value { word, references, exits } => {
+                Answer::Value { word: narrow(word), references, exits }
+            }
+            Answer::Done { references, exits } => Answer::Done { references, exits },
+            Answer::Fault { fault, references, exits } => Answer::Fault { fault, references, exits },
+            Answer::Figures { references, exits, tables } => Answer::Figures { references, exits, tables },
+            Answer::Refused(refusal) => Answer::Refused(refusal),
+        }
+    }
+
     fn from_raw(raw: raw::Answer) -> Answer {
         let raw::Answer { references, exits, .. } = raw;
         match raw.kind {
@@ -251,7 +268,38 @@ macro_rules! call {
     }};
 }
 
+/// The calls of one width: each the call with that width, in the type that has it.
+macro_rules! widths {
+    ($($load:ident, $store:ident, $device_store:ident, $word:ident, $width:literal, $bytes:literal;)*) => {$(
+        #[doc = concat!("[`Record::load`] of ", $bytes, ".")]
+        #[inline]
+        pub fn $load(&mut self, memory: &mut [u64], address: u64) -> Answer<$word> {
+            // The bits above the width are 0.
+            self.load(memory, address, $width).map(|word| word as $word)
+        }
+
+        #[doc = concat!("[`Record::store`] of ", $bytes, ".")]
+        #[inline]
+        pub fn $store(&mut self, memory: &mut [u64], address: u64, value: $word) -> Answer {
+            self.store(memory, address, $width, u64::from(value))
+        }
+
+        #[doc = concat!("[`Record::device_store`] of ", $bytes, ".")]
+        #[inline]
+        pub fn $device_store(&mut self, memory: &mut [u64], address: u64, value: $word) -> Answer {
+            self.device_store(memory, address, $width, u64::from(value))
+        }
+    )*};
+}
+
 impl Record {
+    widths! {
+        load_u8, store_u8, device_store_u8, u8, 1, "1 byte";
+        load_u16, store_u16, device_store_u16, u16, 2, "2 bytes";
+        load_u32, store_u32, device_store_u32, u32, 4, "4 bytes";
+        load_u64, store_u64, device_store_u64, u64, 8, "8 bytes";
+    }
+
     /// Opens a memory with so many host frames and shadow frames; those are cleared, the guest area is kept. Refused with
     /// 1 if the words are no multiple of 512 or the frames are 0 or more than 65,536; with 2 if either number is below 4
     /// or no guest frame is left.
@@ -268,22 +316,36 @@ impl Record {
         Record { head: Head::default(), place: [0; 64] }
     }
 
-    /// Loads the word at a guest-virtual address: 3, 4, 11.
+    /// Loads `width` bytes, 1, 2, 4 or 8, at a guest-virtual address: 3, 15 for another width, 4, 11. The first byte is the
+    /// lowest of the value, and above the last are zeros.
+    ///
+    /// ```
+    /// # use cangrieb::{Answer, Record};
+    /// # let mut memory = vec![0; 16 * 512];
+    /// # let mut unit = Record::open(&mut memory, 4, 4).unwrap();
+    /// # unit.map(&mut memory, 0, 8, true);
+    /// # unit.device_store_u64(&mut memory, 0, 3);
+    /// unit.store(&mut memory, 8, 8, 0x1122_3344_5566_7788);
+    /// unit.store(&mut memory, 9, 1, 0xaa);
+    /// assert!(matches!(unit.load(&mut memory, 8, 4), Answer::Value { word: 0x5566_aa88, .. }));
+    /// assert!(matches!(unit.load_u16(&mut memory, 14), Answer::Value { word: 0x1122, .. }));
+    /// ```
     #[inline]
-    pub fn load(&mut self, memory: &mut [u64], address: u64) -> Answer {
-        call!(cangrieb_load(&mut self.head, &self.place, memory, address))
+    pub fn load(&mut self, memory: &mut [u64], address: u64, width: u64) -> Answer {
+        call!(cangrieb_load(&mut self.head, &self.place, memory, address, width))
     }
 
-    /// Stores a word at a guest-virtual address: 3, 4, 11.
+    /// Stores the low `width` bytes of a value, 1, 2, 4 or 8, at a guest-virtual address: 3, 15 for another width, 4, 11. No
+    /// other byte is changed; the bits of the value above the width are not read.
     #[inline]
-    pub fn store(&mut self, memory: &mut [u64], address: u64, value: u64) -> Answer {
-        call!(cangrieb_store(&mut self.head, &self.place, memory, address, value))
+    pub fn store(&mut self, memory: &mut [u64], address: u64, width: u64, value: u64) -> Answer {
+        call!(cangrieb_store(&mut self.head, &self.place, memory, address, width, value))
     }
 
-    /// A device stores a word at a guest-physical address: 3, 4, 11.
+    /// A device stores as [`Record::store`] does, at a guest-physical address: 3, 15, 4, 11.
     #[inline]
-    pub fn device_store(&mut self, memory: &mut [u64], address: u64, value: u64) -> Answer {
-        call!(cangrieb_device_store(&mut self.head, &self.place, memory, address, value))
+    pub fn device_store(&mut self, memory: &mut [u64], address: u64, width: u64, value: u64) -> Answer {
+        call!(cangrieb_device_store(&mut self.head, &self.place, memory, address, width, value))
     }
 
     /// Loads the root, the guest frame of the guest's top table: 3, 8.
@@ -326,11 +388,11 @@ impl Record {
     /// let mut memory = vec![0; 16 * 512];
     /// let mut unit = Record::open(&mut memory, 4, 4).unwrap();
     /// unit.map(&mut memory, 0, 8, true);
-    /// unit.device_store(&mut memory, 0, 3);
+    /// unit.device_store(&mut memory, 0, 8, 3);
     /// // The first load fills the path through four shadow tables, the second finds it; 4 is no multiple of 8.
     /// let figures = unit.forecast(&memory, &[0, 8, 4]);
     /// assert_eq!(figures, Answer::Figures { references: 8, exits: 1, tables: 4 });
-    /// assert_eq!(unit.load(&mut memory, 0), Answer::Value { word: 3, references: 4, exits: 1 });
+    /// assert_eq!(unit.load(&mut memory, 0, 8), Answer::Value { word: 3, references: 4, exits: 1 });
     /// ```
     #[inline]
     pub fn forecast(&self, memory: &[u64], addresses: &[u64]) -> Answer {

@@ -39,30 +39,33 @@ extern "C" {
         hosts: u64,
         shadows: u64,
     ) -> Answer;
-    /// Loads a word: 3, 4, 11.
+    /// Loads 1, 2, 4 or 8 bytes: 3, 15, 4, 11.
     pub fn cangrieb_load(
         head: &mut Head,
         place: &[u64; 64],
         memory: *mut u64,
         words: usize,
         address: u64,
+        width: u64,
     ) -> Answer;
-    /// Stores a word: 3, 4, 11.
+    /// Stores the low 1, 2, 4 or 8 bytes of a value: 3, 15, 4, 11.
     pub fn cangrieb_store(
         head: &mut Head,
         place: &[u64; 64],
         memory: *mut u64,
         words: usize,
         address: u64,
+        width: u64,
         value: u64,
     ) -> Answer;
-    /// A device stores a word at a guest-physical address: 3, 4, 11.
+    /// A device stores at a guest-physical address: 3, 15, 4, 11.
     pub fn cangrieb_device_store(
         head: &mut Head,
         place: &[u64; 64],
         memory: *mut u64,
         words: usize,
         address: u64,
+        width: u64,
         value: u64,
     ) -> Answer;
     /// Another root: 3, 8.

@@ -42,18 +42,18 @@ fn fault(fault: Fault, references: u64, exits: u64) -> Answer {
 fn loads() {
     let (mut unit, mut memory) = guest();
     memory[12 * 512 + 1] = 0xC0FFEE;
-    assert_eq!(unit.load(&mut memory, 8), value(0xC0FFEE, 4, 1));
-    assert_eq!(unit.load(&mut memory, 8), value(0xC0FFEE, 4, 0));
-    assert_eq!(unit.load(&mut memory, 0x2000), fault(Fault::HostAbsent { frame: 8 }, 24, 1));
-    assert_eq!(unit.load(&mut memory, 0x3000), fault(Fault::Absent { level: 1 }, 20, 1));
-    assert_eq!(unit.store(&mut memory, 0x1000, 1), fault(Fault::Protected { level: 1 }, 20, 1));
+    assert_eq!(unit.load(&mut memory, 8, 8), value(0xC0FFEE, 4, 1));
+    assert_eq!(unit.load(&mut memory, 8, 8), value(0xC0FFEE, 4, 0));
+    assert_eq!(unit.load(&mut memory, 0x2000, 8), fault(Fault::HostAbsent { frame: 8 }, 24, 1));
+    assert_eq!(unit.load(&mut memory, 0x3000, 8), fault(Fault::Absent { level: 1 }, 20, 1));
+    assert_eq!(unit.store(&mut memory, 0x1000, 8, 1), fault(Fault::Protected { level: 1 }, 20, 1));
     // The ends of the halves, where the root has no entry, and what lies between them.
     for address in [0x7FFF_FFFF_FFF8, UPPER, 0xFFFF_FFFF_FFFF_FFF8] {
-        assert_eq!(unit.load(&mut memory, address), fault(Fault::Absent { level: 4 }, 5, 1));
+        assert_eq!(unit.load(&mut memory, address, 8), fault(Fault::Absent { level: 4 }, 5, 1));
     }
     for address in [1 << 47, 0xFFFF_FFFF_FFF8, 1 << 48, UPPER - 8] {
-        assert_eq!(unit.load(&mut memory, address), refused(4));
-        assert_eq!(unit.store(&mut memory, address, 1), refused(4));
+        assert_eq!(unit.load(&mut memory, address, 8), refused(4));
+        assert_eq!(unit.store(&mut memory, address, 8, 1), refused(4));
     }
 }
 
@@ -62,20 +62,20 @@ fn loads() {
 fn the_upper_half() {
     let (mut unit, mut memory) = guest();
     memory[12 * 512 + 1] = 0xC0FFEE;
-    assert_eq!(unit.device_store(&mut memory, 256 * 8, 0x1003), Answer::Done { references: 4, exits: 0 });
-    assert_eq!(unit.load(&mut memory, UPPER + 8), value(0xC0FFEE, 4, 1));
-    assert_eq!(unit.load(&mut memory, UPPER + 8), value(0xC0FFEE, 4, 0));
+    assert_eq!(unit.device_store(&mut memory, 256 * 8, 8, 0x1003), Answer::Done { references: 4, exits: 0 });
+    assert_eq!(unit.load(&mut memory, UPPER + 8, 8), value(0xC0FFEE, 4, 1));
+    assert_eq!(unit.load(&mut memory, UPPER + 8, 8), value(0xC0FFEE, 4, 0));
     // A mark that keeps index 256 holds in the upper half alone.
     assert_eq!(unit.set_mark(&mut memory, UPPER + 3, 3), Answer::Ok);
-    assert_eq!(unit.load(&mut memory, UPPER + 8), value(0xC0FFEE, 16, 1));
-    assert_eq!(unit.load(&mut memory, 8), value(0xC0FFEE, 4, 1));
+    assert_eq!(unit.load(&mut memory, UPPER + 8, 8), value(0xC0FFEE, 16, 1));
+    assert_eq!(unit.load(&mut memory, 8, 8), value(0xC0FFEE, 4, 1));
     assert_eq!(unit.clear_mark(&mut memory, 3, 3), refused(6));
     assert_eq!(unit.clear_mark(&mut memory, UPPER + 0x7F_FFFF_FFFF, 3), Answer::Ok);
     // One that keeps no index holds in both.
     assert_eq!(unit.set_mark(&mut memory, UPPER, 5), Answer::Ok);
     assert_eq!(unit.set_mark(&mut memory, 0, 5), refused(6));
-    assert_eq!(unit.store(&mut memory, UPPER + 8, 7), Answer::Done { references: 24, exits: 0 });
-    assert_eq!(unit.load(&mut memory, 8), value(7, 24, 0));
+    assert_eq!(unit.store(&mut memory, UPPER + 8, 8, 7), Answer::Done { references: 24, exits: 0 });
+    assert_eq!(unit.load(&mut memory, 8, 8), value(7, 24, 0));
 }
 
 /// Of the last device address no mapped frame has the first index; an address of the upper half is none of a device.
@@ -83,31 +83,31 @@ fn the_upper_half() {
 fn device_addresses() {
     let (mut unit, mut memory) = guest();
     let last = Fault::HostAbsent { frame: (1 << 36) - 1 };
-    assert_eq!(unit.device_store(&mut memory, 0xFFFF_FFFF_FFF8, 1), fault(last, 1, 1));
-    assert_eq!(unit.device_store(&mut memory, 1 << 48, 1), refused(4));
-    assert_eq!(unit.device_store(&mut memory, UPPER, 1), refused(4));
+    assert_eq!(unit.device_store(&mut memory, 0xFFFF_FFFF_FFF8, 8, 1), fault(last, 1, 1));
+    assert_eq!(unit.device_store(&mut memory, 1 << 48, 8, 1), refused(4));
+    assert_eq!(unit.device_store(&mut memory, UPPER, 8, 1), refused(4));
 }
 
 #[test]
 fn a_store_to_a_table_drops() {
     let (mut unit, mut memory) = guest();
     memory[15 * 512] = 15;
-    assert_eq!(unit.load(&mut memory, 0), value(0, 4, 1));
-    assert_eq!(unit.store(&mut memory, 0x4000, 0x7003), Answer::Done { references: 4, exits: 2 });
-    assert_eq!(unit.load(&mut memory, 0), value(15, 4, 1));
+    assert_eq!(unit.load(&mut memory, 0, 8), value(0, 4, 1));
+    assert_eq!(unit.store(&mut memory, 0x4000, 8, 0x7003), Answer::Done { references: 4, exits: 2 });
+    assert_eq!(unit.load(&mut memory, 0, 8), value(15, 4, 1));
 }
 
 #[test]
 fn marks() {
     let (mut unit, mut memory) = guest();
     assert_eq!(unit.set_mark(&mut memory, 0, 1), Answer::Ok);
-    assert_eq!(unit.load(&mut memory, 0), value(0, 8, 1));
-    assert_eq!(unit.store(&mut memory, 0x4000, 0x7003), Answer::Done { references: 8, exits: 0 });
-    assert_eq!(unit.load(&mut memory, 0x2000), fault(Fault::HostAbsent { frame: 8 }, 8, 1));
+    assert_eq!(unit.load(&mut memory, 0, 8), value(0, 8, 1));
+    assert_eq!(unit.store(&mut memory, 0x4000, 8, 0x7003), Answer::Done { references: 8, exits: 0 });
+    assert_eq!(unit.load(&mut memory, 0x2000, 8), fault(Fault::HostAbsent { frame: 8 }, 8, 1));
     assert_eq!(unit.set_mark(&mut memory, 0, 4), Answer::Ok);
-    assert_eq!(unit.load(&mut memory, 0), value(0, 20, 1));
+    assert_eq!(unit.load(&mut memory, 0, 8), value(0, 20, 1));
     assert_eq!(unit.set_mark(&mut memory, 0, 5), Answer::Ok);
-    assert_eq!(unit.load(&mut memory, 0), value(0, 24, 0));
+    assert_eq!(unit.load(&mut memory, 0, 8), value(0, 24, 0));
     assert_eq!(unit.clear_mark(&mut memory, 0, 5), Answer::Ok);
     assert_eq!(unit.clear_mark(&mut memory, 0, 5), refused(6));
 }
@@ -142,7 +142,7 @@ fn lookups() {
     assert_eq!(unit.clear_mark(&mut memory, 0, 5), Answer::Ok);
     assert_eq!(found(&unit, 0), (4, 4));
     // Loads go by the same depth.
-    assert_eq!(unit.load(&mut memory, 0), value(0, 4 + 4 * 4, 1));
+    assert_eq!(unit.load(&mut memory, 0, 8), value(0, 4 + 4 * 4, 1));
 }
 
 /// A lookup of a record that every call refuses ends too: nothing is set; a level that no mark has, and one above other
@@ -161,10 +161,10 @@ fn lookups_in_broken_records() {
 fn mappings() {
     let (mut unit, mut memory) = guest();
     memory[13 * 512] = 13;
-    assert_eq!(unit.load(&mut memory, 0), value(0, 4, 1));
+    assert_eq!(unit.load(&mut memory, 0, 8), value(0, 4, 1));
     assert_eq!(unit.map(&mut memory, 4, 13, false), Answer::Ok);
-    assert_eq!(unit.load(&mut memory, 0), value(13, 4, 1));
-    assert_eq!(unit.store(&mut memory, 0, 1), fault(Fault::HostReadOnly { frame: 4 }, 24, 1));
+    assert_eq!(unit.load(&mut memory, 0, 8), value(13, 4, 1));
+    assert_eq!(unit.store(&mut memory, 0, 8, 1), fault(Fault::HostReadOnly { frame: 4 }, 24, 1));
     assert_eq!(unit.unmap(&mut memory, 4), Answer::Ok);
     assert_eq!(unit.unmap(&mut memory, 4), refused(12));
     assert_eq!(unit.map(&mut memory, 1 << 36, 0, true), refused(8));
@@ -182,12 +182,12 @@ fn forecasts() {
     assert_eq!(unit.forecast(&memory, &[4, 0, 1 << 47, UPPER - 8, 8]), figures(8, 1, 4));
     assert_eq!(unit.forecast(&memory, &[0x2000, 0x3000, UPPER, 0]), figures(24 + 20 + 5 + 4, 4, 4));
     // Nothing was filled. Then the path of 0 is held, till the list itself drops it.
-    assert_eq!(unit.load(&mut memory, 0), value(0, 4, 1));
+    assert_eq!(unit.load(&mut memory, 0, 8), value(0, 4, 1));
     assert_eq!(unit.forecast(&memory, &[]), figures(0, 0, 4));
     assert_eq!(unit.forecast(&memory, &[0, 0x20_0000, 0]), figures(12, 2, 4));
-    assert_eq!(unit.load(&mut memory, 0), value(0, 4, 0));
+    assert_eq!(unit.load(&mut memory, 0, 8), value(0, 4, 0));
     // Through a mark, of two tables; four were in use at the start.
-    assert_eq!(unit.device_store(&mut memory, 256 * 8, 0x1003), Answer::Done { references: 4, exits: 1 });
+    assert_eq!(unit.device_store(&mut memory, 256 * 8, 8, 0x1003), Answer::Done { references: 4, exits: 1 });
     assert_eq!(unit.set_mark(&mut memory, UPPER, 2), Answer::Ok);
     assert_eq!(unit.forecast(&memory, &[UPPER, UPPER]), figures(24, 1, 4));
     assert_eq!(unit.set_mark(&mut memory, UPPER, 5), Answer::Ok);
@@ -213,17 +213,119 @@ fn the_length_of_a_list() {
 #[test]
 fn a_forecast_over_a_damaged_table() {
     let (mut unit, mut memory) = guest();
-    assert_eq!(unit.load(&mut memory, 0), value(0, 4, 1));
+    assert_eq!(unit.load(&mut memory, 0, 8), value(0, 4, 1));
     memory[0] = memory[0] & !(0xFF_FFFF_FFFF << 12) | 9 << 12;
     let before = memory.clone();
     assert_eq!(unit.forecast(&memory, &[0, 0x1000]), refused(11));
     assert_eq!(unit.forecast(&memory, &[0; 257]), refused(14));
     assert_eq!(memory, before);
-    assert_eq!(unit.load(&mut memory, 0x1000), refused(11));
+    assert_eq!(unit.load(&mut memory, 0x1000, 8), refused(11));
 }
 
-/// Every call but the opening through the archive's own functions, each on a copy of the record, with an address and a
-/// guest frame; a forecast of more addresses than it takes. The record after each, and the kind and number of its answer.
+/// The bytes of the word at address 8, and others.
+const OLD: [u8; 8] = [0x88, 0x77, 0x66, 0x55, 0x44, 0x33, 0x22, 0x11];
+const NEW: [u8; 8] = [0xA0, 0xA1, 0xA2, 0xA3, 0xA4, 0xA5, 0xA6, 0xA7];
+
+/// Every width at every place of a word: a load has its own bytes and zeros above, a store changes its own bytes alone.
+#[test]
+fn widths() {
+    for width in [1, 2, 4, 8] {
+        for offset in (0..8).step_by(width) {
+            let own = offset..offset + width;
+            let mut loaded = [0; 8];
+            loaded[..width].copy_from_slice(&OLD[own.clone()]);
+            let mut stored = OLD;
+            stored[own].copy_from_slice(&NEW[..width]);
+            let (address, bytes) = (8 + offset as u64, width as u64);
+
+            let (mut unit, mut memory) = guest();
+            memory[12 * 512 + 1] = u64::from_le_bytes(OLD);
+            assert_eq!(unit.load(&mut memory, address, bytes), value(u64::from_le_bytes(loaded), 4, 1));
+            let mut after = memory.clone();
+            after[12 * 512 + 1] = u64::from_le_bytes(stored);
+            let mut device = (unit, memory.clone());
+            let done = Answer::Done { references: 4, exits: 0 };
+            assert_eq!(unit.store(&mut memory, address, bytes, u64::from_le_bytes(NEW)), done);
+            assert_eq!(memory, after);
+            // Guest frame 4 is that page.
+            let at = 0x4000 + address;
+            assert_eq!(device.0.device_store(&mut device.1, at, bytes, u64::from_le_bytes(NEW)), done);
+            assert_eq!(device.1, after);
+        }
+    }
+}
+
+/// Addresses that are no multiples of the width.
+#[test]
+fn no_multiples() {
+    let (mut unit, mut memory) = guest();
+    for width in [2, 4, 8] {
+        for offset in (0..16).filter(|offset| offset % width != 0) {
+            assert_eq!(unit.load(&mut memory, offset, width), refused(4));
+            assert_eq!(unit.store(&mut memory, offset, width, 1), refused(4));
+            assert_eq!(unit.device_store(&mut memory, 0x4000 + offset, width, 1), refused(4));
+        }
+    }
+}
+
+/// A store to any byte of an entry that a held path read drops the path, also where no walk reads the byte.
+#[test]
+fn bytes_of_an_entry() {
+    for offset in 0..8 {
+        let (mut unit, mut memory) = guest();
+        let byte = memory[11 * 512].to_le_bytes()[offset as usize];
+        assert_eq!(unit.load(&mut memory, 0, 8), value(0, 4, 1));
+        assert_eq!(
+            unit.store_u8(&mut memory, 0x4000 + offset, byte),
+            Answer::Done { references: 4, exits: 2 }
+        );
+        assert_eq!(unit.load(&mut memory, 0, 8), value(0, 4, 1));
+        assert_eq!(
+            unit.device_store_u8(&mut memory, 0x3000 + offset, byte),
+            Answer::Done { references: 4, exits: 1 }
+        );
+        assert_eq!(unit.load(&mut memory, 0, 8), value(0, 4, 1));
+    }
+}
+
+/// The calls of one width are the calls with that width.
+macro_rules! same_calls {
+    ($load:ident, $store:ident, $device_store:ident, $word:ty, $width:literal) => {
+        let (unit, memory) = guest();
+        let new = u64::from_le_bytes(NEW);
+        let low = new as $word;
+        let (mut one, mut its) = (unit, memory.clone());
+        let (mut other, mut others) = (unit, memory);
+        for address in [8, 8 + $width, 0x1000, 0x3000, 1 << 48, 9] {
+            assert_eq!(one.$store(&mut its, address, low), other.store(&mut others, address, $width, new));
+            assert_eq!(
+                one.$device_store(&mut its, 0x4010 + address, low),
+                other.device_store(&mut others, 0x4010 + address, $width, new)
+            );
+            let same = match other.load(&mut others, address, $width) {
+                Answer::Value { word, references, exits } => {
+                    Answer::Value { word: <$word>::try_from(word).unwrap(), references, exits }
+                }
+                Answer::Fault { fault, references, exits } => Answer::Fault { fault, references, exits },
+                Answer::Refused(refusal) => Answer::Refused(refusal),
+                _ => unreachable!("no answer to a load"),
+            };
+            assert_eq!(one.$load(&mut its, address), same);
+        }
+        assert_eq!((one, its), (other, others));
+    };
+}
+
+#[test]
+fn calls_of_one_width() {
+    same_calls!(load_u8, store_u8, device_store_u8, u8, 1);
+    same_calls!(load_u16, store_u16, device_store_u16, u16, 2);
+    same_calls!(load_u32, store_u32, device_store_u32, u32, 4);
+    same_calls!(load_u64, store_u64, device_store_u64, u64, 8);
+}
+
+/// Every call but the opening through the archive's own functions, each on a copy of the record, with an address, a
+/// width and a guest frame; a forecast of more addresses than it takes. The record after each, and the kind and number of its answer.
 ///
 /// # Safety
 /// The pointer is to so many words, or there are none.
@@ -232,6 +334,7 @@ unsafe fn every_call(
     memory: *mut u64,
     words: usize,
     address: u64,
+    width: u64,
     guest: u64,
 ) -> [(Record, (u64, u64)); 9] {
     let list = [address; 257];
@@ -241,9 +344,9 @@ unsafe fn every_call(
         (after, (said.kind, said.number))
     };
     [
-        on_a_copy(&|head, place| raw::cangrieb_load(head, place, memory, words, address)),
-        on_a_copy(&|head, place| raw::cangrieb_store(head, place, memory, words, address, 1)),
-        on_a_copy(&|head, place| raw::cangrieb_device_store(head, place, memory, words, address, 1)),
+        on_a_copy(&|head, place| raw::cangrieb_load(head, place, memory, words, address, width)),
+        on_a_copy(&|head, place| raw::cangrieb_store(head, place, memory, words, address, width, 1)),
+        on_a_copy(&|head, place| raw::cangrieb_device_store(head, place, memory, words, address, width, 1)),
         on_a_copy(&|head, place| raw::cangrieb_root(head, place, memory, words, guest)),
         on_a_copy(&|head, place| raw::cangrieb_map(head, place, memory, words, guest, 8, true)),
         on_a_copy(&|head, place| raw::cangrieb_unmap(head, place, memory, words, guest)),
@@ -262,7 +365,7 @@ fn no_memory() {
     let null = std::ptr::null_mut();
     for record in [unit, Record::zeros()] {
         // No word is lent, so that no pointer is followed.
-        for (after, said) in unsafe { every_call(&record, null, 0, 0, 0) } {
+        for (after, said) in unsafe { every_call(&record, null, 0, 0, 3, 0) } {
             assert_eq!(said, (4, 3));
             assert_eq!(after, record);
         }
@@ -285,13 +388,18 @@ fn no_memory_to_open() {
 fn refused_calls() {
     let (mut unit, mut memory) = guest();
     assert_eq!(unit.set_mark(&mut memory, 0x20_0000, 1), Answer::Ok);
-    assert_eq!(unit.load(&mut memory, 0), value(0, 4, 1));
+    assert_eq!(unit.load(&mut memory, 0, 8), value(0, 4, 1));
     let before = memory.clone();
-    // Neither the address nor the guest frame is one.
+    // Neither the address nor the guest frame is one, and the width need not be one either.
     for address in [1 << 48, UPPER - 8] {
-        let calls = unsafe { every_call(&unit, memory.as_mut_ptr(), memory.len(), address, 1 << 36) };
-        assert_eq!(calls.map(|(_, said)| said), [4, 4, 4, 8, 8, 8, 4, 4, 14].map(|number| (4, number)));
-        assert!(calls.iter().all(|(after, _)| *after == unit));
+        for (width, number) in [(8, 4), (1, 4), (3, 15), (0, 15), (16, 15), (1 << 32 | 8, 15), (u64::MAX, 15)]
+        {
+            let calls =
+                unsafe { every_call(&unit, memory.as_mut_ptr(), memory.len(), address, width, 1 << 36) };
+            let numbers = [number, number, number, 8, 8, 8, 4, 4, 14].map(|number| (4, number));
+            assert_eq!(calls.map(|(_, said)| said), numbers);
+            assert!(calls.iter().all(|(after, _)| *after == unit));
+        }
     }
     let mut after = unit;
     assert_eq!(after.set_mark(&mut memory, 0, 6), refused(5));
@@ -328,14 +436,14 @@ fn broken_records() {
     broken[7].head.shadow.top = 8 << 12 | 1;
     let before = memory.clone();
     for record in broken {
-        for (after, said) in unsafe { every_call(&record, memory.as_mut_ptr(), memory.len(), 0, 0) } {
+        for (after, said) in unsafe { every_call(&record, memory.as_mut_ptr(), memory.len(), 0, 3, 0) } {
             assert_eq!(said, (4, 3), "{record:?}");
             assert_eq!(after, record);
         }
     }
     assert_eq!(memory, before);
     let mut after = unit;
-    assert_eq!(after.load(&mut memory[512..], 0), refused(3));
+    assert_eq!(after.load(&mut memory[512..], 0, 8), refused(3));
     assert_eq!(after, unit);
 }
 
@@ -344,7 +452,7 @@ fn broken_records() {
 fn texts() {
     assert_eq!(Refusal(12).to_string(), "refused with 12: the guest frame is not mapped");
     assert_eq!(Fault::HostAbsent { frame: 8 }.to_string(), "H: guest frame 8 is not mapped");
-    let texts: Vec<String> = (1..=12).chain([14]).map(|number| Refusal(number).to_string()).collect();
+    let texts: Vec<String> = (1..=12).chain([14, 15]).map(|number| Refusal(number).to_string()).collect();
     assert!(texts.iter().all(|text| !text.contains("no number")));
     assert!(Refusal(13).to_string().contains("no number"));
 }

@@ -4,10 +4,14 @@ use crate::{address_in, answer, is_set, lookup, places};
 use cangrieb::{Head, Record};
 use std::collections::BTreeMap;
 use walker::book::Book;
+use walker::numbers::{Bytes, WIDTHS, WORD_BYTES};
 use walker::random::Random;
+use walker::unit::{refuse_device_store, refuse_request};
 use walker::{Answer, Call};
 
 const FRAME: usize = 512;
+/// As an opening sets them; any other number is refused with 3.
+const LEVELS: u32 = 4;
 
 /// A memory with a margin of known words on each side of it, which no call may touch.
 #[derive(Clone)]
@@ -49,8 +53,9 @@ pub type Counts = BTreeMap<String, u64>;
 impl State {
     /// A call, and what must hold after it whatever the record and the memory were:
     /// no word outside the memory changes; a refusal leaves the record, and
-    /// but for 11 leaves every word; a store changes one guest word at most, to its
-    /// value and at its place in a frame, and any other call none; a load yields a word that stands
+    /// but for 11 leaves every word; a load or store that its width or address forbids is refused with
+    /// 15 or 4, unless the record is with 3; a store changes its bytes of one guest word at most, to its
+    /// value and at its place in a frame, and any other call none; a load yields bytes that stand
     /// in the guest area, at its place in a frame; a forecast yields figures, 3, 14 or 11, and leaves
     /// the record and every word.
     pub fn checked_call(&mut self, before: &mut State, call: &Call, part: usize, counts: &mut Counts) {
@@ -58,6 +63,13 @@ impl State {
         before.lent.words.copy_from_slice(&self.lent.words);
         let said = answer(&mut self.record, &mut self.lent.memory()[..part], call);
         count(counts, name(call, &said));
+        if let Some(number) = refusal_by_numbers(call) {
+            // A load that nothing but 3 keeps from being refused with 4.
+            let other =
+                answer(&mut self.record.clone(), &mut self.lent.memory()[..part], &Call::load_word(1 << 48));
+            let expected = if other == Answer::No(3) { 3 } else { number };
+            assert_eq!(said, Answer::No(expected), "{call:?}");
+        }
         assert!(self.lent.margins_stand(), "{call:?} => {said:?}: a word outside the memory");
         checked_lookup(&self.record, address_in(call), said == Answer::No(3), counts);
         if let Call::Forecast { addresses } = call {
@@ -77,24 +89,30 @@ impl State {
         let guest = &self.lent.memory()[first..];
         let guest_before = &before.lent.memory()[first..];
         match (call, said) {
-            (Call::Store { address, value } | Call::DeviceStore { address, value }, Answer::Done { .. }) => {
+            (
+                Call::Store { address, width, value } | Call::DeviceStore { address, width, value },
+                Answer::Done { .. },
+            ) => {
+                let (at, bytes) = (place(*address), Bytes::at(*address, *width));
                 let changed = guest.iter().zip(guest_before).enumerate().filter(|(_, (now, was))| now != was);
-                let changed: Vec<(usize, u64)> = changed.map(|(at, (now, _))| (at % FRAME, *now)).collect();
-                let stored = (place(*address), *value);
+                let changed: Vec<(usize, u64, u64)> =
+                    changed.map(|(at, (now, was))| (at % FRAME, *now, *was)).collect();
                 assert!(
-                    changed.iter().all(|word| *word == stored) && changed.len() <= 1,
-                    "{call:?}: {changed:?}"
+                    changed.iter().all(|(place, now, was)| *place == at && *now == bytes.put(*was, *value))
+                        && changed.len() <= 1,
+                    "{call:?}: {changed:x?}"
                 );
                 assert!(
-                    guest.iter().skip(stored.0).step_by(FRAME).any(|word| *word == stored.1),
+                    guest.iter().skip(at).step_by(FRAME).any(|word| *word == bytes.put(*word, *value)),
                     "{call:?}: not stored"
                 );
             }
-            (Call::Load { address }, Answer::Value { value, .. }) => {
+            (Call::Load { address, width }, Answer::Value { value, .. }) => {
+                let (at, bytes) = (place(*address), Bytes::at(*address, *width));
                 assert!(guest == guest_before, "{call:?} => {said:?}: a guest word");
                 assert!(
-                    guest.iter().skip(place(*address)).step_by(FRAME).any(|word| *word == value),
-                    "{call:?}"
+                    guest.iter().skip(at).step_by(FRAME).any(|word| bytes.of(*word) == value),
+                    "{call:?} => {said:?}"
                 );
             }
             _ => assert!(guest == guest_before, "{call:?} => {said:?}: a guest word"),
@@ -191,7 +209,18 @@ fn check_figures(length: u64, said: &Answer) {
     }
 }
 
-/// The answers to a forecast have names of their own.
+/// The refusal that only 3 goes before, if it is by numbers of the call alone.
+fn refusal_by_numbers(call: &Call) -> Option<u32> {
+    match *call {
+        Call::Load { address, width } | Call::Store { address, width, .. } => {
+            refuse_request(LEVELS, address, width)
+        }
+        Call::DeviceStore { address, width, .. } => refuse_device_store(LEVELS, address, width),
+        _ => None,
+    }
+}
+
+/// The answers to a forecast have names of their own, and those to a load or store that is not of a word.
 fn name(call: &Call, said: &Answer) -> String {
     let name = match said {
         Answer::Ok => "ok".into(),
@@ -201,8 +230,13 @@ fn name(call: &Call, said: &Answer) -> String {
         Answer::Figures { .. } => "figures".into(),
         Answer::No(number) => format!("refusal {number}"),
     };
-    match call {
+    match *call {
         Call::Forecast { .. } => format!("forecast: {name}"),
+        Call::Load { width, .. } | Call::Store { width, .. } | Call::DeviceStore { width, .. }
+            if width != WORD_BYTES =>
+        {
+            format!("{}: {name}", if WIDTHS.contains(&width) { "narrow" } else { "wrong width" })
+        }
         _ => name,
     }
 }

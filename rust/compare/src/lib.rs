@@ -16,9 +16,9 @@ pub fn answer(record: &mut Record, memory: &mut [u64], call: &Call) -> Answer {
         Call::Unmap { guest } => record.unmap(memory, guest),
         Call::SetMark { address, level } => record.set_mark(memory, address, level),
         Call::ClearMark { address, level } => record.clear_mark(memory, address, level),
-        Call::Load { address } => record.load(memory, address),
-        Call::Store { address, value } => record.store(memory, address, value),
-        Call::DeviceStore { address, value } => record.device_store(memory, address, value),
+        Call::Load { address, width } => record.load(memory, address, width),
+        Call::Store { address, width, value } => record.store(memory, address, width, value),
+        Call::DeviceStore { address, width, value } => record.device_store(memory, address, width, value),
         Call::Forecast { ref addresses } => record.forecast(memory, addresses),
     };
     in_walkers_terms(said)
@@ -57,7 +57,7 @@ pub fn served(mut record: Record, memory: &mut [u64], addresses: &[u64]) -> Answ
     let (mut references, mut exits) = (0, 0);
     let mut tables = record.head.shadow.used;
     for address in addresses {
-        let said = answer(&mut record, memory, &Call::Load { address: *address });
+        let said = answer(&mut record, memory, &Call::load_word(*address));
         assert!(!matches!(said, Answer::No(number) if number != 4), "load {address:#x} => {said:?}");
         let (more_references, more_exits) = said.counts();
         references += more_references;
@@ -70,7 +70,7 @@ pub fn served(mut record: Record, memory: &mut [u64], addresses: &[u64]) -> Answ
 /// An address to look up about a call: its own, or that of its frame.
 pub fn address_in(call: &Call) -> u64 {
     match *call {
-        Call::Load { address }
+        Call::Load { address, .. }
         | Call::Store { address, .. }
         | Call::DeviceStore { address, .. }
         | Call::SetMark { address, .. }

@@ -5,6 +5,7 @@ use cangrieb::Record;
 use compare::damage::{Counts, Lent, State};
 use compare::{answer, memory_before};
 use walker::random::{run, Random, Run, Sizes};
+use walker::{Answer, Call};
 
 /// Calls after each damage, and damages of one run.
 const CALLS: u64 = 50;
@@ -60,6 +61,10 @@ fn damaged_runs(first_seed: u64, calls: u64, sizes: fn(&mut Random) -> Sizes) {
         let refusals = [3, 4, 5, 6, 7, 8, 9, 10, 11, 12].map(|number| format!("refusal {number}"));
         let faults = ["A", "M", "P", "H", "W"].map(|letter| format!("fault {letter}"));
         let others = ["ok", "value", "done"].map(String::from);
+        let narrow = ["value", "done", "refusal 3", "refusal 4", "refusal 11"];
+        let narrow = faults.iter().map(String::as_str).chain(narrow).map(|name| format!("narrow: {name}"));
+        let narrow: Vec<String> = narrow.collect();
+        let wrong_widths = ["refusal 3", "refusal 15"].map(|name| format!("wrong width: {name}"));
         let forecasts =
             ["figures", "refusal 3", "refusal 11", "refusal 14"].map(|name| format!("forecast: {name}"));
         let lookups =
@@ -76,10 +81,49 @@ fn damaged_runs(first_seed: u64, calls: u64, sizes: fn(&mut Random) -> Sizes) {
         ];
         let odd = odd.map(|odd| format!("record with {odd}"));
         let answers = refusals.iter().chain(&faults).chain(&others).chain(&forecasts);
+        let answers = answers.chain(&narrow).chain(&wrong_widths);
         for name in answers.chain(&lookups).chain(&odd) {
             assert!(counts.contains_key(name), "no damaged run had: {name}");
         }
     }
+}
+
+/// Whatever the address is, and without a word changed.
+#[test]
+fn three_before_fifteen_before_four() {
+    let mut memory = vec![0; 16 * 512];
+    let sound = Record::open(&mut memory, 4, 4).unwrap();
+    let opened = memory.clone();
+    let mut bad_root = sound;
+    bad_root.head.root = 1 << 36;
+    let mut refuse = |record: Record, words: usize, address: u64, width: u64, number: u32| {
+        let calls = [
+            Call::Load { address, width },
+            Call::Store { address, width, value: 1 },
+            Call::DeviceStore { address, width, value: 1 },
+        ];
+        for call in calls {
+            let mut after = record;
+            let said = answer(&mut after, &mut memory[..words], &call);
+            assert_eq!(said, Answer::No(number), "{call:?} on {words} words");
+            assert!(after == record && memory == opened, "{call:?} => {said:?}");
+        }
+    };
+    let all = 16 * 512;
+    let wrong = [0, 3, 5, 6, 7, 9, 16, 0x101, 1 << 32, (1 << 32) + 1, 1 << 63, u64::MAX - 7, u64::MAX];
+    // Legal, within a word, and neither a guest's nor a device's.
+    for address in [0, 8, 1, 4, 1 << 48, (1 << 48) + 1, u64::MAX >> 1] {
+        for width in wrong.into_iter().chain([1, 2, 4, 8]) {
+            refuse(Record::zeros(), all, address, width, 3);
+            refuse(bad_root, all, address, width, 3);
+            refuse(sound, all - 512, address, width, 3);
+            refuse(sound, 0, address, width, 3);
+        }
+        wrong.iter().for_each(|width| refuse(sound, all, address, *width, 15));
+    }
+    let within = [(1, 2), (6, 4), (2, 4), (4, 8), (1, 8), (7, 8)];
+    within.iter().for_each(|(address, width)| refuse(sound, all, *address, *width, 4));
+    [1, 2, 4, 8].iter().for_each(|width| refuse(sound, all, 1 << 48, *width, 4));
 }
 
 #[test]

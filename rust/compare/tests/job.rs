@@ -34,7 +34,7 @@ fn output(input: &[u8], piece: usize) -> String {
 }
 
 fn load(address: u64) -> Vec<u8> {
-    write_record(&Record::Call(Call::Load { address }))
+    write_record(&Record::Call(Call::load_word(address)))
 }
 
 fn open() -> Vec<u8> {

@@ -6,7 +6,7 @@
 use cangrieb::Record;
 use compare::{address_in, answer, first_guest_word, lookup, memory_before, places, served};
 use walker::book::Mark;
-use walker::events::{of_forecasts, of_halves, of_lookups, Events};
+use walker::events::{of_forecasts, of_halves, of_lookups, of_widths, Events};
 use walker::numbers::{address_of, different_proper_prefixes, indexes, page_from, sign_bit};
 use walker::random::{mark_run, run, Random, Run, Sizes};
 use walker::{Answer, Call, Unit};
@@ -31,6 +31,8 @@ fn same(seed: u64, run: &Run) -> Events {
         let said = answer(&mut record, &mut memory, call);
         let expected = walker.call(call);
         assert_eq!(said, expected, "seed {seed}, {:?}, call {number}: {call:?}", run.sizes);
+        let unchanged = !matches!(said, Answer::No(_)) || record == before;
+        assert!(unchanged, "seed {seed}, {:?}, call {number}: {call:?} => {said:?}: the record", run.sizes);
         if let Call::Forecast { addresses } = call {
             let place = format!("seed {seed}, {:?}, forecast {number}: {call:?}", run.sizes);
             assert!(record == before && memory == copy, "{place}: something changed");
@@ -106,6 +108,7 @@ fn events(overflows: bool) -> Vec<String> {
     let mut names = of_halves(4);
     names.extend(of_forecasts(4, overflows));
     names.extend(of_lookups(4));
+    names.extend(of_widths(4));
     let mut add = |name: String| names.push(name);
     for access in ["Load", "Store"] {
         for way in ["path held", "path not held"] {
@@ -135,7 +138,7 @@ fn events(overflows: bool) -> Vec<String> {
         add(format!("device store, fault H after {level}"));
     }
     (0..=4).for_each(|depth| add(format!("fill at depth {depth}")));
-    [4, 5, 6, 7, 8, 9, 10, 12].iter().for_each(|number| add(format!("refusal {number}")));
+    [4, 5, 6, 7, 8, 9, 10, 12, 15].iter().for_each(|number| add(format!("refusal {number}")));
     (0..=2).for_each(|exits| add(format!("store done, {exits} exits")));
     (0..=1).for_each(|exits| add(format!("device store done, {exits} exits")));
     let others = [
@@ -191,6 +194,10 @@ fn all_same(first_seed: u64, runs: u64, overflows: bool, sizes: fn(&mut Random) 
     let forecast = all.count("forecast, overflow");
     println!("{forecast:>9} overflows in forecasts");
     assert!(!overflows || forecast >= 1000, "{forecast} overflows in forecasts");
+    // Each byte of a word, each width and each way to be refused: not by chance alone.
+    for event in of_widths(4) {
+        assert!(all.count(&event) >= 10, "{} times: {event}", all.count(&event));
+    }
 }
 
 #[test]

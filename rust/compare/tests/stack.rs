@@ -82,19 +82,25 @@ fn calls_stay_within_the_bound() {
     take(
         "device store",
         used(&mut || {
-            unit.device_store(&mut memory, 0, 3);
+            unit.device_store(&mut memory, 0, 8, 3);
         }),
     );
     take(
         "load, filled",
         used(&mut || {
-            unit.load(&mut memory, 0);
+            unit.load(&mut memory, 0, 8);
         }),
     );
     take(
         "load, held",
         used(&mut || {
-            unit.load(&mut memory, 0);
+            unit.load(&mut memory, 0, 8);
+        }),
+    );
+    take(
+        "load of a byte, held",
+        used(&mut || {
+            unit.load(&mut memory, 7, 1);
         }),
     );
     take(
@@ -124,7 +130,7 @@ fn calls_stay_within_the_bound() {
     take(
         "load, at depth 2",
         used(&mut || {
-            unit.load(&mut memory, 0);
+            unit.load(&mut memory, 0, 8);
         }),
     );
     take(
@@ -142,13 +148,31 @@ fn calls_stay_within_the_bound() {
     take(
         "load",
         used(&mut || {
-            unit.load(&mut memory, 0);
+            unit.load(&mut memory, 0, 8);
         }),
     );
     take(
         "store that drops",
         used(&mut || {
-            unit.store(&mut memory, 0, 3);
+            unit.store(&mut memory, 0, 8, 3);
+        }),
+    );
+    take(
+        "load, filled again",
+        used(&mut || {
+            unit.load(&mut memory, 0, 8);
+        }),
+    );
+    take(
+        "device store of a byte that drops",
+        used(&mut || {
+            unit.device_store(&mut memory, 7, 1, 0);
+        }),
+    );
+    take(
+        "store of a byte that fills and drops",
+        used(&mut || {
+            unit.store(&mut memory, 7, 1, 0);
         }),
     );
     take(

@@ -1,5 +1,7 @@
 //! The calls of the unit, its answers, and the refusals by number.
 
+use crate::numbers::WORD_BYTES;
+
 /// "1 if the words are no multiple of 512 or the frames are 0 or more than 65,536"
 pub const BAD_MEMORY: u32 = 1;
 /// "2 if H or S is below 4 or H + S leaves no guest frame"
@@ -7,8 +9,8 @@ pub const BAD_SPLIT: u32 = 2;
 /// "3 for any kind but 1 before a granted open"
 pub const NOT_OPEN: u32 = 3;
 /// For loads and stores 4 if the address is not legal ("when bits 48 to 63 all
-/// equal bit 47") "or no multiple of 8", for marks the first only; for device
-/// stores "4 if the address is 2^48 or more or no multiple of 8".
+/// equal bit 47") or no multiple of the width, for marks the first only; for device
+/// stores 4 if the address is 2^48 or more, or no multiple of the width.
 pub const BAD_ADDRESS: u32 = 4;
 /// "5 if the level is not 1 to 5"
 pub const BAD_LEVEL: u32 = 5;
@@ -28,6 +30,8 @@ pub const NOT_MAPPED: u32 = 12;
 pub const BAD_RECORD: u32 = 13;
 /// A forecast of more addresses than it takes; only 3 goes before it.
 pub const TOO_MANY_ADDRESSES: u32 = 14;
+/// A load or store of another width than 1, 2, 4 or 8; only 3 goes before it.
+pub const BAD_WIDTH: u32 = 15;
 
 /// A call after a granted opening.
 #[derive(Clone, Debug, PartialEq, Eq)]
@@ -37,10 +41,26 @@ pub enum Call {
     Unmap { guest: u64 },
     SetMark { address: u64, level: u64 },
     ClearMark { address: u64, level: u64 },
-    Load { address: u64 },
-    Store { address: u64, value: u64 },
-    DeviceStore { address: u64, value: u64 },
+    Load { address: u64, width: u64 },
+    Store { address: u64, width: u64, value: u64 },
+    DeviceStore { address: u64, width: u64, value: u64 },
     Forecast { addresses: Vec<u64> },
+}
+
+/// Loads and stores of whole words: a job's records have no others, and a forecast
+/// speaks of no others.
+impl Call {
+    pub fn load_word(address: u64) -> Call {
+        Call::Load { address, width: WORD_BYTES }
+    }
+
+    pub fn store_word(address: u64, value: u64) -> Call {
+        Call::Store { address, width: WORD_BYTES, value }
+    }
+
+    pub fn device_store_word(address: u64, value: u64) -> Call {
+        Call::DeviceStore { address, width: WORD_BYTES, value }
+    }
 }
 
 /// A fault with what it carries.

@@ -2,7 +2,9 @@
 //! nothing in the answers rests on them.
 
 use crate::book::{Lookup, Mark};
-use crate::numbers::{device_limit, frame_of, in_upper_half, indexes, is_legal, sign_bit};
+use crate::numbers::{
+    device_limit, frame_of, in_upper_half, indexes, is_legal, sign_bit, WIDTHS, WORD_BYTES,
+};
 use std::collections::BTreeMap;
 
 #[derive(Clone, Debug, Default)]
@@ -48,6 +50,20 @@ impl Events {
         named.map(|(_, many)| many).sum()
     }
 
+    /// A width that was refused, and what else would have been, by the names of
+    /// `of_widths`. The address is in range if it is legal, or a device's below the limit.
+    pub fn add_refused_width(&mut self, name: &str, in_range: bool, address: u64, width: u64) {
+        let place = match (in_range, address % WORD_BYTES) {
+            (false, _) => "address out of range",
+            (true, 0) => "address of a word",
+            (true, _) => "address within a word",
+        };
+        self.add(format!("refusal 15 of {name}, {place}"));
+        for (_, what) in met_by_width(width).iter().filter(|(is_met, _)| *is_met) {
+            self.add(format!("refusal 15, {what}"));
+        }
+    }
+
     /// A lookup at the unit's places, by the names of `of_lookups`.
     pub fn add_lookup(&mut self, levels: u32, places: &[Option<Mark>], address: u64, lookup: Lookup) {
         let half = if in_upper_half(address, levels) { "upper half" } else { "lower half" };
@@ -68,6 +84,26 @@ impl Events {
             self.add_if(behind, &format!("lookup ended, behind one of level {levels}"));
         }
     }
+}
+
+/// What a width that was refused is like.
+fn met_by_width(width: u64) -> [(bool, &'static str); 12] {
+    let low_bits = |bits: u32| WIDTHS.contains(&(width % (1 << bits)));
+    [
+        (width == 0, "width 0"),
+        (width == 3, "width 3"),
+        (width == 5, "width 5"),
+        (width == 6, "width 6"),
+        (width == 7, "width 7"),
+        (width == 9, "width 9"),
+        (width == 16, "width 16"),
+        // A number cut to fewer bits would be another one.
+        (low_bits(8), "right by its low 8 bits"),
+        (low_bits(32), "right by its low 32 bits"),
+        (WIDTHS.contains(&width.wrapping_neg()), "right but for its sign"),
+        (width >= 1 << 32, "width of 2^32 or more"),
+        (width >= 1 << 63, "width of 2^63 or more"),
+    ]
 }
 
 /// What a lookup met, by the places that are set and how many of them it read.
@@ -126,9 +162,6 @@ pub fn of_halves(levels: u32) -> Vec<String> {
     for name in ["Load", "Store", "SetMark", "ClearMark"] {
         add(format!("refusal 4 of {name}, between the halves"));
     }
-    for name in ["Load", "Store", "DeviceStore"] {
-        add(format!("refusal 4 of {name}, no multiple of 8"));
-    }
     add("refusal 4 of DeviceStore, at or above the limit".into());
     add("refusal 4 of DeviceStore, legal for a load".into());
     // With five levels the limit lies in the lower half.
@@ -137,6 +170,54 @@ pub fn of_halves(levels: u32) -> Vec<String> {
     }
     add("depth unlike the other half's".into());
     add("like paths of both halves held".into());
+    names
+}
+
+/// What loads, stores and device stores of each width must have had in many runs of
+/// so many levels (document 02, 4).
+pub fn of_widths(levels: u32) -> Vec<String> {
+    let mut names = Vec::new();
+    let mut add = |name: String| names.push(name);
+    for name in ["Load", "Store", "DeviceStore"] {
+        for place in ["address of a word", "address within a word", "address out of range"] {
+            add(format!("refusal 15 of {name}, {place}"));
+        }
+        for width in WIDTHS {
+            for first in (0..WORD_BYTES).step_by(width as usize) {
+                add(format!("granted {name}, width {width} at byte {first}"));
+                if name != "Load" {
+                    add(format!("drop by {name}, width {width} at byte {first}"));
+                }
+            }
+            // Every address is a multiple of 1, and a word has no bytes but its own.
+            if width > 1 {
+                add(format!("refusal 4 of {name}, no multiple of {width}"));
+            }
+            if width < WORD_BYTES {
+                add(format!("granted {name}, width {width}, other bytes not 0"));
+                if name != "Load" {
+                    add(format!("granted {name}, width {width}, value with more bits"));
+                }
+            }
+        }
+    }
+    met_by_width(0).iter().for_each(|(_, what)| add(format!("refusal 15, {what}")));
+    for access in ["Load", "Store"] {
+        for depth in 0..=levels {
+            for way in ["path held", "path not held"] {
+                add(format!("granted narrow {access} at depth {depth}, {way}"));
+            }
+        }
+        add(format!("granted narrow {access} at depth {}, no path", levels + 1));
+    }
+    for (name, letters) in [("Load", "AMH"), ("Store", "AMPHW"), ("DeviceStore", "HW")] {
+        letters.chars().for_each(|letter| add(format!("fault {letter} of a narrow {name}")));
+    }
+    for what in ["present bit", "writable bit", "frame", "form"] {
+        add(format!("walk by an entry whose {what} was changed by bytes"));
+    }
+    add("narrow drop though the bytes are the same".into());
+    add("narrow store, watched frame, no path dropped".into());
     names
 }
 

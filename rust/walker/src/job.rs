@@ -1,7 +1,7 @@
 //! The job program: records from the input, run on a memory of 16 frames.
 
 use crate::answer::*;
-use crate::numbers::FRAME_WORDS;
+use crate::numbers::{FRAME_WORDS, WORD_BYTES};
 use crate::unit::Unit;
 
 /// "on a memory of 16 frames"
@@ -99,9 +99,9 @@ fn read_body(kind: u64, body: &[u8]) -> Option<Record> {
         4 => Call::Unmap { guest: number(body) },
         5 => Call::SetMark { address: number(&body[..8]), level: body[8] as u64 },
         6 => Call::ClearMark { address: number(&body[..8]), level: body[8] as u64 },
-        7 => Call::Load { address: number(body) },
-        8 => Call::Store { address: number(&body[..8]), value: number(&body[8..]) },
-        9 => Call::DeviceStore { address: number(&body[..8]), value: number(&body[8..]) },
+        7 => Call::load_word(number(body)),
+        8 => Call::store_word(number(&body[..8]), number(&body[8..])),
+        9 => Call::device_store_word(number(&body[..8]), number(&body[8..])),
         _ => return None,
     };
     Some(Record::Call(call))
@@ -150,14 +150,19 @@ pub fn write_record(record: &Record) -> Vec<u8> {
         Record::Call(Call::Unmap { guest }) => (4, guest.to_le_bytes().to_vec()),
         Record::Call(Call::SetMark { address, level }) => (5, mark_body(address, level)),
         Record::Call(Call::ClearMark { address, level }) => (6, mark_body(address, level)),
-        Record::Call(Call::Load { address }) => (7, address.to_le_bytes().to_vec()),
-        Record::Call(Call::Store { address, value }) => {
+        Record::Call(Call::Load { address, width: WORD_BYTES }) => (7, address.to_le_bytes().to_vec()),
+        Record::Call(Call::Store { address, width: WORD_BYTES, value }) => {
             (8, [address.to_le_bytes(), value.to_le_bytes()].concat())
         }
-        Record::Call(Call::DeviceStore { address, value }) => {
+        Record::Call(Call::DeviceStore { address, width: WORD_BYTES, value }) => {
             (9, [address.to_le_bytes(), value.to_le_bytes()].concat())
         }
-        Record::Call(Call::Forecast { .. }) => panic!("no kind of record is a forecast"),
+        Record::Call(
+            ref other @ (Call::Load { .. }
+            | Call::Store { .. }
+            | Call::DeviceStore { .. }
+            | Call::Forecast { .. }),
+        ) => panic!("no kind of record is {other:?}"),
     };
     raw_record(body.len() as u16 + 2, kind, &body)
 }

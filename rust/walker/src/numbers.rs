@@ -1,10 +1,16 @@
-//! Addresses, indexes and entries. The number of levels is a value: document 01
-//! has four; with five, frames are below 2^40 and addresses have 57 bits.
+//! Addresses, indexes, entries and the bytes of a word. The number of levels is a
+//! value: document 01 has four; with five, frames are below 2^40 and addresses have
+//! 57 bits.
 
 use std::collections::BTreeSet;
+use std::ops::Range;
 
 /// "A frame is 512 words."
 pub const FRAME_WORDS: u64 = 512;
+/// The bytes of a word, and the width of a load or store that is for all of them.
+pub const WORD_BYTES: u64 = 8;
+/// How many bytes a load or store may be for (document 02, 4).
+pub const WIDTHS: [u64; 4] = [1, 2, 4, WORD_BYTES];
 /// "There are at most 65,536 frames"
 pub const MOST_FRAMES: u64 = 65_536;
 /// "then 12 bits of offset"
@@ -56,7 +62,39 @@ pub fn frame_of(address: u64) -> u64 {
 
 /// The place of an address's word within its frame.
 pub fn word_in_frame(address: u64) -> u64 {
-    (address / 8) % FRAME_WORDS
+    (address / WORD_BYTES) % FRAME_WORDS
+}
+
+/// Some bytes of a word (document 02, 4). Byte 0 is the lowest.
+#[derive(Clone, Copy, Debug, PartialEq, Eq)]
+pub struct Bytes {
+    pub first: usize,
+    pub width: usize,
+}
+
+impl Bytes {
+    /// Those of a load or store. At a multiple of its width they are in one word.
+    pub fn at(address: u64, width: u64) -> Bytes {
+        Bytes { first: (address % WORD_BYTES) as usize, width: width as usize }
+    }
+
+    fn places(self) -> Range<usize> {
+        self.first..self.first + self.width
+    }
+
+    /// These bytes of the word as a number, the first one lowest and zeros above the last.
+    pub fn of(self, word: u64) -> u64 {
+        let mut bytes = [0; WORD_BYTES as usize];
+        bytes[..self.width].copy_from_slice(&word.to_le_bytes()[self.places()]);
+        u64::from_le_bytes(bytes)
+    }
+
+    /// The word with the value's low bytes in these places, and its own in all others.
+    pub fn put(self, word: u64, value: u64) -> u64 {
+        let mut bytes = word.to_le_bytes();
+        bytes[self.places()].copy_from_slice(&value.to_le_bytes()[..self.width]);
+        u64::from_le_bytes(bytes)
+    }
 }
 
 /// The indexes of a page or frame number, the top level's first.

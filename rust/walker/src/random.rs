@@ -3,12 +3,13 @@
 //! aliased, tables are mapped as pages or map themselves, table frames are
 //! remapped, tables and pages are read-only at times, marks come and go. Pages and
 //! marks are of both halves, and some differ in their half alone. One call in ten is
-//! a forecast, but not in jobs. Runs of another sort mostly set and clear marks.
+//! a forecast, more than half of the loads and stores are narrow, and a few have a
+//! wrong width, but not in jobs. Runs of another sort mostly set and clear marks.
 
 use crate::answer::Call;
 use crate::job::{raw_record, write_record, Record, JOB_FRAMES, JOB_LEVELS};
 use crate::numbers::*;
-use std::collections::BTreeMap;
+use std::collections::{BTreeMap, BTreeSet};
 
 /// A small generator (xorshift with a multiplication), the same on every machine.
 #[derive(Clone, Debug)]
@@ -137,6 +138,10 @@ struct Guest {
     entries: Places,
     /// The pages that calls go to.
     pages: Vec<u64>,
+    /// The entries that the walks of these pages read at opening, each with its address:
+    /// the guest's, and a device's.
+    guest_entries: Vec<(u64, u64)>,
+    device_entries: Vec<(u64, u64)>,
     last_page: u64,
     marks: Vec<(u64, u64)>,
     undo: Vec<Call>,
@@ -154,6 +159,8 @@ impl Guest {
             indexes: Vec::new(),
             entries: Places::new(),
             pages: Vec::new(),
+            guest_entries: Vec::new(),
+            device_entries: Vec::new(),
             last_page: 0,
             marks: Vec::new(),
             undo: Vec::new(),
@@ -162,6 +169,7 @@ impl Guest {
         guest.choose_indexes();
         guest.choose_entries();
         guest.choose_pages();
+        guest.find_entries();
         guest
     }
 
@@ -366,6 +374,41 @@ impl Guest {
         self.last_page = self.pages[0];
     }
 
+    /// A table is a page of the guest if some walk finds it as one. The pages beside
+    /// those that calls go to are tried: they have the same table of level 1, so that
+    /// paths of both may be held.
+    fn find_entries(&mut self) {
+        let read: Places = self.pages.iter().flat_map(|page| self.planned_walk(*page).0).collect();
+        let read_in = |host: u64, first: u64| {
+            let words = read.range((host, 0)..(host + 1, 0));
+            words.map(move |((_, index), entry)| (first + 8 * index, *entry))
+        };
+        let tables: BTreeSet<u64> = self.pages.iter().map(|page| page - page % FRAME_WORDS).collect();
+        for page in tables.iter().flat_map(|first| self.indexes.iter().map(move |index| first + index)) {
+            if let (_, Some(host)) = self.planned_walk(page) {
+                self.guest_entries.extend(read_in(host, address_of(page, self.sizes.levels)));
+            }
+        }
+        for (guest, host, _) in &self.plan {
+            self.device_entries.extend(read_in(*host, device_address_of(*guest)));
+        }
+    }
+
+    /// The entries that the page's walk reads by the plan, whatever they allow, and the
+    /// host frame that it finds.
+    fn planned_walk(&self, page: u64) -> (Places, Option<u64>) {
+        let host = |name: u64| self.plan.iter().find(|(guest, _, _)| *guest == name).map(|planned| planned.1);
+        let mut read = Places::new();
+        let mut found = host(self.names[0]);
+        for index in indexes(page, self.sizes.levels) {
+            let place = found.map(|frame| (frame, index));
+            let entry = place.and_then(|place| self.entries.get_key_value(&place));
+            read.extend(entry);
+            found = entry.and_then(|(_, entry)| host(Entry(*entry).frame()));
+        }
+        (read, found)
+    }
+
     // The calls.
 
     /// Maps of the planned frames, the root, some marks, and at times nearly 64
@@ -394,9 +437,80 @@ impl Guest {
 
     fn next_call(&mut self) -> Call {
         if self.random.one_in(10) {
-            self.forecast()
+            return self.forecast();
+        }
+        if self.random.one_in(50) {
+            return self.call_of_wrong_width();
+        }
+        match self.next_job_call() {
+            Call::Load { address, .. } => {
+                let (address, width) = self.part_at(address);
+                Call::Load { address, width }
+            }
+            Call::Store { address, value, .. } => {
+                let (word, value) = or_entry(&mut self.random, (address, value), &self.guest_entries);
+                let (address, width) = self.part_at(word);
+                Call::Store { address, width, value: self.part_of(value, address, width) }
+            }
+            Call::DeviceStore { address, value, .. } => {
+                let (word, value) = or_entry(&mut self.random, (address, value), &self.device_entries);
+                let (address, width) = self.part_at(word);
+                Call::DeviceStore { address, width, value: self.part_of(value, address, width) }
+            }
+            other => other,
+        }
+    }
+
+    /// An address in the same word, and a width: mostly one that it is a multiple of.
+    fn part_at(&mut self, address: u64) -> (u64, u64) {
+        let any_byte = self.random.below(WORD_BYTES);
+        match self.random.below(64) {
+            0..=2 => (address | any_byte, self.random.pick(&WIDTHS)),
+            3..=22 => (address, WORD_BYTES),
+            // Each width as often as it has places in a word.
+            _ => {
+                let width = self.random.pick(&[1, 1, 1, 1, 1, 1, 1, 1, 2, 2, 2, 2, 4, 4, 8]);
+                (address | (any_byte / width * width), width)
+            }
+        }
+    }
+
+    /// What a store of the whole word would put there, mostly with other bits above it.
+    fn part_of(&mut self, value: u64, address: u64, width: u64) -> u64 {
+        let low = value >> (8 * (address % WORD_BYTES));
+        if width < WORD_BYTES && !self.random.one_in(3) {
+            low ^ self.random.word() << (8 * width)
         } else {
-            self.next_job_call()
+            low
+        }
+    }
+
+    /// At any address: that of a word, within one, or one that is refused too.
+    fn call_of_wrong_width(&mut self) -> Call {
+        let width = self.wrong_width();
+        let value = self.value();
+        let byte = self.random.pick(&[0, 0, 1, 2, 4, 7]);
+        let odd = self.random.one_in(3);
+        let address = if odd { self.illegal_address() } else { self.address() } | byte;
+        match self.random.below(3) {
+            0 => Call::Load { address, width },
+            1 => Call::Store { address, width, value },
+            _ => {
+                let address = if odd { self.odd_device_address() } else { self.device_address() } | byte;
+                Call::DeviceStore { address, width, value }
+            }
+        }
+    }
+
+    /// Near a right one, right by its low bits or but for its sign, or any large number.
+    fn wrong_width(&mut self) -> u64 {
+        let right = self.random.pick(&WIDTHS);
+        match self.random.below(8) {
+            0 => right + (1 << self.random.pick(&[8, 16, 31, 32, 63])),
+            1 => right.wrapping_neg(),
+            2 => 1 << (4 + self.random.below(60)),
+            3 => self.random.word() | 1 << 32,
+            _ => self.random.pick(&[0, 3, 5, 6, 7, 9, 10, 12, 16, 24]),
         }
     }
 
@@ -423,9 +537,9 @@ impl Guest {
             }
         }
         match self.random.below(100) {
-            0..=38 => Call::Load { address: self.address() },
-            39..=62 => Call::Store { address: self.address(), value: self.value() },
-            63..=69 => Call::DeviceStore { address: self.device_address(), value: self.value() },
+            0..=38 => Call::load_word(self.address()),
+            39..=62 => Call::store_word(self.address(), self.value()),
+            63..=69 => Call::device_store_word(self.device_address(), self.value()),
             70..=72 => self.repair(),
             73..=78 => self.map(),
             79..=81 => self.unmap(),
@@ -491,10 +605,7 @@ impl Guest {
         let names = self.plan.iter().filter(|(_, host, _)| *host == frame);
         let names: Vec<u64> = names.map(|(guest, _, _)| *guest).collect();
         let name = if names.is_empty() { self.names[0] } else { self.random.pick(&names) };
-        Call::DeviceStore {
-            address: device_address_of(name) + 8 * index,
-            value: self.entries[&(frame, index)],
-        }
+        Call::device_store_word(device_address_of(name) + 8 * index, self.entries[&(frame, index)])
     }
 
     fn map(&mut self) -> Call {
@@ -627,13 +738,13 @@ impl Guest {
         // Within a word.
         let offset = self.random.below(8);
         match self.random.below(17) {
-            0 => Call::Load { address: address + 1 + self.random.below(7) },
-            1 | 2 => Call::Load { address: self.illegal_address() },
-            3 => Call::Load { address: self.edge_address() },
-            4 => Call::Store { address: address + 4, value: 1 },
-            5 => Call::Store { address: self.illegal_address(), value: 1 },
-            6 => Call::Store { address: self.edge_address(), value: 1 },
-            7 => Call::DeviceStore { address: self.odd_device_address(), value: 1 },
+            0 => Call::load_word(address + 1 + self.random.below(7)),
+            1 | 2 => Call::load_word(self.illegal_address()),
+            3 => Call::load_word(self.edge_address()),
+            4 => Call::store_word(address + 4, 1),
+            5 => Call::store_word(self.illegal_address(), 1),
+            6 => Call::store_word(self.edge_address(), 1),
+            7 => Call::device_store_word(self.odd_device_address(), 1),
             8 => Call::SetMark { address, level: bad_level },
             9 => Call::SetMark { address: self.illegal_address() + offset, level: bad_level.min(1) },
             10 => Call::ClearMark { address: self.illegal_address() + offset, level: bad_level.min(1) },
@@ -716,6 +827,16 @@ impl Guest {
     }
 }
 
+/// An address and a value to store, but one time in three the address of an entry,
+/// mostly with the value that it had at opening.
+fn or_entry(random: &mut Random, store: (u64, u64), entries: &[(u64, u64)]) -> (u64, u64) {
+    if entries.is_empty() || !random.one_in(3) {
+        return store;
+    }
+    let (address, entry) = random.pick(entries);
+    (address, if random.one_in(3) { store.1 } else { entry })
+}
+
 fn planned_map(planned: &(u64, u64, bool)) -> Call {
     let (guest, host, writable) = *planned;
     Call::Map { guest, host, writable }
@@ -731,7 +852,7 @@ pub fn job(seed: u64, calls: usize) -> Vec<u8> {
     let mut random = Random::new(seed ^ 0x6A6F_6273);
     let mut bytes = Vec::new();
     if random.one_in(8) {
-        bytes.extend(write_record(&Record::Call(Call::Load { address: 1 << 48 })));
+        bytes.extend(write_record(&Record::Call(Call::load_word(1 << 48))));
     }
     if random.one_in(8) {
         bytes.extend(refused_open(&mut random));
@@ -740,7 +861,7 @@ pub fn job(seed: u64, calls: usize) -> Vec<u8> {
     bytes.extend(job_part(random.word(), first, calls));
     if random.one_in(4) {
         bytes.extend(refused_open(&mut random));
-        bytes.extend(write_record(&Record::Call(Call::Load { address: 0 })));
+        bytes.extend(write_record(&Record::Call(Call::load_word(0))));
     }
     if random.one_in(4) {
         let more = if random.one_in(2) && first.h + first.s < 10 { 1 } else { 0 };
@@ -774,7 +895,7 @@ pub fn job_part(seed: u64, sizes: Sizes, calls: usize) -> Vec<u8> {
         for index in 0..FRAME_WORDS {
             let value = run.words[(host * FRAME_WORDS + index) as usize];
             if value != 0 {
-                list.push(Call::DeviceStore { address: 8 * index, value });
+                list.push(Call::device_store_word(8 * index, value));
             }
         }
         list.push(Call::Unmap { guest: 0 });

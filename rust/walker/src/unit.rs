@@ -5,6 +5,7 @@ use crate::book::{faults_in_shadow_part, note_shadow_part, shadow_steps, Book, M
 use crate::events::Events;
 use crate::machine::{words_read, Access, Machine, Mapping, Step, Walk, Word};
 use crate::numbers::*;
+use std::collections::BTreeMap;
 
 /// How many addresses a forecast takes (document 02, request 2).
 pub const MOST_ADDRESSES: usize = 256;
@@ -14,6 +15,17 @@ pub struct Unit {
     machine: Machine,
     book: Book,
     events: Events,
+    /// Words of which a store changed some bytes, as they were before, until a walk
+    /// reads them. Only events rest on them.
+    changed: BTreeMap<Word, u64>,
+}
+
+/// A load or store of a guest-virtual address that is not refused.
+#[derive(Clone, Copy)]
+struct Request {
+    address: u64,
+    width: u64,
+    access: Access,
 }
 
 /// A load or store once its walk, its counts and its fill are done.
@@ -42,7 +54,7 @@ impl Unit {
         // "keeps guest words; root 0, no marks"
         let guest_area = words[((h + s) * FRAME_WORDS) as usize..].to_vec();
         let machine = Machine::new(levels, h, s, guest_area);
-        Ok(Unit { machine, book: Book::new(levels, s), events: Events::default() })
+        Ok(Unit { machine, book: Book::new(levels, s), events: Events::default(), changed: BTreeMap::new() })
     }
 
     /// The words of the guest area, in order.
@@ -74,9 +86,9 @@ impl Unit {
             Call::Unmap { guest } => self.unmap(guest),
             Call::SetMark { address, level } => self.set_mark(address, level),
             Call::ClearMark { address, level } => self.clear_mark(address, level),
-            Call::Load { address } => self.load(address),
-            Call::Store { address, value } => self.store(address, value),
-            Call::DeviceStore { address, value } => self.device_store(address, value),
+            Call::Load { address, width } => self.load(address, width),
+            Call::Store { address, width, value } => self.store(address, width, value),
+            Call::DeviceStore { address, width, value } => self.device_store(address, width, value),
             Call::Forecast { ref addresses } => self.forecast(addresses),
         };
         self.note_answer(call, &answer);
@@ -129,7 +141,7 @@ impl Unit {
     // Marks.
 
     /// The refusals that set and clear mark share: 4 by the rule of loads and
-    /// stores without the multiple of 8, then "5 if the level is not 1 to 5".
+    /// stores without the multiple, then "5 if the level is not 1 to 5".
     fn refuse_mark(&self, address: u64, level: u64) -> Option<u32> {
         if !is_legal(address, self.levels()) {
             return Some(BAD_ADDRESS);
@@ -174,38 +186,42 @@ impl Unit {
 
     // Loads and stores.
 
+    /// Whether a load of a whole word, such as a forecast's, is not refused.
     fn is_word_address(&self, address: u64) -> bool {
-        is_legal(address, self.levels()) && address % 8 == 0
+        refuse_request(self.levels(), address, WORD_BYTES).is_none()
     }
 
-    fn load(&mut self, address: u64) -> Answer {
-        if !self.is_word_address(address) {
-            return Answer::No(BAD_ADDRESS);
+    fn load(&mut self, address: u64, width: u64) -> Answer {
+        if let Some(number) = refuse_request(self.levels(), address, width) {
+            return Answer::No(number);
         }
-        let served = self.serve(address, Access::Load);
+        let served = self.serve(Request { address, width, access: Access::Load });
         let Served { references, exits, .. } = served;
         match served.end {
             Err(fault) => Answer::Fault { fault, references, exits },
             Ok(page) => {
-                let word = Word { frame: page.host, index: word_in_frame(address) };
-                Answer::Value { value: self.machine.read(word), references, exits }
+                let word = self.machine.read(Word { frame: page.host, index: word_in_frame(address) });
+                let bytes = Bytes::at(address, width);
+                self.note_bytes("Load", bytes, word);
+                Answer::Value { value: bytes.of(word), references, exits }
             }
         }
     }
 
     /// "a store fills first, then writes, then drops"
-    fn store(&mut self, address: u64, value: u64) -> Answer {
-        if !self.is_word_address(address) {
-            return Answer::No(BAD_ADDRESS);
+    fn store(&mut self, address: u64, width: u64, value: u64) -> Answer {
+        if let Some(number) = refuse_request(self.levels(), address, width) {
+            return Answer::No(number);
         }
-        let served = self.serve(address, Access::Store);
+        let served = self.serve(Request { address, width, access: Access::Store });
         let Served { references, exits, .. } = served;
         match served.end {
             Err(fault) => Answer::Fault { fault, references, exits },
             Ok(page) => {
                 let word = Word { frame: page.host, index: word_in_frame(address) };
                 self.note_own_drop(address, word);
-                let watched = self.write_and_drop(served.last_frame, word, value);
+                let bytes = Bytes::at(address, width);
+                let watched = self.write_and_drop("Store", served.last_frame, word, bytes, value);
                 Answer::Done { references, exits: exits + watched }
             }
         }
@@ -214,9 +230,9 @@ impl Unit {
     /// "A device store takes one host walk, with W as for a page; granted, it
     /// writes likewise." "For a device store: the host walk's words, 1 exit for
     /// H or W, 1, if granted, for a watched frame."
-    fn device_store(&mut self, address: u64, value: u64) -> Answer {
-        if address >= device_limit(self.levels()) || address % 8 != 0 {
-            return Answer::No(BAD_ADDRESS);
+    fn device_store(&mut self, address: u64, width: u64, value: u64) -> Answer {
+        if let Some(number) = refuse_device_store(self.levels(), address, width) {
+            return Answer::No(number);
         }
         let frame = frame_of(address);
         let Step::HostWalk { words, found, .. } = self.machine.host_walk(frame) else { unreachable!() };
@@ -227,19 +243,27 @@ impl Unit {
             }
             Some(page) => {
                 let word = Word { frame: page.host, index: word_in_frame(address) };
-                let watched = self.write_and_drop(frame, word, value);
+                let bytes = Bytes::at(address, width);
+                let watched = self.write_and_drop("DeviceStore", frame, word, bytes, value);
                 Answer::Done { references: words, exits: watched }
             }
         }
     }
 
-    /// Writes the word and drops by it. Yields the exit "for a store into a frame
-    /// that is watched once the store is translated".
-    fn write_and_drop(&mut self, through: u64, word: Word, value: u64) -> u64 {
+    /// Writes the bytes and drops by the word around them, whichever of its bytes they
+    /// are. Yields the exit "for a store into a frame that is watched once the store is
+    /// translated".
+    fn write_and_drop(&mut self, name: &str, through: u64, word: Word, bytes: Bytes, value: u64) -> u64 {
         let watched = self.book.watched(word.frame);
-        let same = self.machine.read(word) == value;
-        self.machine.write(word, value);
+        let before = self.machine.read(word);
+        let after = bytes.put(before, value);
+        self.machine.write(word, after);
         let dropped = self.book.drop_by_word(word);
+        let same = before == after;
+        self.note_bytes(name, bytes, before);
+        self.note_value(name, bytes, value);
+        self.note_drops(name, bytes, watched, same, dropped.len());
+        self.note_changed_word(word, bytes, before);
         self.events.add_if(watched, "exit for a watched frame");
         self.events.add_if(watched && dropped.is_empty(), "watched frame, no path dropped");
         self.events.add_if(same && !dropped.is_empty(), "drop though the value is the same");
@@ -250,7 +274,8 @@ impl Unit {
     }
 
     /// The walk of a load or store, its counts, and the fill of its path.
-    fn serve(&mut self, address: u64, access: Access) -> Served {
+    fn serve(&mut self, request: Request) -> Served {
+        let Request { address, access, .. } = request;
         let levels = self.levels();
         let depth = self.book.depth(address);
         let path = self.book.path(address, depth);
@@ -269,7 +294,8 @@ impl Unit {
         }
         let references = references(&walk, levels, depth, shadow_fault);
 
-        self.note_request(&walk, access, depth, not_held, shadow_fault, forbidden);
+        self.note_request(&walk, request, depth, not_held, shadow_fault, forbidden);
+        self.note_changed_entries(&walk);
         // "A path not held is filled exactly if the request meets no fault in its
         // shadow part."
         if let (Some(path), true, false) = (path, not_held, shadow_fault) {
@@ -292,14 +318,18 @@ impl Unit {
             self.events.add_if(none_legal, "refusal 14, each address would meet 4");
             return Answer::No(TOO_MANY_ADDRESSES);
         }
-        let mut copy =
-            Unit { machine: self.machine.clone(), book: self.book.clone(), events: Events::default() };
+        let mut copy = Unit {
+            machine: self.machine.clone(),
+            book: self.book.clone(),
+            events: Events::default(),
+            changed: BTreeMap::new(),
+        };
         let (mut references, mut exits) = (0, 0);
         // The tables in use before the first address count too.
         let mut in_use = vec![copy.book.tables_in_use()];
         for address in addresses {
             self.note_listed(&copy, *address);
-            let (more_references, more_exits) = copy.call(&Call::Load { address: *address }).counts();
+            let (more_references, more_exits) = copy.call(&Call::load_word(*address)).counts();
             references += more_references;
             exits += more_exits;
             in_use.push(copy.book.tables_in_use());
@@ -318,10 +348,13 @@ impl Unit {
 
     fn note_answer(&mut self, call: &Call, answer: &Answer) {
         let device = matches!(call, Call::DeviceStore { .. });
+        let narrow_device = matches!(*call, Call::DeviceStore { width, .. } if width < WORD_BYTES);
         match answer {
             Answer::No(number) => self.events.add(format!("refusal {number}")),
             Answer::Fault { fault, references, .. } if device => {
-                self.events.add(format!("device store, fault {} after {references}", fault.letter()))
+                self.events.add(format!("device store, fault {} after {references}", fault.letter()));
+                let name = format!("fault {} of a narrow DeviceStore", fault.letter());
+                self.events.add_if(narrow_device, &name);
             }
             Answer::Done { exits, .. } if device => {
                 self.events.add(format!("device store done, {exits} exits"))
@@ -333,16 +366,22 @@ impl Unit {
 
     /// The half of a guest-virtual address that was walked, or why an address was refused.
     fn note_address(&mut self, call: &Call, answer: &Answer) {
-        let (name, address) = match *call {
-            Call::Load { address } => ("Load", address),
-            Call::Store { address, .. } => ("Store", address),
-            Call::SetMark { address, .. } => ("SetMark", address),
-            Call::ClearMark { address, .. } => ("ClearMark", address),
-            Call::DeviceStore { address, .. } => return self.note_device_address(address, answer),
+        let (name, address, width) = match *call {
+            Call::Load { address, width } => ("Load", address, width),
+            Call::Store { address, width, .. } => ("Store", address, width),
+            // A mark's address is any byte's.
+            Call::SetMark { address, .. } => ("SetMark", address, 1),
+            Call::ClearMark { address, .. } => ("ClearMark", address, 1),
+            Call::DeviceStore { address, width, .. } => {
+                return self.note_device_address(address, width, answer)
+            }
             Call::Root { .. } | Call::Map { .. } | Call::Unmap { .. } | Call::Forecast { .. } => return,
         };
         match answer {
-            Answer::No(BAD_ADDRESS) => self.note_refused_address(name, address),
+            Answer::No(BAD_ADDRESS) => self.note_refused_address(name, address, width),
+            Answer::No(BAD_WIDTH) => {
+                self.events.add_refused_width(name, is_legal(address, self.levels()), address, width)
+            }
             Answer::No(_) | Answer::Ok => {}
             _ => self.note_half(name, address, answer),
         }
@@ -372,10 +411,10 @@ impl Unit {
     }
 
     /// An address of a load, store or mark that was refused with 4.
-    fn note_refused_address(&mut self, name: &str, address: u64) {
+    fn note_refused_address(&mut self, name: &str, address: u64, width: u64) {
         let levels = self.levels();
         if is_legal(address, levels) {
-            return self.events.add(format!("refusal 4 of {name}, no multiple of 8"));
+            return self.events.add(format!("refusal 4 of {name}, no multiple of {width}"));
         }
         self.events.add(format!("refusal 4 of {name}, between the halves"));
         // One bit alone may keep it from being legal.
@@ -387,11 +426,15 @@ impl Unit {
     }
 
     /// A device address, which the rule of guest-virtual ones must not judge.
-    fn note_device_address(&mut self, address: u64, answer: &Answer) {
+    fn note_device_address(&mut self, address: u64, width: u64, answer: &Answer) {
         let legal = is_legal(address, self.levels());
+        let below_limit = address < device_limit(self.levels());
         match answer {
-            Answer::No(_) if address < device_limit(self.levels()) => {
-                self.events.add("refusal 4 of DeviceStore, no multiple of 8")
+            Answer::No(BAD_WIDTH) => {
+                self.events.add_refused_width("DeviceStore", below_limit, address, width)
+            }
+            Answer::No(_) if below_limit => {
+                self.events.add(format!("refusal 4 of DeviceStore, no multiple of {width}"))
             }
             Answer::No(_) => {
                 self.events.add("refusal 4 of DeviceStore, at or above the limit");
@@ -404,12 +447,14 @@ impl Unit {
     fn note_request(
         &mut self,
         walk: &Walk,
-        access: Access,
+        request: Request,
         depth: u32,
         not_held: bool,
         shadow_fault: bool,
         forbidden: bool,
     ) {
+        let access = request.access;
+        let narrow = request.width < WORD_BYTES;
         let part = if shadow_fault { "shadow" } else { "direct" };
         let way = if depth > self.levels() {
             "no path"
@@ -419,14 +464,76 @@ impl Unit {
             "path held"
         };
         match walk.end {
-            Ok(_) => self.events.add(format!("granted {access:?} at depth {depth}, {way}")),
+            Ok(_) => {
+                self.events.add(format!("granted {access:?} at depth {depth}, {way}"));
+                if narrow {
+                    self.events.add(format!("granted narrow {access:?} at depth {depth}, {way}"));
+                }
+            }
             Err(fault) => {
                 self.events.add(format!("fault {} at depth {depth}, {part} part, {way}", fault.letter()));
                 self.events.add(format!("fault {} of level {}", fault.letter(), fault.level()));
+                self.events.add_if(narrow, &format!("fault {} of a narrow {access:?}", fault.letter()));
             }
         }
         self.events.add_if(not_held && !shadow_fault, &format!("fill at depth {depth}"));
         self.events.add_if(forbidden, "held path forbids the store");
+    }
+
+    /// A granted load or store by its bytes, and whether their word, as it was before,
+    /// has others that a load must not yield and a store must not clear.
+    fn note_bytes(&mut self, name: &str, bytes: Bytes, word: u64) {
+        let Bytes { first, width } = bytes;
+        self.events.add(format!("granted {name}, width {width} at byte {first}"));
+        if bytes.put(word, 0) != 0 {
+            self.events.add(format!("granted {name}, width {width}, other bytes not 0"));
+        }
+    }
+
+    /// The bits of a stored value that no byte takes.
+    fn note_value(&mut self, name: &str, bytes: Bytes, value: u64) {
+        let taken = Bytes { first: 0, ..bytes };
+        if taken.put(value, 0) != 0 {
+            self.events.add(format!("granted {name}, width {}, value with more bits", bytes.width));
+        }
+    }
+
+    /// What a store dropped, by its bytes.
+    fn note_drops(&mut self, name: &str, bytes: Bytes, watched: bool, same: bool, dropped: usize) {
+        let Bytes { first, width } = bytes;
+        if dropped > 0 {
+            self.events.add(format!("drop by {name}, width {width} at byte {first}"));
+        }
+        let narrow = width < WORD_BYTES as usize;
+        self.events.add_if(narrow && dropped > 0 && same, "narrow drop though the bytes are the same");
+        self.events.add_if(narrow && dropped == 0 && watched, "narrow store, watched frame, no path dropped");
+    }
+
+    fn note_changed_word(&mut self, word: Word, bytes: Bytes, before: u64) {
+        if bytes.width < WORD_BYTES as usize {
+            self.changed.entry(word).or_insert(before);
+        } else {
+            self.changed.remove(&word);
+        }
+    }
+
+    /// Entries of a walk that are others since stores of some of their bytes.
+    fn note_changed_entries(&mut self, walk: &Walk) {
+        let levels = self.levels();
+        for step in &walk.steps {
+            let Step::GuestEntry { level, word, entry } = *step else { continue };
+            let Some(before) = self.changed.remove(&word).map(Entry) else { continue };
+            let malformed = |entry: Entry| entry.malformed(level, levels);
+            let differ = [
+                (before.present() != entry.present(), "present bit"),
+                (before.writable() != entry.writable(), "writable bit"),
+                (before.frame() != entry.frame(), "frame"),
+                (malformed(before) != malformed(entry), "form"),
+            ];
+            for (_, what) in differ.iter().filter(|(differs, _)| *differs) {
+                self.events.add(format!("walk by an entry whose {what} was changed by bytes"));
+            }
+        }
     }
 
     /// Whether the fill of a store changed that its frame is watched.
@@ -469,6 +576,27 @@ impl Unit {
         let own = path.and_then(|path| self.book.held.get(&path));
         let drops = own.is_some_and(|held| held.words.contains(&word));
         self.events.add_if(drops, "store drops its own path");
+    }
+}
+
+/// The refusal of a load or store by its address and width, if it has one.
+pub fn refuse_request(levels: u32, address: u64, width: u64) -> Option<u32> {
+    refuse(is_legal(address, levels), address, width)
+}
+
+/// The same for a device store.
+pub fn refuse_device_store(levels: u32, address: u64, width: u64) -> Option<u32> {
+    refuse(address < device_limit(levels), address, width)
+}
+
+/// 15 looks at the width alone, then 4 at the address (document 02, 4).
+fn refuse(in_range: bool, address: u64, width: u64) -> Option<u32> {
+    if !WIDTHS.contains(&width) {
+        Some(BAD_WIDTH)
+    } else if !in_range || address % width != 0 {
+        Some(BAD_ADDRESS)
+    } else {
+        None
     }
 }
 

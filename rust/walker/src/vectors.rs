@@ -34,9 +34,9 @@ fn call_text(call: &Call) -> String {
         Call::Unmap { guest } => format!("unmap {guest}"),
         Call::SetMark { address, level } => format!("mark {address:#x} {level}"),
         Call::ClearMark { address, level } => format!("unmark {address:#x} {level}"),
-        Call::Load { address } => format!("load {address:#x}"),
-        Call::Store { address, value } => format!("store {address:#x} {value:#x}"),
-        Call::DeviceStore { address, value } => format!("device {address:#x} {value:#x}"),
+        Call::Load { address, width } => format!("load {address:#x} {width}"),
+        Call::Store { address, width, value } => format!("store {address:#x} {width} {value:#x}"),
+        Call::DeviceStore { address, width, value } => format!("device {address:#x} {width} {value:#x}"),
         Call::Forecast { addresses } => {
             let list: String = addresses.iter().map(|address| format!(" {address:#x}")).collect();
             format!("forecast{list}")

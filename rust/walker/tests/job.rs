@@ -14,7 +14,7 @@ fn call(call: Call) -> Vec<u8> {
 }
 
 fn load(address: u64) -> Vec<u8> {
-    call(Call::Load { address })
+    call(Call::load_word(address))
 }
 
 fn map(guest: u64, host: u64) -> Vec<u8> {
@@ -22,7 +22,7 @@ fn map(guest: u64, host: u64) -> Vec<u8> {
 }
 
 fn device(address: u64, value: u64) -> Vec<u8> {
-    call(Call::DeviceStore { address, value })
+    call(Call::device_store_word(address, value))
 }
 
 /// The example up to its load of 0.
@@ -48,7 +48,7 @@ fn the_bytes_of_records() {
         (call(Call::SetMark { address: 0, level: 1 }), 11, 5),
         (call(Call::ClearMark { address: 0, level: 1 }), 11, 6),
         (load(0), 10, 7),
-        (call(Call::Store { address: 0, value: 0 }), 18, 8),
+        (call(Call::store_word(0, 0)), 18, 8),
         (device(0, 0), 18, 9),
     ];
     for (bytes, length, kind) in lengths {
@@ -111,7 +111,7 @@ fn three_before_a_granted_open() {
         call(Call::SetMark { address: 0, level: 9 }),
         call(Call::ClearMark { address: 0, level: 9 }),
         load(1 << 48),
-        call(Call::Store { address: 1, value: 0 }),
+        call(Call::store_word(1, 0)),
         device(1, 0),
         open(4, 12),
         load(0),
@@ -173,6 +173,14 @@ fn values_have_16_lower_case_digits() {
     let expected =
         "6 value abcdef0123456789 4 1\n7 value 000000000000002a 4 0\n8 value 0000000000000000 4 0\n";
     assert!(run_job(&records.concat()).ends_with(expected));
+}
+
+#[test]
+fn records_keep_width_8() {
+    let stores = |address| [call(Call::store_word(address, 1)), device(address, 1)].concat();
+    let records = [example(), load(1), load(2), stores(4), stores(6)];
+    let expected = "6 no 4\n7 no 4\n8 no 4\n9 no 4\n10 no 4\n11 no 4\n";
+    assert_eq!(run_job(&records.concat()), format!("{EXAMPLE_LINES}{expected}"));
 }
 
 #[test]

@@ -1,5 +1,5 @@
 //! Document 01's own examples and each refusal, by the numbers printed there, with
-//! requests 1 to 3 of document 02.
+//! requests 1 to 4 of document 02.
 
 use walker::answer::{Answer, Call, Fault};
 use walker::book::{Lookup, Mark};
@@ -38,11 +38,11 @@ fn map(unit: &mut Unit, guest: u64, host: u64) -> Answer {
 }
 
 fn load(unit: &mut Unit, address: u64) -> Answer {
-    unit.call(&Call::Load { address })
+    unit.call(&Call::load_word(address))
 }
 
 fn store(unit: &mut Unit, address: u64, value: u64) -> Answer {
-    unit.call(&Call::Store { address, value })
+    unit.call(&Call::store_word(address, value))
 }
 
 fn set_mark(unit: &mut Unit, address: u64, level: u64) -> Answer {
@@ -87,7 +87,7 @@ fn load_8_and_again() {
     assert_eq!(load(&mut unit, 0x8), value(0, 4, 0));
     assert_eq!(page(&unit, 0x8), 12);
     // Word 1 of frame 12 is the word loaded.
-    assert_eq!(unit.call(&Call::DeviceStore { address: 0x4008, value: 0x77 }), done(4, 0));
+    assert_eq!(unit.call(&Call::device_store_word(0x4008, 0x77)), done(4, 0));
     assert_eq!(unit.guest_words()[(12 - 8) * 512 + 1], 0x77);
     assert_eq!(load(&mut unit, 0x8), value(0x77, 4, 0));
 }
@@ -177,7 +177,7 @@ fn the_ends_of_the_halves() {
 /// that differs in the top index alone is the lower one's.
 fn guest_with_an_upper_half() -> Unit {
     let mut unit = sixteen_frame_guest();
-    assert_eq!(unit.call(&Call::DeviceStore { address: 256 * 8, value: 0x1003 }), done(4, 0));
+    assert_eq!(unit.call(&Call::device_store_word(256 * 8, 0x1003)), done(4, 0));
     unit
 }
 
@@ -231,7 +231,7 @@ fn a_store_in_the_upper_half_drops_in_the_lower() {
 #[test]
 fn device_addresses_keep_the_old_limit() {
     let mut unit = sixteen_frame_guest();
-    let device = |unit: &mut Unit, address| unit.call(&Call::DeviceStore { address, value: 1 });
+    let device = |unit: &mut Unit, address| unit.call(&Call::device_store_word(address, 1));
     // Top indexes 511 and 256, which no mapped frame has: H at the first word.
     let absent = |frame| fault(Fault::HostAbsent { frame }, 1, 1);
     assert_eq!(device(&mut unit, 0xFFFF_FFFF_FFF8), absent(0xF_FFFF_FFFF));
@@ -325,7 +325,7 @@ fn a_fault_costs_what_it_costs_and_the_list_goes_on() {
     assert_eq!(forecast(&mut unit, &faults), figures(49, 3, 0));
     assert_eq!(forecast(&mut unit, &[0x2000, 0x3000, 0, 0x3000, 8]), figures(24 + 20 + 4 + 20 + 4, 4, 4));
     // M of level 1, in an entry that a device stores.
-    unit.call(&Call::DeviceStore { address: 0x3028, value: 1 << 48 | 3 });
+    unit.call(&Call::device_store_word(0x3028, 1 << 48 | 3));
     assert_eq!(forecast(&mut unit, &[0x5000, 0x5000]), figures(40, 2, 0));
     // Page 1 may not be stored to, but loads are granted.
     assert_eq!(forecast(&mut unit, &[0x1000, 0x1000]), figures(8, 1, 4));
@@ -374,7 +374,7 @@ fn refusal_14_looks_at_the_length_alone() {
     assert!(unit.book().held.is_empty());
     // 256 different paths of one table of level 1: its entries name one page.
     for entry in 0..256 {
-        unit.call(&Call::DeviceStore { address: 0x3000 + 8 * entry, value: 0x4003 });
+        unit.call(&Call::device_store_word(0x3000 + 8 * entry, 0x4003));
     }
     let pages: Vec<u64> = (0..256).map(|page| page << 12).collect();
     assert_eq!(forecast(&mut unit, &pages), figures(4 * 256, 256, 4));
@@ -551,6 +551,293 @@ fn the_places_must_hold_the_books_marks() {
     }
 }
 
+// Request 4: loads and stores of some bytes of a word. Address 0 is frame 4's first
+// byte, in host frame 12; page 0x4000 is frame 3, the table of level 1.
+
+const WIDTHS: [u64; 4] = [1, 2, 4, 8];
+
+fn load_bytes(unit: &mut Unit, address: u64, width: u64) -> Answer {
+    unit.call(&Call::Load { address, width })
+}
+
+fn store_bytes(unit: &mut Unit, address: u64, width: u64, value: u64) -> Answer {
+    unit.call(&Call::Store { address, width, value })
+}
+
+fn device_store_bytes(unit: &mut Unit, address: u64, width: u64, value: u64) -> Answer {
+    unit.call(&Call::DeviceStore { address, width, value })
+}
+
+/// Loads, stores and stores by a device at the same place of frame 4.
+fn all_three(unit: &mut Unit, address: u64, width: u64) -> [Answer; 3] {
+    [
+        load_bytes(unit, address, width),
+        store_bytes(unit, address, width, 1),
+        device_store_bytes(unit, 0x4000 + address, width, 1),
+    ]
+}
+
+/// A word of a guest frame.
+fn word(unit: &Unit, frame: usize, index: usize) -> u64 {
+    unit.guest_words()[frame * 512 + index]
+}
+
+/// The guest with three words of data at address 0, and their path held.
+fn guest_with_bytes() -> Unit {
+    let mut unit = sixteen_frame_guest();
+    for (address, data) in [(0x4000, u64::MAX), (0x4008, 0x8877_6655_4433_2211), (0x4010, u64::MAX)] {
+        assert_eq!(unit.call(&Call::device_store_word(address, data)), done(4, 0));
+    }
+    assert_eq!(load(&mut unit, 0), value(u64::MAX, 4, 1));
+    unit
+}
+
+#[test]
+fn loads_take_the_lowest_byte_first_and_have_zeros_above() {
+    let mut unit = guest_with_bytes();
+    let loads = [
+        (8, 1, 0x11),
+        (9, 1, 0x22),
+        (10, 1, 0x33),
+        (11, 1, 0x44),
+        (12, 1, 0x55),
+        (13, 1, 0x66),
+        (14, 1, 0x77),
+        (15, 1, 0x88),
+        (8, 2, 0x2211),
+        (10, 2, 0x4433),
+        (12, 2, 0x6655),
+        (14, 2, 0x8877),
+        (8, 4, 0x4433_2211),
+        (12, 4, 0x8877_6655),
+        (8, 8, 0x8877_6655_4433_2211),
+    ];
+    for (address, width, found) in loads {
+        assert_eq!(load_bytes(&mut unit, address, width), value(found, 4, 0), "{width} bytes at {address}");
+    }
+}
+
+#[test]
+fn stores_take_the_low_bytes_and_alter_no_others() {
+    // In each value but the last, bits above the width are set, and no byte takes them.
+    let stores = [
+        (8, 1, 0x8877_6655_4433_2287),
+        (9, 1, 0x8877_6655_4433_8711),
+        (10, 1, 0x8877_6655_4487_2211),
+        (11, 1, 0x8877_6655_8733_2211),
+        (12, 1, 0x8877_6687_4433_2211),
+        (13, 1, 0x8877_8755_4433_2211),
+        (14, 1, 0x8887_6655_4433_2211),
+        (15, 1, 0x8777_6655_4433_2211),
+        (8, 2, 0x8877_6655_4433_9687),
+        (10, 2, 0x8877_6655_9687_2211),
+        (12, 2, 0x8877_9687_4433_2211),
+        (14, 2, 0x9687_6655_4433_2211),
+        (8, 4, 0x8877_6655_B4A5_9687),
+        (12, 4, 0xB4A5_9687_4433_2211),
+        (8, 8, 0xF0E1_D2C3_B4A5_9687),
+    ];
+    for (address, width, after) in stores {
+        let mut by_guest = guest_with_bytes();
+        assert_eq!(store_bytes(&mut by_guest, address, width, 0xF0E1_D2C3_B4A5_9687), done(4, 0));
+        let mut by_device = guest_with_bytes();
+        let said = device_store_bytes(&mut by_device, 0x4000 + address, width, 0xF0E1_D2C3_B4A5_9687);
+        assert_eq!(said, done(4, 0));
+        let words = |unit: &Unit| [0, 1, 2].map(|index| word(unit, 4, index));
+        assert_eq!(words(&by_guest), [u64::MAX, after, u64::MAX], "{width} bytes at {address}");
+        assert_eq!(words(&by_device), [u64::MAX, after, u64::MAX], "{width} bytes at {address}");
+        assert_eq!(load(&mut by_guest, 8), value(after, 4, 0));
+    }
+}
+
+#[test]
+fn every_byte_of_an_entry_drops_the_paths_that_read_it() {
+    for frame in 0..4 {
+        // The entry on the walk of address 0 names the next frame: 0x1003 and so on.
+        for (byte, stands) in [3, 0x10 * (frame + 1), 0, 0, 0, 0, 0, 0].into_iter().enumerate() {
+            let mut unit = sixteen_frame_guest();
+            load(&mut unit, 0);
+            let said = device_store_bytes(&mut unit, (frame << 12) + byte as u64, 1, stands);
+            assert_eq!(said, done(4, 1));
+            assert_eq!(word(&unit, frame as usize, 0), (frame + 1) << 12 | 3);
+            assert_eq!(load(&mut unit, 0), value(0, 4, 1), "byte {byte} of frame {frame}");
+        }
+    }
+    // Of entry 1 of frame 3, and of what stands beside it.
+    for width in [1, 2, 4] {
+        for address in (0x3000..0x3018).step_by(width as usize) {
+            let mut unit = sixteen_frame_guest();
+            load(&mut unit, 0x1000);
+            let bytes = load_bytes(&mut unit, 0x1000 + address, width);
+            let Answer::Value { value: stands, .. } = bytes else { panic!("{bytes:?}") };
+            assert_eq!(device_store_bytes(&mut unit, address, width, stands), done(4, 1));
+            let exits = (0x3008..0x3010).contains(&address) as u64;
+            assert_eq!(load(&mut unit, 0x1000), value(0, 4, exits), "{width} bytes at {address:#x}");
+        }
+    }
+}
+
+#[test]
+fn byte_7_alone_drops_and_means_nothing_in_an_entry() {
+    // Bits 56 to 63 of the entry of level 1. The store's own path is not held, and the
+    // table is watched.
+    let mut unit = sixteen_frame_guest();
+    load(&mut unit, 0);
+    assert_eq!(store_bytes(&mut unit, 0x4007, 1, 0), done(4, 2));
+    assert_eq!(load(&mut unit, 0), value(0, 4, 1));
+    assert_eq!(store_bytes(&mut unit, 0x4007, 1, 0xFF), done(4, 1));
+    assert_eq!(word(&unit, 3, 0), 0xFF00_0000_0000_4003);
+    assert_eq!(load(&mut unit, 0), value(0, 4, 1));
+    assert_eq!(page(&unit, 0), 12);
+    // The store's path reads entry 4, which those stores leave.
+    assert_eq!(load(&mut unit, 0x4000), value(0xFF00_0000_0000_4003, 4, 0));
+    // Entry 4 names its own table: a store to it drops its own path.
+    assert_eq!(store_bytes(&mut unit, 0x4027, 1, 0), done(4, 1));
+    assert_eq!(load(&mut unit, 0x4000), value(0xFF00_0000_0000_4003, 4, 1));
+    assert_eq!(load(&mut unit, 0), value(0, 4, 0));
+}
+
+#[test]
+fn an_entry_changed_byte_by_byte() {
+    let mut unit = sixteen_frame_guest();
+    load(&mut unit, 0);
+    // 0x4003 becomes 0x7003: "load 0: frame 15".
+    assert_eq!(store_bytes(&mut unit, 0x4001, 1, 0x70), done(4, 2));
+    assert_eq!(load(&mut unit, 0), value(0, 4, 1));
+    assert_eq!(page(&unit, 0), 15);
+    // 0x7001: not writable.
+    assert_eq!(store_bytes(&mut unit, 0x4000, 1, 1), done(4, 1));
+    assert_eq!(store_bytes(&mut unit, 0, 1, 1), fault(Fault::Protected { level: 1 }, 20, 1));
+    assert_eq!(load(&mut unit, 0), value(0, 4, 1));
+    // Bit 48 is in byte 6.
+    assert_eq!(store_bytes(&mut unit, 0x4006, 2, 1), done(4, 1));
+    assert_eq!(load(&mut unit, 0), fault(Fault::Malformed { level: 1 }, 20, 1));
+    assert_eq!(store_bytes(&mut unit, 0x4004, 4, 0), done(4, 1));
+    assert_eq!(load(&mut unit, 0), value(0, 4, 1));
+    // Not present, with the rest of the entry as it was.
+    assert_eq!(device_store_bytes(&mut unit, 0x3000, 1, 0), done(4, 1));
+    assert_eq!(load(&mut unit, 0), fault(Fault::Absent { level: 1 }, 20, 1));
+    assert_eq!(word(&unit, 3, 0), 0x7000);
+    // Guest frame 9 is a second name of the table.
+    map(&mut unit, 9, 11);
+    assert_eq!(device_store_bytes(&mut unit, 0x9000, 1, 3), done(4, 1));
+    assert_eq!(load(&mut unit, 0), value(0, 4, 1));
+    assert_eq!(device_store_bytes(&mut unit, 0x9005, 1, 0), done(4, 1));
+    assert_eq!(load(&mut unit, 0), value(0, 4, 1));
+}
+
+#[test]
+fn a_width_changes_no_count() {
+    for depth in 0..=5 {
+        for width in WIDTHS {
+            let mut unit = sixteen_frame_guest();
+            if depth > 0 {
+                set_mark(&mut unit, 0, depth);
+            }
+            let references = 4 + 4 * depth;
+            assert_eq!(load_bytes(&mut unit, 8, width), value(0, references, (depth < 5) as u64));
+            assert_eq!(load_bytes(&mut unit, 16 - width, width), value(0, references, 0));
+            assert_eq!(store_bytes(&mut unit, 16 - width, width, 0x77), done(references, 0));
+            assert_eq!(load_bytes(&mut unit, 16 - width, width), value(0x77, references, 0));
+        }
+    }
+}
+
+#[test]
+fn a_narrow_request_meets_the_faults_of_its_page() {
+    for width in WIDTHS {
+        let mut unit = sixteen_frame_guest();
+        let words = unit.guest_words().to_vec();
+        let last = 0x1000 - width;
+        let host_absent = fault(Fault::HostAbsent { frame: 8 }, 24, 1);
+        assert_eq!(
+            store_bytes(&mut unit, 0x1000 + last, width, 1),
+            fault(Fault::Protected { level: 1 }, 20, 1)
+        );
+        assert_eq!(load_bytes(&mut unit, 0x2000 + last, width), host_absent);
+        assert_eq!(load_bytes(&mut unit, 0x3000 + last, width), fault(Fault::Absent { level: 1 }, 20, 1));
+        unit.call(&Call::Map { guest: 4, host: 12, writable: false });
+        let read_only = |references| fault(Fault::HostReadOnly { frame: 4 }, references, 1);
+        assert_eq!(store_bytes(&mut unit, last, width, 1), read_only(24));
+        assert_eq!(device_store_bytes(&mut unit, 0x4000 + last, width, 1), read_only(4));
+        assert_eq!(
+            device_store_bytes(&mut unit, 0x8000, width, 1),
+            fault(Fault::HostAbsent { frame: 8 }, 4, 1)
+        );
+        assert!(unit.book().held.is_empty());
+        assert_eq!(unit.guest_words(), words);
+    }
+}
+
+#[test]
+fn refusal_15_looks_at_the_width_alone() {
+    let mut unit = guest_with_bytes();
+    let (book, machine) = (unit.book().clone(), unit.machine().clone());
+    // Small ones, and ones whose low bits are a right width.
+    let large = [255, 256, 257, 0x1_0002, 1 << 32, (1 << 32) + 4, 1 << 63, (1 << 63) + 8, u64::MAX - 7];
+    let widths = (0..100).filter(|width| !WIDTHS.contains(width)).chain(large).chain([u64::MAX]);
+    for width in widths {
+        for address in [0, 8, 1, 4, 0x1007, 0x2000, 0x3000, 1 << 47, 1 << 48, UPPER - 8, UPPER, u64::MAX] {
+            assert_eq!(load_bytes(&mut unit, address, width), Answer::No(15), "{width} at {address:#x}");
+            assert_eq!(store_bytes(&mut unit, address, width, 1), Answer::No(15), "{width} at {address:#x}");
+            let said = device_store_bytes(&mut unit, address, width, 1);
+            assert_eq!(said, Answer::No(15), "{width} at {address:#x}");
+        }
+    }
+    assert!(*unit.book() == book && *unit.machine() == machine);
+}
+
+#[test]
+fn refusal_4_by_multiples_of_the_width() {
+    let granted: [(u64, &[u64]); 4] =
+        [(1, &[0, 1, 2, 3, 4, 5, 6, 7]), (2, &[0, 2, 4, 6]), (4, &[0, 4]), (8, &[0])];
+    for (width, bytes) in granted {
+        for byte in 0..8 {
+            let mut unit = guest_with_bytes();
+            let said = all_three(&mut unit, 8 + byte, width);
+            if bytes.contains(&byte) {
+                assert!(matches!(said[0], Answer::Value { .. }), "{width} bytes at {byte}");
+                assert_eq!(said[1..], [done(4, 0), done(4, 0)], "{width} bytes at {byte}");
+            } else {
+                assert_eq!(said, [Answer::No(4); 3], "{width} bytes at {byte}");
+                assert_eq!(word(&unit, 4, 1), 0x8877_6655_4433_2211);
+            }
+        }
+    }
+}
+
+#[test]
+fn the_ends_of_the_halves_by_bytes() {
+    let mut unit = sixteen_frame_guest();
+    let absent = fault(Fault::Absent { level: 4 }, 5, 1);
+    for width in WIDTHS {
+        // The last of a half, and the first of the next or of what is between the two.
+        for address in [(1 << 47) - width, UPPER, u64::MAX - width + 1] {
+            assert_eq!(load_bytes(&mut unit, address, width), absent, "{width} at {address:#x}");
+            assert_eq!(store_bytes(&mut unit, address, width, 1), absent, "{width} at {address:#x}");
+        }
+        for address in [1 << 47, 1 << 48, UPPER - width] {
+            assert_eq!(load_bytes(&mut unit, address, width), Answer::No(4), "{width} at {address:#x}");
+            assert_eq!(store_bytes(&mut unit, address, width, 1), Answer::No(4), "{width} at {address:#x}");
+        }
+        let host_absent = fault(Fault::HostAbsent { frame: 0xF_FFFF_FFFF }, 1, 1);
+        assert_eq!(device_store_bytes(&mut unit, (1 << 48) - width, width, 1), host_absent);
+        for address in [1 << 48, UPPER, u64::MAX - width + 1] {
+            assert_eq!(device_store_bytes(&mut unit, address, width, 1), Answer::No(4));
+        }
+    }
+}
+
+#[test]
+fn forecasts_keep_width_8() {
+    let mut unit = sixteen_frame_guest();
+    assert_eq!(forecast(&mut unit, &[1, 2, 4, 9, 0xFFF]), figures(0, 0, 0));
+    assert_eq!(forecast(&mut unit, &[1, 2, 4, 8]), figures(4, 1, 4));
+    // A narrow load fills the path that a word's load has.
+    assert_eq!(load_bytes(&mut unit, 0xFFF, 1), value(0, 4, 1));
+    assert_eq!(forecast(&mut unit, &[1, 2, 4, 8]), figures(4, 0, 4));
+}
+
 // Openings.
 
 #[test]
@@ -583,7 +870,7 @@ fn refusal_4_of_requests() {
     for address in [1, 4, 0x1007, 1 << 48, (1 << 48) + 8, u64::MAX, UPPER - 8, UPPER + 4] {
         assert_eq!(load(&mut unit, address), Answer::No(4));
         assert_eq!(store(&mut unit, address, 1), Answer::No(4));
-        assert_eq!(unit.call(&Call::DeviceStore { address, value: 1 }), Answer::No(4));
+        assert_eq!(unit.call(&Call::device_store_word(address, 1)), Answer::No(4));
     }
     // One of bits 47 to 63 unlike the others, in each half.
     for place in 47..64 {
@@ -671,8 +958,7 @@ fn emptied_host_tables_can_be_used_again() {
 #[test]
 fn host_walk_of_an_unmapped_frame_counts_1_to_4() {
     let mut unit = Unit::open(LEVELS, memory(16), 4, 4).unwrap();
-    let device =
-        |unit: &mut Unit, frame: u64| unit.call(&Call::DeviceStore { address: frame << 12, value: 1 });
+    let device = |unit: &mut Unit, frame: u64| unit.call(&Call::device_store_word(frame << 12, 1));
     let absent = |frame, references| fault(Fault::HostAbsent { frame }, references, 1);
     assert_eq!(device(&mut unit, 0), absent(0, 1));
     assert_eq!(load(&mut unit, 0), absent(0, 1));
@@ -687,7 +973,7 @@ fn absent_and_malformed_and_protected_in_their_order() {
     let walk = |entry: u64, level: u64| {
         let mut unit = sixteen_frame_guest();
         // The entry of this level on the walk of address 0 stands in frame 4 - level.
-        unit.call(&Call::DeviceStore { address: (4 - level) << 12, value: entry });
+        unit.call(&Call::device_store_word((4 - level) << 12, entry));
         (load(&mut unit, 0), store(&mut unit, 0, 1))
     };
     for level in 1..=4u64 {
@@ -714,7 +1000,7 @@ fn absent_and_malformed_and_protected_in_their_order() {
     }
     // Read-only above and absent at level 1 is A; read-only with an unmapped page is P.
     let mut unit = sixteen_frame_guest();
-    unit.call(&Call::DeviceStore { address: 0, value: 0x1001 });
+    unit.call(&Call::device_store_word(0, 0x1001));
     assert_eq!(store(&mut unit, 0x3000, 1), fault(Fault::Absent { level: 1 }, 20, 1));
     assert_eq!(store(&mut unit, 0x2000, 1), fault(Fault::Protected { level: 1 }, 20, 1));
     assert_eq!(load(&mut unit, 0x2000), fault(Fault::HostAbsent { frame: 8 }, 24, 1));
@@ -724,7 +1010,7 @@ fn absent_and_malformed_and_protected_in_their_order() {
 fn protected_by_a_shadowed_entry_fills_and_costs_no_exit_of_its_own() {
     for depth in 1..=5u64 {
         let mut unit = sixteen_frame_guest();
-        unit.call(&Call::DeviceStore { address: 0, value: 0x1001 });
+        unit.call(&Call::device_store_word(0, 0x1001));
         set_mark(&mut unit, 0, depth);
         let references = if depth == 5 { 20 } else { 4 * depth };
         let protected = |exits| fault(Fault::Protected { level: 1 }, references, exits);
@@ -801,12 +1087,12 @@ fn watching_is_judged_after_the_fill_and_before_the_drops() {
     assert_eq!(load(&mut unit, 0x4000), value(0x4003, 4, 0));
     // The store's own overflow takes the only path that watched the frame.
     let mut unit = sixteen_frame_guest();
-    unit.call(&Call::DeviceStore { address: 0x6000, value: 0x2003 });
-    unit.call(&Call::DeviceStore { address: 0x2008, value: 0x6003 });
+    unit.call(&Call::device_store_word(0x6000, 0x2003));
+    unit.call(&Call::device_store_word(0x2008, 0x6003));
     assert_eq!(load(&mut unit, 0), value(0, 4, 1));
     assert!(unit.book().watched(11));
     // Page 0x201000: entry 1 of frame 2, then entry 1 of frame 6, a page in frame 3.
-    unit.call(&Call::DeviceStore { address: 0x6008, value: 0x3003 });
+    unit.call(&Call::device_store_word(0x6008, 0x3003));
     assert_eq!(store(&mut unit, 0x201ff8, 1), done(4, 1));
     assert!(!unit.book().watched(11));
 }
@@ -817,9 +1103,9 @@ fn stores_drop_by_host_word() {
     let mut unit = sixteen_frame_guest();
     map(&mut unit, 9, 11);
     load(&mut unit, 0);
-    assert_eq!(unit.call(&Call::DeviceStore { address: 0x9000, value: 0x4003 }), done(4, 1));
+    assert_eq!(unit.call(&Call::device_store_word(0x9000, 0x4003)), done(4, 1));
     assert_eq!(load(&mut unit, 0), value(0, 4, 1));
-    assert_eq!(unit.call(&Call::DeviceStore { address: 0x9008, value: 0x5003 }), done(4, 1));
+    assert_eq!(unit.call(&Call::device_store_word(0x9008, 0x5003)), done(4, 1));
     assert_eq!(load(&mut unit, 0), value(0, 4, 0));
     // Mapping the second name anew drops nothing, the first name drops.
     map(&mut unit, 9, 12);
@@ -855,6 +1141,12 @@ fn five_levels() {
         assert_eq!(load(&mut unit, 8), value(0, 5 + 5 * depth, (depth < 6) as u64));
         assert_eq!(load(&mut unit, 8), value(0, 5 + 5 * depth, 0));
     }
+    // The page's byte 3, and byte 7 of the entry that names it.
+    let mut unit = open();
+    assert_eq!(device_store_bytes(&mut unit, 0x5003, 1, 0x1FF), done(5, 0));
+    assert_eq!(load_bytes(&mut unit, 2, 2), value(0xFF00, 5, 1));
+    assert_eq!(device_store_bytes(&mut unit, 0x4007, 1, 0), done(5, 1));
+    assert_eq!(load(&mut unit, 0), value(0xFF00_0000, 5, 1));
     // A forecast of two pages, the second of which the page's table does not have.
     assert_eq!(forecast(&mut open(), &[8, 0x1000, 0]), figures(5 + 30 + 5, 2, 5));
     let mut unit = open();
@@ -862,7 +1154,7 @@ fn five_levels() {
     assert_eq!(unit.call(&Call::Root { frame: 1 << 40 }), Answer::No(8));
     assert_eq!(unit.call(&Call::Root { frame: (1 << 40) - 1 }), Answer::Ok);
     assert_eq!(load(&mut unit, 0), fault(Fault::HostAbsent { frame: (1 << 40) - 1 }, 1, 1));
-    assert_eq!(unit.call(&Call::DeviceStore { address: 1 << 52, value: 0 }), Answer::No(4));
+    assert_eq!(unit.call(&Call::device_store_word(1 << 52, 0)), Answer::No(4));
     // "57-bit addresses legal by bit 56". Entries 255, 256 and 511 of the root are 0:
     // five words of its host walk, then the entry. Bit 47 is of the next index, whose
     // entry is five words of a host walk and one more behind the root's entry 0.
@@ -876,7 +1168,7 @@ fn five_levels() {
     }
     assert_eq!(load(&mut unit, 1 << 47), fault(Fault::Absent { level: 4 }, 12, 1));
     // Bits 48 to 51 are frame bits.
-    unit.call(&Call::DeviceStore { address: 0, value: 1 << 51 | 3 });
+    unit.call(&Call::device_store_word(0, 1 << 51 | 3));
     assert_eq!(load(&mut unit, 0), fault(Fault::HostAbsent { frame: 1 << 39 }, 7, 1));
 }
 

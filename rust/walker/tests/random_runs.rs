@@ -7,7 +7,7 @@ use naive::{Naive, Seen};
 use std::collections::{BTreeMap, BTreeSet};
 use walker::answer::{Answer, Call};
 use walker::book::{Lookup, Mark};
-use walker::events::{of_forecasts, of_halves, of_lookups, Events};
+use walker::events::{of_forecasts, of_halves, of_lookups, of_widths, Events};
 use walker::numbers::{address_of, page_from};
 use walker::random::{mark_run, run, Random, Run, Sizes};
 use walker::vectors::lines;
@@ -42,9 +42,9 @@ impl Pair {
 
     fn step(&mut self, call: &Call) {
         match *call {
-            Call::Load { address } => self.request(call, address, None),
-            Call::Store { address, value } => self.request(call, address, Some(value)),
-            Call::DeviceStore { address, value } => self.device_store(call, address, value),
+            Call::Load { address, width } => self.request(call, address, width, None),
+            Call::Store { address, width, value } => self.request(call, address, width, Some(value)),
+            Call::DeviceStore { address, width, value } => self.device_store(call, address, width, value),
             Call::Forecast { ref addresses } => self.forecast(call, addresses),
             _ => self.change(call),
         }
@@ -153,27 +153,34 @@ impl Pair {
 
     // Loads, stores and device stores.
 
-    fn request(&mut self, call: &Call, address: u64, value: Option<u64>) {
-        if !self.is_word_address(address) {
-            return assert_eq!(self.unit.call(call), Answer::No(4));
+    fn request(&mut self, call: &Call, address: u64, width: u64, value: Option<u64>) {
+        if let Some(number) = refusal(legal(address, self.naive.levels), address, width) {
+            return self.refused(call, number);
         }
         let mut held = self.held();
         let (end, references, mut exits) = self.translate(address, value.is_some(), &mut held);
         // The write and the drops.
         if let (Ok(host), Some(value)) = (end, value) {
             exits += watched(&held, host) as u64;
-            self.write(&mut held, host, address, value);
+            self.write(&mut held, host, address, width, value);
         }
         let answer = self.unit.call(call);
         assert_eq!((end_of(&answer), answer.counts()), (end.err(), (references, exits)), "{call:?}");
         assert_eq!(self.held(), held, "{call:?}");
         if let (Ok(host), Answer::Value { value, .. }) = (end, answer) {
-            assert_eq!(value, self.naive.memory[place(host, address)]);
+            let word = self.naive.memory[place(host, address)];
+            assert_eq!(value as u128, digits(word, address, width), "{call:?}");
         }
     }
 
+    fn refused(&mut self, call: &Call, number: u32) {
+        let held = self.held();
+        assert_eq!(self.unit.call(call), Answer::No(number), "{call:?}");
+        assert_eq!(self.held(), held, "{call:?}");
+    }
+
     fn is_word_address(&self, address: u64) -> bool {
-        address % 8 == 0 && legal(address, self.naive.levels)
+        refusal(legal(address, self.naive.levels), address, 8).is_none()
     }
 
     /// The end, the references and the exits of a request, and its fill, from the
@@ -241,11 +248,11 @@ impl Pair {
         (references, exits + of_host(seen.end) as u64)
     }
 
-    fn device_store(&mut self, call: &Call, address: u64, value: u64) {
+    fn device_store(&mut self, call: &Call, address: u64, width: u64, value: u64) {
         let frame = address / 4096;
         let frame_bits = if self.naive.levels == 4 { 36 } else { 40 };
-        if address % 8 != 0 || frame >> frame_bits != 0 {
-            return assert_eq!(self.unit.call(call), Answer::No(4));
+        if let Some(number) = refusal(frame >> frame_bits == 0, address, width) {
+            return self.refused(call, number);
         }
         let (entry, references) = self.naive.host_walk(frame);
         let end: End = match entry {
@@ -256,15 +263,17 @@ impl Pair {
         let mut held = self.held();
         let exits = end.map_or(1, |host| watched(&held, host) as u64);
         if let Ok(host) = end {
-            self.write(&mut held, host, address, value);
+            self.write(&mut held, host, address, width, value);
         }
         let answer = self.unit.call(call);
         assert_eq!((end_of(&answer), answer.counts()), (end.err(), (references, exits)), "{call:?}");
         assert_eq!(self.held(), held, "{call:?}");
     }
 
-    fn write(&mut self, held: &mut Held, host: u64, address: u64, value: u64) {
-        self.naive.memory[place(host, address)] = value;
+    fn write(&mut self, held: &mut Held, host: u64, address: u64, width: u64, value: u64) {
+        let word = &mut self.naive.memory[place(host, address)];
+        let rest = *word as u128 - digits(*word, address, width) * unit(address);
+        *word = (rest + value as u128 % 256u128.pow(width as u32) * unit(address)) as u64;
         held.retain(|_, words| !words.contains(&(host, address / 8 % 512)));
     }
 
@@ -303,6 +312,27 @@ impl Pair {
 fn legal(address: u64, levels: u32) -> bool {
     let half = 1i64 << (11 + 9 * levels);
     (-half..half).contains(&(address as i64))
+}
+
+/// The refusal of a load or store by its width, or by an address that is not in range
+/// or has low bits set.
+fn refusal(in_range: bool, address: u64, width: u64) -> Option<u32> {
+    match width {
+        1 | 2 | 4 | 8 if in_range && address & (width - 1) == 0 => None,
+        1 | 2 | 4 | 8 => Some(4),
+        _ => Some(15),
+    }
+}
+
+/// What one of the address's byte counts for in its word: a word is a number with a
+/// digit to base 256 for each byte, the first one the ones.
+fn unit(address: u64) -> u128 {
+    256u128.pow((address % 8) as u32)
+}
+
+/// So many digits of a word from the address's byte on.
+fn digits(word: u64, address: u64, width: u64) -> u128 {
+    word as u128 / unit(address) % 256u128.pow(width as u32)
 }
 
 /// The mark of this level at an address.
@@ -409,16 +439,18 @@ fn small_runs_with_five_levels() {
 
 #[test]
 fn long_runs_reach_every_event() {
-    let events = check_small_runs(4, 1000..1060, 600);
+    let events = check_small_runs(4, 1000..1100, 600);
     assert_all_met(sought_events(), &events);
     assert_all_met(of_halves(4), &events);
+    assert_all_met(of_widths(4), &events);
     assert_all_met(of_forecasts(4, true), &events);
 }
 
 #[test]
-fn long_runs_with_five_levels_reach_both_halves_and_every_forecast() {
-    let events = check_small_runs(5, 1000..1060, 600);
+fn long_runs_with_five_levels_reach_both_halves_every_width_and_every_forecast() {
+    let events = check_small_runs(5, 1000..1100, 600);
     assert_all_met(of_halves(5), &events);
+    assert_all_met(of_widths(5), &events);
     assert_all_met(of_forecasts(5, true), &events);
 }
 
@@ -426,7 +458,7 @@ fn long_runs_with_five_levels_reach_both_halves_and_every_forecast() {
 fn lookups_among_marks_that_come_and_go() {
     for levels in [4, 5] {
         let mut events = Events::default();
-        for seed in 2000..2030 {
+        for seed in 2000..2060 {
             let sizes = Sizes::small(&mut Random::new(seed + 1), levels);
             events.join(&check_run(&mark_run(seed, sizes, 600)));
         }
@@ -473,7 +505,7 @@ fn sought_events() -> Vec<String> {
         names.push(format!("paths dropped by clearing a mark of level {level}"));
         names.push(format!("device store, fault H after {level}"));
     }
-    for number in [4, 5, 6, 7, 8, 9, 10, 12] {
+    for number in [4, 5, 6, 7, 8, 9, 10, 12, 15] {
         names.push(format!("refusal {number}"));
     }
     let others = [

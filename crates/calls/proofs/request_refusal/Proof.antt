@@ -1,8 +1,11 @@
--- The first test that fails gives the number; the address is tested only where the record fits, so that its levels are few.
-use mathlib.Core.Path.{sym, ap, ap₂, _∙_}
+-- The first test that fails gives the number; the address is tested only where the record and the width fit, as its test asks for.
+use mathlib.Core.Path.{sym, _∙_, subst}
 use borrow.Author.Tests.{not-true, not-false}
-use Rattle.record.specs.Record.{recordBy}
-use Rattle.calls.specs.Calls.{addressOk, refusalBy}
+use lib.Dec.{T}
+use Rattle.spec.specs.Bytes.{widthFits}
+use Rattle.record.specs.Record.{recordBy, configOf}
+use Rattle.calls.specs.Calls.{addressOk}
+use Rattle.calls.proofs.Laws.{says-3, says-15, says-4, says-none}
 use Rattle.calls.proofs.Ranges.{fits-levels}
 use borrow.Author.Needs.{needs}
 use Rattle.calls.proofs.request_refusal.Statement.{statement}
@@ -12,31 +15,44 @@ returns : tie.Need-returns
 returns c =
     let args = c .before .before .args in
     let fits2 = c .before .fits2 in
-    let if1 = c .if1 in
-    sym (ap (λ f. refusalBy f (addressOk (recordBy (args .head) (args .place .now)) (args .address .0))) (sym (fits2 .ensures) ∙ not-true (fits2 .result) (if1 .taken)))
-
-names-word-requires : tie.Need-names-word-requires
-names-word-requires c κs =
-    let args = c .before .before .args in
-    let fits2 = c .before .fits2 in
-    let if1 = c .if1 in
-    fits-levels (recordBy (args .head) (args .place .now)) _ (sym (fits2 .ensures) ∙ not-false (fits2 .result) (if1 .left))
+    let ok = addressOk (args .device) (configOf (recordBy (args .head) (args .place .now))) (args .address) (args .width) in
+    says-3 _ (widthFits (args .width)) ok (sym (fits2 .ensures) ∙ not-true (fits2 .result) (c .if1 .taken))
 
 returns-2 : tie.Need-returns-2
 returns-2 c =
+    let args = c .before .before .before .before .args in
+    let ok = addressOk (args .device) (configOf (recordBy (args .head) (args .place .now))) (args .address) (args .width) in
     let fits2 = c .before .before .before .fits2 in
-    let if1 = c .before .before .if1 in
-    let names-word = c .before .names-word in
-    let if2 = c .if2 in
-    sym (ap₂ refusalBy (sym (fits2 .ensures) ∙ not-false (fits2 .result) (if1 .left)) (sym (names-word .ensures) ∙ not-true (names-word .result) (if2 .taken)))
+    let width-fits = c .before .width-fits in
+    says-15 _ _ ok (sym (fits2 .ensures) ∙ not-false (fits2 .result) (c .before .before .if1 .left)) (sym (width-fits .ensures) ∙ not-true (width-fits .result) (c .if2 .taken))
+
+address-ok-requires : tie.Need-address-ok-requires
+address-ok-requires c κs =
+    let args = c .before .before .before .before .args in
+    let fits2 = c .before .before .before .fits2 in
+    let width-fits = c .before .width-fits in
+    let wide = sym (width-fits .ensures) ∙ not-false (width-fits .result) (c .if2 .left) in
+    (fits-levels (recordBy (args .head) (args .place .now)) _ (sym (fits2 .ensures) ∙ not-false (fits2 .result) (c .before .before .if1 .left)), subst T (sym wide) tt)
 
 returns-3 : tie.Need-returns-3
 returns-3 c =
-    let fits2 = c .before .before .before .fits2 in
-    let if1 = c .before .before .if1 in
-    let names-word = c .before .names-word in
-    let if2 = c .if2 in
-    sym (ap₂ refusalBy (sym (fits2 .ensures) ∙ not-false (fits2 .result) (if1 .left)) (sym (names-word .ensures) ∙ not-false (names-word .result) (if2 .left)))
+    let address-ok = c .before .address-ok in
+    let width-fits = c .before .before .before .width-fits in
+    let fits2 = c .before .before .before .before .before .fits2 in
+    says-4 _ _ _
+    (sym (fits2 .ensures) ∙ not-false (fits2 .result) (c .before .before .before .before .if1 .left))
+    (sym (width-fits .ensures) ∙ not-false (width-fits .result) (c .before .before .if2 .left))
+    (sym (address-ok .ensures) ∙ not-true (address-ok .result) (c .if3 .taken))
+
+returns-4 : tie.Need-returns-4
+returns-4 c =
+    let address-ok = c .before .address-ok in
+    let width-fits = c .before .before .before .width-fits in
+    let fits2 = c .before .before .before .before .before .fits2 in
+    says-none _ _ _
+    (sym (fits2 .ensures) ∙ not-false (fits2 .result) (c .before .before .before .before .if1 .left))
+    (sym (width-fits .ensures) ∙ not-false (width-fits .result) (c .before .before .if2 .left))
+    (sym (address-ok .ensures) ∙ not-false (address-ok .result) (c .if3 .left))
 
 pub request-refusal-spec : {M : Type 1} → statement M
-request-refusal-spec = tie.close (tie.spec (λ c κs. search needs) returns names-word-requires returns-2 returns-3)
+request-refusal-spec = tie.close (tie.spec (λ c κs. search needs) returns (λ c κs. search needs) returns-2 address-ok-requires returns-3 returns-4)

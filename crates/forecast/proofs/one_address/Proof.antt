@@ -8,16 +8,16 @@ use Rattle.forecast.proofs.one_address.Tie as tie
 returns : tie.Need-returns
 unfolding addressOf
 returns c =
-    let names-word = c .before .names-word in
-    rw (← names-word .ensures, not-true (names-word .result) (c .if1 .taken))
+    let names-bytes = c .before .names-bytes in
+    rw (← names-bytes .ensures, not-true (names-bytes .result) (c .if1 .taken))
 
 returns-2 : tie.Need-returns-2
 unfolding addressOf
 returns-2 c =
-    let names-word = c .before .before .before .before .names-word in
+    let names-bytes = c .before .before .before .before .names-bytes in
     let if1 = c .before .before .before .if1 in
     let depth = c .before .before .depth in
-    rw (← names-word .ensures, not-false (names-word .result) (if1 .left), ← depth .ensures) (c .one-load .ensures)
+    rw (← names-bytes .ensures, not-false (names-bytes .result) (if1 .left), ← depth .ensures) (c .one-load .ensures)
 
 pub one-address-spec : {M : Type 1} → statement M
 one-address-spec =

@@ -9,12 +9,21 @@ use borrow.Author.Needs.{needs}
 use Rattle.request.proofs.device_store.Statement.{statement}
 use Rattle.request.proofs.device_store.Tie as tie
 
-written-requires : tie.Need-written-requires
-written-requires c κs =
+with-bytes-requires : tie.Need-with-bytes-requires
+with-bytes-requires c κs =
     let args = c .before .before .before .before .before .before .before .args in
     let pre = c .before .before .before .before .before .before .before .pre in
     let to-page = c .before .before .before .before .to-page in
     let walked = c .before .before .walked in
+    let at = rw (← to-page .ensures, walked .given .1) at (device-in (config (args .space .layout)) (args .space .top) (args .mem .now) (args .address / 4096)) in
+    (omega (arith, at .1, pre .0), pre .2)
+
+written-requires : tie.Need-written-requires
+written-requires c κs =
+    let args = c .before .before .before .before .before .before .before .before .before .args in
+    let pre = c .before .before .before .before .before .before .before .before .before .pre in
+    let to-page = c .before .before .before .before .before .before .to-page in
+    let walked = c .before .before .before .before .walked in
     let at = rw (← to-page .ensures, walked .given .1) at (device-in (config (args .space .layout)) (args .space .top) (args .mem .now) (args .address / 4096)) in
     (pre .0, pre .1, omega (arith, at .1, pre .0), omega arith)
 
@@ -24,10 +33,11 @@ enum-told c = search needs
 returns : tie.Need-returns
 unfolding deviceOf pageOf
 returns c =
-    let to-page = c .before .before .before .before .before .before .before .to-page in
-    let walked = c .before .before .before .before .before .walked in
+    let to-page = c .before .before .before .before .before .before .before .before .before .to-page in
+    let walked = c .before .before .before .before .before .before .before .walked in
+    let with-bytes = c .before .before .before .before .with-bytes in
     let written = c .before .before .written in
-    rw (← to-page .ensures, walked .given .1) (written .ensures)
+    rw (← to-page .ensures, walked .given .1, ← with-bytes .ensures) (written .ensures)
 
 returns-2 : tie.Need-returns-2
 unfolding deviceOf pageOf
@@ -51,6 +61,7 @@ device-store-spec =
     (tie.spec
     (λ c κs. search needs)
     (λ c. search needs)
+    with-bytes-requires
     written-requires
     (λ c. search needs)
     (λ c κs. search needs)

@@ -1,74 +1,90 @@
--- A translation arrives in the guest area, so the word can be read; a fault goes on as it is, damage is 11.
-use native.Mathlib.Omega.{arith}
+-- Through the path held for it the load goes on with what is held as it was; damage is 11; else it is translated without one.
+use mathlib.Core.Path.{_≡_, sym, ap, _∙_, subst}
+use mathlib.Core.Logic.{⊎-elim}
 use mathlib.Core.Bool.{false}
-use Rattle.words.specs.After.{yields}
+use Rattle.words.specs.After.{After}
 use Rattle.layout.specs.Layout.{config}
+use Rattle.translate.specs.declared.Translated.{Translated}
+use Rattle.translate.specs.Translate.{translateOf, unservedOf}
 use Rattle.translate.proofs.Fits.{held-small}
-use Rattle.translate.proofs.Leaves.{Leaves, translate-leaves}
-use Rattle.request.specs.Access.{loadOf}
+use Rattle.request.specs.Access.{ReachesFrame, loadFrom, loadOf}
+use Rattle.request.proofs.Held.{through, path-serves, path-small, path-missed, path-none, path-broken, reaches-as}
 use borrow.Author.Needs.{needs}
 use Rattle.request.proofs.load.Statement.{statement}
 use Rattle.request.proofs.load.Tie as tie
 
--- what the translation leaves
-left : (c : tie.After-translate) → Leaves (config (c .before .before .before .args .space .layout)) (c .before .before .before .args .mem .now) (yields (c .translate .result) (c .translate .last .0))
-left c =
-    let args = c .before .before .before .args in
-    let pre = c .before .before .before .pre in
-    let translate = c .translate in
-    rw (translate .ensures) (translate-leaves (config (args .space .layout)) (args .space .top) (args .mem .now) false (args .held) (pre .1) (args .root .0) (args .address .0) (args .depth))
+direct-requires : tie.Need-direct-requires
+direct-requires c κs =
+    let args = c .before .before .before .before .before .before .before .before .before .args in
+    let pre = c .before .before .before .before .before .before .before .before .before .pre in
+    let found = sym (c .before .before .before .before .path-held .ensures) ∙ c .before .before .page .given .1 in
+    (pre .0, c .before .before .before .before .before .before .if1 .taken, path-small (config (args .space .layout)) (args .space .top) (args .mem .now) (args .held) (args .root .0) false (args .address .0) (args .depth) (pre .0 .3) (held-small (config (args .space .layout)) (args .held) (pre .1) (pre .0 .3)) _ _ found)
 
-translate-requires : tie.Need-translate-requires
-translate-requires c κs =
-    let pre = c .before .before .pre in
-    let args = c .before .before .args in
-    (pre .0, held-small (config (args .space .layout)) (args .held) (pre .1) (pre .0 .3))
-
-read-word-requires : tie.Need-read-word-requires
-read-word-requires c κs =
-    let pre = c .before .before .before .before .before .before .before .before .before .before .pre in
-    let walked = c .before .before .walked in
-    let at = rw (walked .given .1) at (left (c .before .before .before .before .before .before .before) .arrived) in omega (arith, at .1, pre .0)
-
-enum-told : tie.Need-enum-told
-enum-told c = search needs
+loaded-requires : tie.Need-loaded-requires
+loaded-requires c κs =
+    let args = c .before .before .before .before .before .before .before .before .before .before .before .before .args in
+    let pre = c .before .before .before .before .before .before .before .before .before .before .before .before .pre in
+    let direct = c .before .before .direct in
+    let found = sym (c .before .before .before .before .before .before .before .path-held .ensures) ∙ c .before .before .before .before .before .page .given .1 in
+    let went = path-serves (config (args .space .layout)) (args .space .top) (args .mem .now) (args .held) (args .root .0) false (args .address .0) (args .depth) _ _ (c .before .before .before .before .before .before .before .before .before .if1 .taken) found in
+    let at = subst ReachesFrame (sym (direct .ensures)) (reaches-as (config (args .space .layout)) (args .space .top) (args .mem .now) (args .held) (args .root .0) false (args .address .0) (args .depth) (pre .1) (through (config (args .space .layout)) (args .space .top) (args .mem .now) (args .held) (args .root .0) false (args .address .0) (args .depth) _ _) (pre .0 .3) went) in
+    (at, pre .2)
 
 returns : tie.Need-returns
 unfolding loadOf
 returns c =
-    let translate = c .before .before .before .before .before .before .before .before .translate in
-    let walked = c .before .before .before .walked in
-    let read-word = c .read-word in
-    rw (← translate .ensures, walked .given .1, read-word .ensures)
+    let args = c .before .before .before .before .before .before .before .before .before .before .before .before .before .args in
+    let found = sym (c .before .before .before .before .before .before .before .before .path-held .ensures) ∙ c .before .before .before .before .before .before .page .given .1 in
+    let went = path-serves (config (args .space .layout)) (args .space .top) (args .mem .now) (args .held) (args .root .0) false (args .address .0) (args .depth) _ _ (c .before .before .before .before .before .before .before .before .before .before .if1 .taken) found in
+    (rw (c .before .before .exit-of .ensures, c .before .before .before .direct .ensures) at (c .loaded .ensures)) ∙ sym (ap (loadFrom (args .held) (args .address .0) (args .width)) went)
 
 returns-2 : tie.Need-returns-2
 unfolding loadOf
 returns-2 c =
-    let translate = c .before .before .before .before .before .before .translate in
-    let walked2 = c .before .walked2 in
-    rw (← translate .ensures, walked2 .given .1)
+    let args = c .before .before .before .before .before .before .before .before .args in
+    let broken = sym (c .before .before .before .path-held .ensures) ∙ c .before .enum-told .given .1 in
+    rw (c .refused .ensures) (sym (ap (loadFrom (args .held) (args .address .0) (args .width)) (path-broken (config (args .space .layout)) (args .space .top) (args .mem .now) (args .held) (args .root .0) false (args .address .0) (args .depth) (c .before .before .before .before .before .if1 .taken) broken)))
+
+-- by either way no path serves
+unserved-is : (c : tie.After-unserved) → let args = c .before .before .before .before .before .args in translateOf (config (args .space .layout)) (args .space .top) (args .mem .now) (args .held) (args .root .0) false (args .address .0) (args .depth) ≡ unservedOf (config (args .space .layout)) (args .space .top) (args .mem .now) (args .held) (args .root .0) false (args .address .0) (args .depth)
+unserved-is c =
+    let args = c .before .before .before .before .before .args in
+    ⊎-elim
+    (λ w. path-missed (config (args .space .layout)) (args .space .top) (args .mem .now) (args .held) (args .root .0) false (args .address .0) (args .depth) _ (w .0 .taken) (sym (w .2 .ensures) ∙ w .4 .given .1))
+    (λ w. path-none (config (args .space .layout)) (args .space .top) (args .mem .now) (args .held) (args .root .0) false (args .address .0) (args .depth) (w .left))
+    (c .before .before .if1 .came)
+
+loaded-requires-2 : tie.Need-loaded-requires-2
+loaded-requires-2 c κs =
+    let args = c .before .before .before .before .before .before .before .before .before .args in
+    let pre = c .before .before .before .before .before .before .before .before .before .pre in
+    let unserved = c .before .before .before .before .unserved in
+    let at = subst (λ (o : After Translated). ReachesFrame (o .result .walked)) (sym (unserved .ensures)) (reaches-as (config (args .space .layout)) (args .space .top) (args .mem .now) (args .held) (args .root .0) false (args .address .0) (args .depth) (pre .1) (unservedOf (config (args .space .layout)) (args .space .top) (args .mem .now) (args .held) (args .root .0) false (args .address .0) (args .depth)) (pre .0 .3) (unserved-is (c .before .before .before .before))) in
+    (at, pre .2)
 
 returns-3 : tie.Need-returns-3
 unfolding loadOf
 returns-3 c =
-    let translate = c .before .before .before .before .before .before .translate in
-    let enum-told = c .before .enum-told in
-    let refused = c .refused in
-    rw (← translate .ensures, enum-told .given .1, refused .ensures)
+    let args = c .before .before .before .before .before .before .before .before .before .before .args in
+    c .loaded2 .ensures ∙ ap (loadFrom (args .held) (args .address .0) (args .width)) (c .before .before .before .before .before .unserved .ensures ∙ sym (unserved-is (c .before .before .before .before .before)))
 
 pub load-spec : {M : Type 1} → statement M
 load-spec =
     tie.close
     (tie.spec
-    translate-requires
-    (λ c. search needs)
-    read-word-requires
-    (λ c. search needs)
-    enum-told
     (λ c κs. search needs)
+    (λ c. search needs)
+    direct-requires
+    (λ c κs. search needs)
+    loaded-requires
     (λ c. search needs)
     returns
     (λ c. search needs)
+    (λ c. search needs)
+    (λ c κs. search needs)
+    (λ c. search needs)
     returns-2
+    (λ c κs. search needs)
+    loaded-requires-2
     (λ c. search needs)
     returns-3)

@@ -12,7 +12,7 @@ add-t17 c =
     let args = c .before .before .before .before .before .before .before .before .before .args in
     let pre = c .before .before .before .before .before .before .before .before .before .pre in
     let put-word = c .before .before .before .before .before .before .put-word in
-    let l = rw (← put-word .ensures) at (put-leaves (config (args .layout)) (args .mem .now) (args .held .pool) (args .page .0) (wordOf (args .address)) (args .value) (pre .1)) in
+    let l = rw (← put-word .ensures) at (put-leaves (config (args .layout)) (args .mem .now) (args .held .pool) (args .page .0) (wordOf (args .address)) (args .word) (pre .1)) in
     omega (arith, l .exits, pre)
 
 returns : tie.Need-returns

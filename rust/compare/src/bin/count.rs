@@ -24,9 +24,9 @@ mod counted {
     }
 
     calls! {
-        load(address: u64);
-        store(address: u64, value: u64);
-        device_store(address: u64, value: u64);
+        load(address: u64, width: u64);
+        store(address: u64, width: u64, value: u64);
+        device_store(address: u64, width: u64, value: u64);
         root(guest: u64);
         map(guest: u64, frame: u64, writable: bool);
         unmap(guest: u64);
@@ -40,7 +40,7 @@ mod counted {
 /// time costs the same.
 type Case = (&'static str, fn() -> Guest, fn(&mut Record, &mut [u64]));
 
-const CASES: [Case; 35] = [
+const CASES: [Case; 38] = [
     ("load-depth-0", || held(0, 0), load::<0>),
     ("load-depth-0-marks-8", || held(0, 8), load::<0>),
     ("load-depth-0-marks-62", || held(0, 62), load::<0>),
@@ -66,6 +66,9 @@ const CASES: [Case; 35] = [
     ("depth-top-and-63", || below_top(59), |unit, _| depth(unit, 5, 5)),
     ("store", || held(0, 0), store),
     ("device-store", || held(0, 0), device_store),
+    ("load-byte", || held(0, 0), load_byte),
+    ("store-byte", || held(0, 0), store_byte),
+    ("device-store-byte", || held(0, 0), device_store_byte),
     ("root", guest, root),
     ("map-anew", guest, map_anew),
     ("map-unmap", guest, map_unmap),
@@ -81,9 +84,13 @@ const CASES: [Case; 35] = [
 // What a case does. The answers show that the calls are the ones meant.
 
 const WORD: u64 = 7;
+/// The word after it, and the address of its fourth byte.
+const NEXT: u64 = 0x8877_6655_4433_2211;
+const BYTE_AT: u64 = 11;
+const BYTE: u64 = 0x44;
 
 fn load<const DEPTH: u64>(unit: &mut Record, memory: &mut [u64]) {
-    let said = counted::load(unit, memory, 0);
+    let said = counted::load(unit, memory, 0, 8);
     assert_eq!(said, Answer::Value { word: WORD, references: 4 + 4 * DEPTH, exits: 0 });
 }
 
@@ -93,12 +100,27 @@ fn depth(unit: &Record, depth: u64, read: u64) {
 }
 
 fn store(unit: &mut Record, memory: &mut [u64]) {
-    let said = counted::store(unit, memory, 0, WORD);
+    let said = counted::store(unit, memory, 0, 8, WORD);
     assert_eq!(said, Answer::Done { references: 4, exits: 0 });
 }
 
 fn device_store(unit: &mut Record, memory: &mut [u64]) {
-    let said = counted::device_store(unit, memory, PAGE << 12, WORD);
+    let said = counted::device_store(unit, memory, PAGE << 12, 8, WORD);
+    assert_eq!(said, Answer::Done { references: 4, exits: 0 });
+}
+
+fn load_byte(unit: &mut Record, memory: &mut [u64]) {
+    let said = counted::load(unit, memory, BYTE_AT, 1);
+    assert_eq!(said, Answer::Value { word: BYTE, references: 4, exits: 0 });
+}
+
+fn store_byte(unit: &mut Record, memory: &mut [u64]) {
+    let said = counted::store(unit, memory, BYTE_AT, 1, BYTE);
+    assert_eq!(said, Answer::Done { references: 4, exits: 0 });
+}
+
+fn device_store_byte(unit: &mut Record, memory: &mut [u64]) {
+    let said = counted::device_store(unit, memory, (PAGE << 12) + BYTE_AT, 1, BYTE);
     assert_eq!(said, Answer::Done { references: 4, exits: 0 });
 }
 
@@ -129,7 +151,7 @@ fn mark_set_clear(unit: &mut Record, memory: &mut [u64]) {
 /// The root load drops all paths, so that the load fills its own, of four tables.
 fn root_load_fill(unit: &mut Record, memory: &mut [u64]) {
     root(unit, memory);
-    let said = counted::load(unit, memory, 0);
+    let said = counted::load(unit, memory, 0, 8);
     assert_eq!(said, Answer::Value { word: WORD, references: 4, exits: 1 });
 }
 
@@ -142,7 +164,7 @@ fn forecast(unit: &mut Record, memory: &mut [u64], addresses: &[u64], exits: u64
 fn serve(unit: &mut Record, memory: &mut [u64], addresses: &[u64]) {
     assert_eq!(unit.root(memory, 0), Answer::Ok);
     for address in addresses {
-        let said = counted::load(unit, memory, *address);
+        let said = counted::load(unit, memory, *address, 8);
         assert_eq!(said, Answer::Value { word: WORD, references: 4, exits: 1 });
     }
 }
@@ -186,7 +208,8 @@ fn guest_with(shadows: u64) -> Guest {
         let first = ((base + table) * 512) as usize;
         memory[first..first + 256].fill((table + 1) << 12 | 3);
     }
-    memory[((base + PAGE) * 512) as usize] = WORD;
+    let page = ((base + PAGE) * 512) as usize;
+    memory[page..page + 2].copy_from_slice(&[WORD, NEXT]);
     assert_eq!(unit.root(&mut memory, 0), Answer::Ok);
     Guest { unit, memory }
 }
@@ -204,7 +227,7 @@ fn large_guest() -> Guest {
 fn served(guest: Guest, addresses: &[u64]) -> Guest {
     let Guest { mut unit, mut memory } = guest;
     for address in addresses {
-        assert!(matches!(unit.load(&mut memory, *address), Answer::Value { word: WORD, exits: 1, .. }));
+        assert!(matches!(unit.load(&mut memory, *address, 8), Answer::Value { word: WORD, exits: 1, .. }));
     }
     Guest { unit, memory }
 }
@@ -219,7 +242,7 @@ fn held(depth: u64, elsewhere: u64) -> Guest {
     for number in 0..elsewhere {
         assert_eq!(unit.set_mark(&mut memory, (1 << 40) + (number << 21), 1), Answer::Ok);
     }
-    assert!(matches!(unit.load(&mut memory, 0), Answer::Value { word: WORD, .. }));
+    assert!(matches!(unit.load(&mut memory, 0, 8), Answer::Value { word: WORD, .. }));
     Guest { unit, memory }
 }
 

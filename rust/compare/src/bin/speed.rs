@@ -47,7 +47,7 @@ fn prepared(level: u64, elsewhere: u64, addresses: &[u64]) -> (Record, Vec<u64>)
         assert_eq!(unit.set_mark(&mut memory, (1 << 40) + (number << 21), 1), Answer::Ok);
     }
     for address in addresses {
-        word(unit.load(&mut memory, *address));
+        word(unit.load(&mut memory, *address, 8));
     }
     (unit, memory)
 }
@@ -143,10 +143,10 @@ fn loads(title: &str, addresses: &[u64]) {
     for (level, elsewhere) in [(0, 0), (0, 8), (0, 62), (1, 0), (2, 0), (3, 0), (4, 0), (5, 0)] {
         let (mut unit, mut memory) = prepared(level, elsewhere, addresses);
         let name = format!("unit: load at depth {level}, {} marks", unit.head.set.count_ones());
-        ways.push((name, Box::new(move |address| word(unit.load(&mut memory, address)))));
+        ways.push((name, Box::new(move |address| word(unit.load(&mut memory, address, 8)))));
     }
     let (mut unit, mut memory) = prepared(0, 0, addresses);
-    let store = move |address| word(unit.store(&mut memory, address, 1));
+    let store = move |address| word(unit.store(&mut memory, address, 8, 1));
     ways.push(("unit: store at depth 0, 0 marks".into(), Box::new(store)));
     let (_, memory) = guest();
     let nested = move |address| nested_load(&memory, 0, address).unwrap();
@@ -172,7 +172,7 @@ fn lookups(addresses: &[u64]) {
 fn others() {
     let mut ways: Vec<Way> = Vec::new();
     let (mut unit, mut memory) = guest();
-    let miss = move |address| word(unit.root(&mut memory, 0)) + word(unit.load(&mut memory, address));
+    let miss = move |address| word(unit.root(&mut memory, 0)) + word(unit.load(&mut memory, address, 8));
     ways.push(("unit: root, then a load that fills".into(), Box::new(miss)));
     let (mut unit, mut memory) = guest();
     let mark = move |address| {
@@ -180,7 +180,7 @@ fn others() {
     };
     ways.push(("unit: a mark set and cleared".into(), Box::new(mark)));
     let (mut unit, mut memory) = guest();
-    let device = move |address| word(unit.device_store(&mut memory, (5 << 12) + address, 1));
+    let device = move |address| word(unit.device_store(&mut memory, (5 << 12) + address, 8, 1));
     ways.push(("unit: device store".into(), Box::new(device)));
     let (mut unit, mut memory) = guest();
     ways.push((
@@ -216,7 +216,7 @@ fn lists() {
     let (mut unit, mut memory) = guest();
     let served = move |_| {
         let root = word(unit.root(&mut memory, 0));
-        root + list.iter().map(|address| word(unit.load(&mut memory, *address))).sum::<u64>()
+        root + list.iter().map(|address| word(unit.load(&mut memory, *address, 8))).sum::<u64>()
     };
     ways.push(("unit: root, then its loads, no path held".into(), Box::new(served)));
     compare("A list of 256 addresses", &[0], CALLS / 256, &mut ways);

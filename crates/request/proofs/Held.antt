@@ -1,0 +1,133 @@
+-- A request by the path held for it: through it, without it, or on damage. And that what it comes to is in range.
+-- Assumes nothing.
+use mathlib.Core.Path.{_≡_, refl, sym, ap, ap₂, _∙_, subst}
+use Prim.Native.Nat.{ℕ, _<_, _≤_}
+use native.Mathlib.Nat.{zero-add}
+use native.Mathlib.Omega.{arith}
+use borrow.Author.Tests.{lt-ltb, le-ltb}
+use mathlib.Core.Bool.{Bool, true, false, cond}
+use mathlib.Core.List.{List}
+use Rattle.spec.specs.Config.{Config}
+use Rattle.spec.specs.Entry.{frameLimit}
+use Rattle.words.specs.After.{After, yields}
+use Rattle.entry.specs.declared.HostPhysical.{HostPhysical}
+use Rattle.layout.specs.declared.HostWalk.{HostWalk}
+use Rattle.layout.specs.declared.HostWalk.the-variants as host
+use Rattle.layout.proofs.Laws.{InGuestArea}
+use Rattle.walk.specs.declared.Walked.{Walked}
+use Rattle.walk.specs.declared.Walked.the-variants as walked
+use Rattle.translate.specs.declared.Held.{Held}
+use Rattle.translate.specs.declared.Translated.{Translated}
+use Rattle.translate.specs.Translate.{HeldFits, translation, damaged, exitBy, directOf, servedOf, servesOf, foundOf, missedOf, foundBy, plainOf, translateOf, unservedOf}
+use Rattle.translate.proofs.Fits.{ArrivedIn, FoundIs, found-is}
+use Rattle.translate.proofs.Leaves.{Leaves, translate-leaves}
+use Rattle.request.specs.Access.{ReachesFrame, servingBy, pathHeldOf}
+
+-- in the guest area, so below the limit
+reaches : (c : Config) (r : Walked) → c .frames ≤ 65536 → ArrivedIn c r → ReachesFrame r
+reaches c (walked.Arrived t w n) few g = omega (arith, g .1)
+reaches c (walked.Faulted x n) few g = tt
+reaches c walked.Damaged few g = tt
+
+module _ (c : Config) (ht : ℕ) (m : List ℕ) (h : Held) (root : ℕ) (st : Bool) (a d : ℕ) where
+  -- what a request comes to through the path that leads to t
+  abbrev pub through : HostPhysical → Bool → After Translated
+  through t w = let r = directOf c ht m st a d (t .0) w in yields (translation h (exitBy r) r) m
+
+  at-depth : d ≤ c .levels → translateOf c ht m h root st a d ≡ foundBy c ht m h root st a d (foundOf c m h a d)
+  unfolding translateOf
+  at-depth l = ap (λ b. cond b (yields (plainOf c ht m h root st a) m) (foundBy c ht m h root st a d (foundOf c m h a d))) (le-ltb (c .levels) d l)
+
+  serves : (t : HostPhysical) (w : Bool) (x : HostWalk) → servingBy st d x ≡ host.Found t w → foundBy c ht m h root st a d x ≡ through t w
+  unfolding servedOf
+  serves t w (host.Absent n) e = let z : _≡_ {A = ℕ} 0 1 = cc in absurd (omega arith)
+  serves t w host.Damaged e = let z : _≡_ {A = ℕ} 0 1 = cc in absurd (omega arith)
+  serves t w (host.Found u v) e = go (servesOf st d v) refl
+    where
+      go : (b : Bool) → servesOf st d v ≡ b → foundBy c ht m h root st a d (host.Found u v) ≡ through t w
+      go true q =
+          let f : host.Found u v ≡ host.Found t w = sym (ap (λ b. cond b (host.Found u v) (host.Absent 0)) q) ∙ e in
+          let p : u ≡ t = cc in
+          let r : v ≡ w = cc in
+          ap (λ b. cond b (yields (servedOf c ht m h st a d (u .0) v 0) m) (missedOf c ht m h root st a d)) q
+          ∙ ap₂ (λ x y. yields (servedOf c ht m h st a d (x .0) y 0) m) p r
+          ∙ ap (λ x. yields (translation h x (directOf c ht m st a d (t .0) w)) m) (zero-add (exitBy (directOf c ht m st a d (t .0) w)))
+      go false q =
+          let f : host.Absent 0 ≡ host.Found t w = sym (ap (λ b. cond b (host.Found u v) (host.Absent 0)) q) ∙ e in
+          let z : _≡_ {A = ℕ} 0 1 = cc in absurd (omega arith)
+
+  pub path-serves : (t : HostPhysical) (w : Bool) → d ≤ c .levels → pathHeldOf c m h st a d ≡ host.Found t w → translateOf c ht m h root st a d ≡ through t w
+  unfolding pathHeldOf
+  path-serves t w l e = at-depth l ∙ serves t w (foundOf c m h a d) e
+
+  misses : (n : ℕ) (x : HostWalk) → servingBy st d x ≡ host.Absent n → foundBy c ht m h root st a d x ≡ missedOf c ht m h root st a d
+  misses n (host.Absent k) e = refl
+  misses n host.Damaged e = let z : _≡_ {A = ℕ} 0 1 = cc in absurd (omega arith)
+  misses n (host.Found u v) e = go (servesOf st d v) refl
+    where
+      go : (b : Bool) → servesOf st d v ≡ b → foundBy c ht m h root st a d (host.Found u v) ≡ missedOf c ht m h root st a d
+      go true q =
+          let f : host.Found u v ≡ host.Absent n = sym (ap (λ b. cond b (host.Found u v) (host.Absent 0)) q) ∙ e in
+          let z : _≡_ {A = ℕ} 0 1 = cc in absurd (omega arith)
+      go false q = ap (λ b. cond b (yields (servedOf c ht m h st a d (u .0) v 0) m) (missedOf c ht m h root st a d)) q
+
+  -- no path serves: none does, or the depth is more than all levels
+  pub path-missed : (n : ℕ) → d ≤ c .levels → pathHeldOf c m h st a d ≡ host.Absent n → translateOf c ht m h root st a d ≡ unservedOf c ht m h root st a d
+  unfolding pathHeldOf unservedOf
+  path-missed n l e =
+      at-depth l ∙ misses n (foundOf c m h a d) e
+      ∙ sym (ap (λ b. cond b (yields (plainOf c ht m h root st a) m) (missedOf c ht m h root st a d)) (le-ltb (c .levels) d l))
+
+  pub path-none : c .levels < d → translateOf c ht m h root st a d ≡ unservedOf c ht m h root st a d
+  unfolding translateOf unservedOf
+  path-none l =
+      ap (λ b. cond b (yields (plainOf c ht m h root st a) m) (foundBy c ht m h root st a d (foundOf c m h a d))) (lt-ltb (c .levels) d l)
+      ∙ sym (ap (λ b. cond b (yields (plainOf c ht m h root st a) m) (missedOf c ht m h root st a d)) (lt-ltb (c .levels) d l))
+
+  breaks : (x : HostWalk) → servingBy st d x ≡ host.Damaged → foundBy c ht m h root st a d x ≡ damaged h m
+  breaks (host.Absent k) e = let z : _≡_ {A = ℕ} 0 1 = cc in absurd (omega arith)
+  breaks host.Damaged e = refl
+  breaks (host.Found u v) e = go (servesOf st d v) refl
+    where
+      go : (b : Bool) → servesOf st d v ≡ b → foundBy c ht m h root st a d (host.Found u v) ≡ damaged h m
+      go true q =
+          let f : host.Found u v ≡ host.Damaged = sym (ap (λ b. cond b (host.Found u v) (host.Absent 0)) q) ∙ e in
+          let z : _≡_ {A = ℕ} 0 1 = cc in absurd (omega arith)
+      go false q =
+          let f : host.Absent 0 ≡ host.Damaged = sym (ap (λ b. cond b (host.Found u v) (host.Absent 0)) q) ∙ e in
+          let z : _≡_ {A = ℕ} 0 1 = cc in absurd (omega arith)
+
+  pub path-broken : d ≤ c .levels → pathHeldOf c m h st a d ≡ host.Damaged → translateOf c ht m h root st a d ≡ damaged h m
+  unfolding pathHeldOf
+  path-broken l e = at-depth l ∙ breaks (foundOf c m h a d) e
+
+  -- ---- ranges
+
+  pub path-small : c .frames ≤ 65536 → h .frame .0 < frameLimit → (t : HostPhysical) (w : Bool) → pathHeldOf c m h st a d ≡ host.Found t w → t .0 < frameLimit
+  unfolding pathHeldOf
+  path-small few top t w e = by (foundOf c m h a d) (found-is c (λ f. f < frameLimit) inside m h a d (λ z. top)) e
+    where
+      inside : (f : ℕ) → InGuestArea c f → f < frameLimit
+      inside f g = omega (arith, g .1)
+
+      by : (x : HostWalk) → FoundIs c (λ f. f < frameLimit) inside x → servingBy st d x ≡ host.Found t w → t .0 < frameLimit
+      by (host.Absent k) g e = let z : _≡_ {A = ℕ} 0 1 = cc in absurd (omega arith)
+      by host.Damaged g e = let z : _≡_ {A = ℕ} 0 1 = cc in absurd (omega arith)
+      by (host.Found u v) g e = go (servesOf st d v) refl
+        where
+          go : (b : Bool) → servesOf st d v ≡ b → t .0 < frameLimit
+          go true q =
+              let f : host.Found u v ≡ host.Found t w = sym (ap (λ b. cond b (host.Found u v) (host.Absent 0)) q) ∙ e in
+              let p : u ≡ t = cc in
+              subst (λ (x : HostPhysical). x .0 < frameLimit) p g
+          go false q =
+              let f : host.Absent 0 ≡ host.Found t w = sym (ap (λ b. cond b (host.Found u v) (host.Absent 0)) q) ∙ e in
+              let z : _≡_ {A = ℕ} 0 1 = cc in absurd (omega arith)
+
+  module _ (f : HeldFits c h) where
+    -- what a translation leaves, told of an equal one
+    pub leaves-as : (o : After Translated) → translateOf c ht m h root st a d ≡ o → Leaves c m o
+    leaves-as o e = subst (Leaves c m) e (translate-leaves c ht m st h f root a d)
+
+    pub reaches-as : (o : After Translated) → c .frames ≤ 65536 → translateOf c ht m h root st a d ≡ o → ReachesFrame (o .result .walked)
+    reaches-as o few e = reaches c (o .result .walked) few (leaves-as o e .arrived)
