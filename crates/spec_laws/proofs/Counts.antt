@@ -64,12 +64,12 @@ plain-count c m st a r h =
     e ∙ ap (λ n. n + c .levels * suc n) (indexes-length (c .levels) (pageOf a))
 
 -- where a granted request's shadow part arrived
-record Shadow (c : Config) (m : Machine) (st : Bool) (a d : ℕ) (r : Place) : Type 0 where
-  at : Place
-  comes : (trace (world c m) (shadowPart c st d (m .root) (addressIndexes c a))) .result ≡ granted at
-  next : (trace (world c m) (directPart c st d at (addressIndexes c a))) .result ≡ granted r
+pub record Shadow (c : Config) (m : Machine) (st : Bool) (a d : ℕ) (r : Place) : Type 0 where
+  pub at : Place
+  pub comes : (trace (world c m) (shadowPart c st d (m .root) (addressIndexes c a))) .result ≡ granted at
+  pub next : (trace (world c m) (directPart c st d at (addressIndexes c a))) .result ≡ granted r
 
-shadow-granted : (c : Config) (m : Machine) (st : Bool) (a d : ℕ) (r : Place) → d ≤ c .levels → (plain c m st a) .result ≡ granted r → Shadow c m st a d r
+pub shadow-granted : (c : Config) (m : Machine) (st : Bool) (a d : ℕ) (r : Place) → d ≤ c .levels → (plain c m st a) .result ≡ granted r → Shadow c m st a d r
 unfolding plain
 shadow-granted c m st a d r b h =
     let is = addressIndexes c a in
