@@ -1,10 +1,11 @@
 //! Document 01's own examples and each refusal, by the numbers printed there, with
 //! requests 1 to 5 of document 02.
 
+use std::collections::BTreeSet;
 use walker::answer::{Answer, Call, Fault};
 use walker::book::{Lookup, Mark};
 use walker::machine::Access;
-use walker::quiet::{part, End, Stretch};
+use walker::quiet::{part, path_of, End, Stretch};
 use walker::Unit;
 
 const LEVELS: u32 = 4;
@@ -848,6 +849,8 @@ fn forecasts_keep_width_8() {
 struct Day {
     /// The exits of all the calls. What a forecast says is not paid.
     exits: u64,
+    /// The different paths of all granted loads and stores that were not held at first.
+    paths: u64,
     figure: u64,
     tables: u64,
     /// Where the stretch ended, counted from 0, and why.
@@ -857,12 +860,16 @@ struct Day {
 /// The calls from here on, as one stretch.
 fn day(unit: &mut Unit, calls: &[Call]) -> Day {
     let mut stretch = Stretch::start(unit);
-    let (mut exits, mut end) = (0, None);
+    let (mut exits, mut paths, mut end) = (0, BTreeSet::new(), None);
     for (number, call) in calls.iter().enumerate() {
         let before = unit.clone();
         let answer = unit.call(call);
         if !matches!(call, Call::Forecast { .. }) {
             exits += answer.counts().1;
+        }
+        if let Call::Load { address, .. } | Call::Store { address, .. } = call {
+            let granted = matches!(answer, Answer::Value { .. } | Answer::Done { .. });
+            paths.extend(path_of(before.book(), *address).filter(|_| granted));
         }
         if end.is_none() {
             let taken = part(&before, call, &answer).and_then(|part| stretch.take(&part));
@@ -872,12 +879,13 @@ fn day(unit: &mut Unit, calls: &[Call]) -> Day {
     if end.is_none() {
         assert!(stretch.held_after().iter().eq(unit.book().held.keys()));
     }
-    Day { exits, figure: stretch.figure(), tables: stretch.tables(), end }
+    let paths = paths.difference(&stretch.held).count() as u64;
+    Day { exits, paths, figure: stretch.figure(), tables: stretch.tables(), end }
 }
 
 /// A day that is all one stretch: its exits are the figure.
 fn quiet(exits: u64, tables: u64) -> Day {
-    Day { exits, figure: exits, tables, end: None }
+    Day { exits, paths: exits, figure: exits, tables, end: None }
 }
 
 fn loads(addresses: &[u64]) -> Vec<Call> {
@@ -902,8 +910,8 @@ fn the_pages_of_one_path_cost_one_exit_and_depth_5_none() {
     for depth in 1..=5 {
         let mut unit = sixteen_frame_guest();
         set_mark(&mut unit, 0, depth);
-        // From level 1 on the table of level 1 is not watched, and a store into it may
-        // stand in a stretch. At depth 2 the pages of 0x200000 have the same path.
+        // At no depth but 0 is the table of level 1 watched: a store into it may stand in
+        // a stretch. From depth 2 on the pages of 0x200000 have the same path.
         let calls = [loads(&[0, 0x1000]), vec![Call::store_word(0x4000, 0x7003)], loads(&[0])].concat();
         let tables = 4u64.saturating_sub(depth);
         assert_eq!(day(&mut unit, &calls), quiet((depth < 5) as u64, tables));
@@ -927,16 +935,16 @@ fn a_stores_own_fill_may_end_a_stretch() {
         let mut unit = sixteen_frame_guest();
         assert!(!unit.book().watched(11));
         let said = day(&mut unit, &[Call::store_word(address, 0x3003)]);
-        assert_eq!(said, Day { exits: 2, figure: 0, tables: 0, end: Some((0, End::WatchedFrame)) });
+        assert_eq!(said, Day { exits: 2, paths: 1, figure: 0, tables: 0, end: Some((0, End::WatchedFrame)) });
     }
     // Watched by another path, and in a word that nobody reads: an exit, and no drop.
     let mut unit = sixteen_frame_guest();
     let said = day(&mut unit, &[loads(&[0x4000, 0]), vec![Call::store_word(0x4ff8, 1)]].concat());
-    assert_eq!(said, Day { exits: 3, figure: 2, tables: 4, end: Some((2, End::WatchedFrame)) });
+    assert_eq!(said, Day { exits: 3, paths: 2, figure: 2, tables: 4, end: Some((2, End::WatchedFrame)) });
     assert_eq!(unit.book().held.len(), 2);
     // A narrow store is into its frame too.
     let said = day(&mut unit, &[Call::Store { address: 0x4fff, width: 1, value: 1 }]);
-    assert_eq!(said, Day { exits: 1, figure: 0, tables: 4, end: Some((0, End::WatchedFrame)) });
+    assert_eq!(said, Day { exits: 1, paths: 0, figure: 0, tables: 4, end: Some((0, End::WatchedFrame)) });
 }
 
 /// "paths whose shadow tables fit S with those already held"
@@ -949,7 +957,7 @@ fn the_tables_already_held_count_where_paths_must_fit() {
     // the other two, so that 256, held at the start, costs an exit again.
     assert_eq!(day(&mut unit, &loads(&[UPPER, 0x200000])), quiet(2, 4));
     let said = day(&mut unit, &loads(&[UPPER, 0, UPPER]));
-    assert_eq!(said, Day { exits: 2, figure: 0, tables: 4, end: Some((1, End::NoRoom)) });
+    assert_eq!(said, Day { exits: 2, paths: 1, figure: 0, tables: 4, end: Some((1, End::NoRoom)) });
     // From there on they fit.
     assert_eq!(day(&mut unit, &loads(&[UPPER, 0, UPPER])), quiet(0, 4));
 }
@@ -959,7 +967,7 @@ fn the_tables_of_all_paths_must_fit_together() {
     // "each 4, 1, since five tables do not fit four": three exits for two paths.
     let mut unit = sixteen_frame_guest();
     let said = day(&mut unit, &loads(&[0, 0x200000, 0]));
-    assert_eq!(said, Day { exits: 3, figure: 1, tables: 4, end: Some((1, End::NoRoom)) });
+    assert_eq!(said, Day { exits: 3, paths: 2, figure: 1, tables: 4, end: Some((1, End::NoRoom)) });
     // One more table, and they do.
     let mut unit = Unit::open(LEVELS, memory(16), 4, 5).unwrap();
     for frame in 0..7 {
@@ -1020,7 +1028,8 @@ fn any_other_call_ends_a_stretch() {
         let mut unit = sixteen_frame_guest();
         set_mark(&mut unit, UPPER, 1);
         let said = day(&mut unit, &[Call::load_word(0), call.clone()]);
-        assert_eq!(said, Day { exits: 1 + exits, figure: 1, tables: 4, end: Some((1, why)) }, "{call:?}");
+        let day = Day { exits: 1 + exits, paths: 1, figure: 1, tables: 4, end: Some((1, why)) };
+        assert_eq!(said, day, "{call:?}");
     }
 }
 
