@@ -4,15 +4,14 @@ use mathlib.Core.Path.{_≡_, refl, sym, ap, ap₂, _∙_, subst}
 use mathlib.Core.Logic.{inr}
 use Prim.Native.Nat.{ℕ, _+_, _-_, _*_, _<_, _≤_}
 use native.Mathlib.Omega.{arith}
-use mathlib.Core.Bool.{Bool, true, false, not, _&&_, _||_, cond}
+use mathlib.Core.Bool.{Bool, true, false, not, _||_, cond}
 use mathlib.Core.List.{List, [], _∷_}
 use mathlib.Core.Option.{none}
-use lib.Dec.{T, eqb, ltb}
+use lib.Dec.{T, ltb}
 use lib.ListN.{length, drop, set, length-set}
 use lib.Seq.{drop-set-add}
 use borrow.Author.Tests.{ltb-false}
 use Rattle.spec.specs.Config.{Config, guestBase}
-use Rattle.spec.specs.Prefix.{any}
 use Rattle.spec.specs.Machine.{Machine, Mapping, place, stored}
 use Rattle.spec.specs.Book.{Held, find, holding, dropWord, watched, readsFrame, readsWord}
 use Rattle.spec.specs.Count.{one}

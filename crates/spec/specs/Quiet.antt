@@ -12,7 +12,7 @@ use Rattle.spec.specs.Walk.{Result, granted, failed}
 use Rattle.spec.specs.Plain.{Place, upper}
 use Rattle.spec.specs.Book.{Mark, Held, depth, paths, watched}
 use Rattle.spec.specs.Call.{Call, root, map, unmap, setMark, clearMark, load, store, device, forecast, addressIndexes, plain}
-use Rattle.spec.specs.Count.{Counted, request}
+use Rattle.spec.specs.Count.{request}
 use Rattle.spec.specs.Refusal.{allOf, refusal}
 use Rattle.spec.specs.Run.{State, step}
 

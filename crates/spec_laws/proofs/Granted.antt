@@ -1,7 +1,7 @@
 -- What a granted walk did, level by level; and that a granted store walks as a load does.
 -- Assumes nothing.
 use mathlib.Core.Path.{_≡_, refl, sym, ap, ap₂, _∙_}
-use Prim.Native.Nat.{ℕ, pred, _+_}
+use Prim.Native.Nat.{ℕ, pred}
 use native.Mathlib.Nat.{add-zero}
 use native.Mathlib.Omega.{arith}
 use mathlib.Core.Bool.{Bool, true, false, not, _&&_, _||_}
@@ -14,7 +14,7 @@ use Rattle.spec.specs.declared.Fault.{Fault}
 use Rattle.spec.specs.declared.Fault.the-variants.{Protected, HostReadOnly}
 use Rattle.spec.specs.Config.{Config}
 use Rattle.spec.specs.Entry.{present, writable, frameOf, malformed}
-use Rattle.spec.specs.Walk.{Walk, done, fail, host, word, _>>=_, _>>_, World, Trace, Result, granted, failed, trace}
+use Rattle.spec.specs.Walk.{Walk, done, _>>=_, _>>_, World, Trace, Result, granted, failed, trace}
 use Rattle.spec.specs.Plain.{Place, must, mapped, hosted, entry, next, levels, walk}
 use Rattle.spec_laws.proofs.Bind.{andThen, onto, more, trace-bind}
 

@@ -6,9 +6,8 @@ use Prim.Native.Nat.{ℕ, _+_, _*_, _-_, _%_, _^_, _<_, _≤_}
 use native.Mathlib.Omega.{arith}
 use mathlib.Core.Bool.{Bool, true, false, not, _&&_, _||_, cond}
 use mathlib.Core.List.{List, [], _∷_}
-use mathlib.Core.Option.{Option, none, some}
+use mathlib.Core.Option.{some}
 use lib.Dec.{T, eqb, eqb→eq, eqb-refl}
-use lib.ListN.{getD, set}
 use lib.Seq.{getD-set-other}
 use lib.Arith.{digits-mod}
 use Rattle.spec.specs.declared.Fault.{Fault}

@@ -167,8 +167,7 @@ granted-price c m st a d held r h = go (leb d (c .levels)) refl
         (x .exits ≡ one (x .fills)) × (x .fills ≡ (low && not held))
     go true e =
         let f = shadow-granted c m st a d r (leb→le d (c .levels) (subst T (sym e) tt)) h in
-        let x = ap (shadowPrice c m st d is held (s .count)) (f .comes) in
-        (
+        let x = ap (shadowPrice c m st d is held (s .count)) (f .comes) in (
           ap (λ (y : Price). y .exits) x ∙ ap (λ y. one (not held) + hostExit y) (f .next) ∙ add-zero (one (not held)) ∙ sym (ap (λ (y : Price). one (y .fills)) x),
           ap (λ (y : Price). y .fills) x,
         )

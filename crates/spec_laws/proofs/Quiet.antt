@@ -1,7 +1,7 @@
 -- Document 02, 5): a quiet stretch keeps what is held and adds what it touches, and each path that it adds costs one exit.
 -- Assumes nothing.
 use mathlib.Core.Path.{_≡_, refl, sym, ap, ap₂, _∙_, subst}
-use mathlib.Core.Logic.{_⊎_, inl, inr}
+use mathlib.Core.Logic.{inl, inr}
 use Prim.Native.Nat.{ℕ, _+_, _-_, _^_, _≤_, _<_}
 use native.Mathlib.Nat.{add-zero}
 use native.Mathlib.Omega.{arith}
@@ -17,7 +17,7 @@ use Rattle.spec.specs.Prefix.{All, same, any, tablesOf, distinct}
 use Rattle.spec.specs.Walk.{Result, granted, failed}
 use Rattle.spec.specs.Plain.{Place, upper}
 use Rattle.spec.specs.Machine.{Machine, stored}
-use Rattle.spec.specs.Book.{Held, Book, depth, find, paths, holding, watched, readsWord, dropWord}
+use Rattle.spec.specs.Book.{Held, Book, depth, find, paths, holding, watched, readsWord}
 use Rattle.spec.specs.Call.{Call, root, map, unmap, setMark, clearMark, load, store, device, forecast, Outcome, addressIndexes, plain, access, machineStep}
 use Rattle.spec.specs.Count.{Counted, one, serves, request, storing, bookStep}
 use Rattle.spec.specs.Refusal.{allOf, refusal}
@@ -32,7 +32,7 @@ use Rattle.spec_laws.proofs.Runs.{fill-all, request-book}
 use Rattle.spec_laws.proofs.Added.{any-append}
 use Rattle.spec_laws.proofs.Members.{Within, SamePaths, distinct-same, tables-within, distinct-new, none-new}
 use Rattle.spec_laws.proofs.Price.{filled, serves-load, serves-store, request-priced, granted-price}
-use Rattle.spec_laws.proofs.Forecast.{load-leaves, access-paid}
+use Rattle.spec_laws.proofs.Forecast.{access-paid}
 
 -- held paths that stand for their shadow parts, on a machine whose mappings lead into the guest area
 pub record Sound (c : Config) (m : Machine) (hs : List Held) : Type 0 where
@@ -112,7 +112,6 @@ stored-sound c m t i v hs at l n s = record {
   valid = all-map (λ h. Valid c m h × T (not (readsWord t i h))) (Valid c (stored c m t i v)) hs (λ h k. store-keeps c m t i v h (s .mapped) (s .root) (at .0) l (k .0) (k .1))
       (all-both (Valid c m) (λ h. T (not (readsWord t i h))) hs (s .valid) (unwatched-unread t i hs n));
 }
-
 
 -- ---- one call
 
