@@ -12,13 +12,16 @@ use lib.Seq.{getD-set-other}
 use lib.Arith.{digits-mod}
 use Rattle.spec.specs.declared.Fault.{Fault}
 use Rattle.spec.specs.Config.{Config, guestBase, frameBits}
+use Rattle.spec.specs.Entry.{pageOf}
 use Rattle.spec.specs.Walk.{World, Trace, Result, granted, trace}
 use Rattle.spec.specs.Plain.{Place, walk}
 use Rattle.spec.specs.Machine.{Machine, Mapping, world, place, stored, remapped, lookup, with, without}
 use Rattle.spec.specs.Book.{Held, readsWord, readsFrame, dropWord, watched, usesMapping}
+use Rattle.spec.specs.Call.{addressIndexes, plain}
 use Rattle.spec.specs.Count.{heldBy}
 use Rattle.spec.specs.Prefix.{All, any}
 use Rattle.spec_laws.proofs.Lists.{all-map, all-any, all-both, keep-all, none-passes, is-true, both, not-both, not-eqb}
+use Rattle.spec_laws.proofs.Indexes.{indexes-all}
 use Rattle.spec_laws.proofs.Local.{Seen, seen, local-seen, SameMapping, SameWord}
 use Rattle.spec_laws.proofs.Granted.{walk-same}
 use Rattle.spec_laws.proofs.Asks.{Asked, asks-trace, AnswerIn, FaultFits, walk-asks}
@@ -51,6 +54,11 @@ unfolding world
 shadow-asked c m st p mi b s =
     asks-trace (AnswerIn (InArea c)) (λ g. g < 2 ^ frameBits c) (λ t i. InArea c t × (i < 512)) (FaultFits c) (world c m) (walk c st (m .root) p) (λ r. InArea c (r .0)) mi
     (walk-asks c (InArea c) st (m .root) p b s)
+
+-- and a granted walk comes to a page there
+pub plain-in : (c : Config) (m : Machine) (st : Bool) (a : ℕ) (r : Place) → MappedIn c m → m .root < 2 ^ frameBits c → (plain c m st a) .result ≡ granted r → InArea c (r .0)
+unfolding plain
+plain-in c m st a r mi b h = shadow-asked c m st (addressIndexes c a) mi b (indexes-all (c .levels) (pageOf a)) .grants r h
 
 -- ---- a store
 

@@ -6,13 +6,13 @@ use mathlib.Core.Logic.{inl, inr}
 use Prim.Native.Nat.{ℕ, _+_, _≤_}
 use native.Mathlib.Nat.{le-antisymm}
 use native.Mathlib.Omega.{arith}
-use mathlib.Core.Bool.{Bool, true, false, not, _&&_, _||_, cond, and-false, or-false, or-true}
+use mathlib.Core.Bool.{Bool, true, false, not, _&&_, _||_, cond, or-false, or-true}
 use mathlib.Core.List.{List, [], _∷_, _++_}
 use lib.Dec.{T}
 use Rattle.spec.specs.Prefix.{any, keep, same, propers, allPropers, distinct, tablesOf}
 use Rattle.spec.specs.Quiet.{newPaths}
 use Rattle.spec_laws.proofs.Lists.{same-is, or-cases, or-right, is-true}
-use Rattle.spec_laws.proofs.Distinct.{In, pigeon, dedup, dedup-long, dedup-in, dedup-once, in-head, in-left, in-right, in-split}
+use Rattle.spec_laws.proofs.Distinct.{In, kept-any, pigeon, dedup, dedup-long, dedup-in, dedup-once, in-head, in-left, in-right, in-split}
 use Rattle.spec_laws.proofs.Added.{any-append}
 
 -- every path of ps is one of qs; and both have the same
@@ -37,40 +37,31 @@ distinct-within ps qs h =
 pub distinct-same : (ps qs : List (List ℕ)) → SamePaths ps qs → distinct ps ≡ distinct qs
 distinct-same ps qs e = le-antisymm (distinct-within ps qs (same-within ps qs e)) (distinct-within qs ps (same-within qs ps (λ p. sym (e p))))
 
--- a prefix is one of a path's
-propers-in : (p q : List ℕ) (ps : List (List ℕ)) → In p ps → In q (propers p) → In q (allPropers ps)
-propers-in p q [] h k = absurd h
-propers-in p q (x ∷ ps) h k = elim (or-cases (same p x) (any (same p) ps) h) [
-  | inl a ↦ in-left q (propers x) (allPropers ps) (subst (λ y. In q (propers y)) (same-is p x a) k)
-  | inr a ↦ in-right q (propers x) (allPropers ps) (propers-in p q ps a k)
+-- a prefix of the list is one of some path's
+pub record Of (q : List ℕ) (ps : List (List ℕ)) : Type 0 where
+  pub path : List ℕ
+  pub listed : In path ps
+  pub proper : In q (propers path)
+
+pub all-propers : (q : List ℕ) (ps : List (List ℕ)) → In q (allPropers ps) → Of q ps
+all-propers q [] h = absurd h
+all-propers q (x ∷ ps) h = elim (in-split q (propers x) (allPropers ps) h) [
+  | inl a ↦ record { path = x; listed = in-head x x ps refl; proper = a }
+  | inr a ↦ (let t = all-propers q ps a in record { path = t .path; listed = or-right (same (t .path) x) _ (t .listed); proper = t .proper })
 ]
 
-propers-of : (q : List ℕ) (ps : List (List ℕ)) → In q (allPropers ps) → (p : List ℕ) × In p ps × In q (propers p)
-propers-of q [] h = absurd h
-propers-of q (x ∷ ps) h = elim (in-split q (propers x) (allPropers ps) h) [
-  | inl a ↦ (x, in-head x x ps refl, a)
-  | inr a ↦ let r = propers-of q ps a in (r .0, or-right (same (r .0) x) _ (r .1), r .2)
+pub propers-all : (q p : List ℕ) (ps : List (List ℕ)) → In p ps → In q (propers p) → In q (allPropers ps)
+propers-all q p [] h k = h
+propers-all q p (x ∷ ps) h k = elim (or-cases (same p x) (any (same p) ps) h) [
+  | inl a ↦ in-left q (propers x) (allPropers ps) (subst (λ y. In q (propers y)) (same-is p x a) k)
+  | inr a ↦ in-right q (propers x) (allPropers ps) (propers-all q p ps a k)
 ]
 
 pub tables-within : (ps qs : List (List ℕ)) → Within ps qs → tablesOf ps ≤ tablesOf qs
 tables-within ps qs h =
-    distinct-within (allPropers ps) (allPropers qs) (λ q k. let r = propers-of q ps k in propers-in (r .0) q qs (h (r .0) (r .1)) (r .2))
+    distinct-within (allPropers ps) (allPropers qs) (λ q k. let t = all-propers q ps k in propers-all q (t .path) qs (h (t .path) (t .listed)) (t .proper))
 
 -- ---- members that a list adds to another
-
-kept-any : (f : List ℕ → Bool) (p : List ℕ) (ps : List (List ℕ)) → any (same p) (keep f ps) ≡ (f p && any (same p) ps)
-kept-any f p [] = sym (and-false (f p))
-kept-any f p (x ∷ ps) = go (same p x) refl (f x) refl (kept-any f p ps)
-  where
-    alike : (d : Bool) → same p x ≡ true → f x ≡ d → f p ≡ d
-    alike d e g = ap f (same-is p x (subst T (sym e) tt)) ∙ g
-
-    go : (b : Bool) → same p x ≡ b → (d : Bool) → f x ≡ d → any (same p) (keep f ps) ≡ (f p && any (same p) ps)
-        → any (same p) (cond d (x ∷ keep f ps) (keep f ps)) ≡ (f p && (b || any (same p) ps))
-    go true e true g ih = ap (λ b. b || any (same p) (keep f ps)) e ∙ sym (ap (λ b. b && true) (alike true e g))
-    go true e false g ih = ih ∙ ap (λ b. b && any (same p) ps) (alike false e g) ∙ sym (ap (λ b. b && true) (alike false e g))
-    go false e true g ih = ap (λ b. b || any (same p) (keep f ps)) e ∙ ih
-    go false e false g ih = ih
 
 -- the different ones of both are those of the second, and the new ones of the first
 pub distinct-new : (ps hs : List (List ℕ)) → distinct (ps ++ hs) ≡ newPaths hs ps + distinct hs

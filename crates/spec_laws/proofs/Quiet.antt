@@ -27,7 +27,7 @@ use Rattle.spec.specs.Quiet.{Role, roleOf, roleBy, met, isGranted, grantedAt, o
 use Rattle.spec_laws.proofs.Lists.{all-take, all-map, all-both, and-left, and-right, is-true, is-false, not-both, same-is, or-cases, or-left, or-right}
 use Rattle.spec_laws.proofs.Indexes.{indexes-all}
 use Rattle.spec_laws.proofs.Distinct.{in-right}
-use Rattle.spec_laws.proofs.Keeps.{Valid, InArea, MappedIn, shadow-asked, store-keeps, unwatched-unread, drop-unwatched, fill-valid}
+use Rattle.spec_laws.proofs.Keeps.{Valid, InArea, MappedIn, plain-in, store-keeps, unwatched-unread, drop-unwatched, fill-valid}
 use Rattle.spec_laws.proofs.Runs.{fill-all, request-book}
 use Rattle.spec_laws.proofs.Added.{any-append}
 use Rattle.spec_laws.proofs.Members.{Within, SamePaths, distinct-same, tables-within, distinct-new, none-new}
@@ -120,10 +120,6 @@ record Stepped (s : State) (t : Option (List ℕ)) (o : Line × State) : Type 0 
   config : o .1 .config ≡ s .config
   costs : Costs (s .config) (paths (s .book .held)) t (exitsPaid (o .0)) (paths (o .1 .book .held))
   sound : SoundAt (o .1)
-
-plain-in : (c : Config) (m : Machine) (st : Bool) (a : ℕ) (r : Place) → MappedIn c m → m .root < 2 ^ frameBits c → (plain c m st a) .result ≡ granted r → InArea c (r .0)
-unfolding plain
-plain-in c m st a r mi b h = (shadow-asked c m st (addressIndexes c a) mi b (indexes-all (c .levels) (pageOf a))) .grants r h
 
 -- what a granted load or store (v: its value) does, r being where it comes to, if its step on the book is k
 abbrev does : State → ℕ → ℕ → Option ℕ → Place → Counted → Line × State
