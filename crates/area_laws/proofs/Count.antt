@@ -18,7 +18,8 @@ use Rattle.pool.specs.declared.Way.the-variants.{Not}
 use Rattle.pool.specs.Pool.{end}
 use Rattle.area.specs.Tree.{insertOf}
 use Rattle.spec_laws.proofs.Lists.{same-is, or-cases, or-left, or-right, and-left, and-right, both, is-true}
-use Rattle.spec_laws.proofs.Distinct.{In, Once, distinct-is, in-head, in-left, in-right, in-split}
+use Rattle.spec_laws.proofs.Members.{Of, all-propers, propers-all}
+use Rattle.spec_laws.proofs.Distinct.{In, Once, distinct-is, in-head}
 use Rattle.area_laws.specs.Run.{wordsRead}
 use Rattle.area_laws.proofs.Change.{eq?, upd, upd-on, upd-at, upd-other, no-empty, is-some}
 use Rattle.area_laws.proofs.Paths.{onto, onto-long, turn-turn, turn-empty, turn-none, Pre, Ext, ext-empty, ext-pre, pre-ext, pre-long, Guests}
@@ -81,25 +82,6 @@ pub ext-propers : (y is : List ℕ) → Ext y (onto [] is) → In (onto [] y) (p
 ext-propers y is h = elim (ext-pre y [] is h) [
   | inl a ↦ absurd a
   | inr a ↦ (let t = pre-propers y is [] a in subst (λ z. In z (propers is)) (sym (ap (onto []) (t .whole) ∙ turn-turn (t .turned))) (t .inside))
-]
-
-record Of (q : List ℕ) (xs : List (List ℕ)) : Type 0 where
-  pub path : List ℕ
-  pub listed : In path xs
-  pub proper : In q (propers path)
-
-all-propers : (q : List ℕ) (xs : List (List ℕ)) → In q (allPropers xs) → Of q xs
-all-propers q [] h = absurd h
-all-propers q (x ∷ xs) h = elim (in-split q (propers x) (allPropers xs) h) [
-  | inl a ↦ record { path = x; listed = in-head x x xs refl; proper = a }
-  | inr a ↦ (let t = all-propers q xs a in record { path = t .path; listed = or-right (same (t .path) x) _ (t .listed); proper = t .proper })
-]
-
-propers-all : (q w : List ℕ) (xs : List (List ℕ)) → In w xs → In q (propers w) → In q (allPropers xs)
-propers-all q w [] h k = h
-propers-all q w (x ∷ xs) h k = elim (or-cases (same w x) (any (same w) xs) h) [
-  | inl a ↦ in-left q (propers x) (allPropers xs) (subst (λ z. In q (propers z)) (same-is w x a) k)
-  | inr a ↦ in-right q (propers x) (allPropers xs) (propers-all q w xs a k)
 ]
 
 -- ---- a list of prefixes turned round

@@ -18,6 +18,7 @@ use Rattle.pool.specs.declared.Pool.{Pool}
 use Rattle.pool.specs.declared.Way.the-variants.{To, Not}
 use Rattle.pool.specs.Header.{entryAtOf, guestOf, levelOf, parentOf, slotOf, insideOf}
 use Rattle.pool.specs.Pool.{link, followOf}
+use Rattle.pool.proofs.Laws.{slot-small}
 use Rattle.spec_laws.proofs.Distinct.{In, Once}
 use Rattle.area_laws.proofs.Change.{not-some, is-some}
 use Rattle.area_laws.proofs.Paths.{Ext}
@@ -138,10 +139,6 @@ abbrev pub Exact : Bool → (List ℕ → Option ℕ) → (List ℕ → ℕ) →
 Exact stays ts lv = (y : List ℕ) → IsSome (ts y) → Leaf lv y ⊎ ((y ≡ []) × T stays)
 
 -- ---- what follows
-slot-small : (m : List ℕ) (f : ℕ) → slotOf m f < 512
-unfolding slotOf
-slot-small m f = omega arith
-
 module _ {a : Area} {p : Pool} {ts : List ℕ → Option ℕ} {lv guest : List ℕ → ℕ} {fl : List ℕ} {ps : List (List ℕ)} {m : List ℕ}
     (g : Tables a p ts lv guest fl ps m) where
   -- the table above one that stands

@@ -159,8 +159,8 @@ module _ (s : State) (r : Record) (m : List ℕ) (inv : Inv s r m) where
         let t : plainOf c ht m hold (rootOf r) false a ≡ translation hold (hostExit (p .result)) (plainWalked (p .result) (p .count)) =
         ap (λ x. translation hold (exitBy x) x) q ∙ ap (λ x. translation hold x (plainWalked (p .result) (p .count))) (exit-is (p .result) (p .count)) in
         let u = trace w (walk c false (mach .root) (upper c deep is)) in
-        let x : price c mach a deep (any (same (upper c deep is)) (paths (b .held))) ≡ plainPrice p =
-        ap (λ y. cond y (shadowPrice c mach deep is (any (same (upper c deep is)) (paths (b .held))) (u .count) (u .result)) (plainPrice p)) (lt-leb deep (c .levels) high) in
+        let x : price c mach false a deep (any (same (upper c deep is)) (paths (b .held))) ≡ plainPrice p =
+        ap (λ y. cond y (shadowPrice c mach false deep is (any (same (upper c deep is)) (paths (b .held))) (u .count) (u .result)) (plainPrice p)) (lt-leb deep (c .levels) high) in
         advances (upper c deep is) (plainPrice p) (subst (λ y. Priced c b (upper c deep is) y k) x (load-priced c mach b a deep)) (o .paths) ks _
         (ap (λ y. cond y (yields (paid (o .sum) (o .paths) (plainOf c ht m hold (rootOf r) false a)) ks) (foundBy c ht m hold (rootOf r) ks o a deep (keptOf c m hold (o .paths .kept) a deep))) (lt-ltb (c .levels) deep high)
         ∙ ap (λ y. yields (paid (o .sum) (o .paths) y) ks) t ∙ ap (λ y. yields y ks) (paid-is (o .sum) (o .paths) hold (hostExit (p .result)) (p .count) (p .result)))
@@ -175,13 +175,13 @@ module _ (s : State) (r : Record) (m : List ℕ) (inv : Inv s r m) where
       key-is = key-path c deep a low seven ∙ path-is
 
       -- the price, by the walk of the shadow part
-      priced : (h : Bool) (x : Result Fault Place) → any (same path) (paths (b .held)) ≡ h → part .result ≡ x → Priced c b path (shadowPrice c mach deep is h (part .count) x) k
+      priced : (h : Bool) (x : Result Fault Place) → any (same path) (paths (b .held)) ≡ h → part .result ≡ x → Priced c b path (shadowPrice c mach false deep is h (part .count) x) k
       unfolding price
       priced h x e q =
           subst (λ y. Priced c b path y k)
-          (ap (λ t. cond t (shadowPrice c mach deep is (any (same path) (paths (b .held))) (part .count) (part .result)) (plainPrice (plain c mach false a))) (le-leb deep (c .levels) low)
-          ∙ ap₂ (λ t y. shadowPrice c mach deep is t (part .count) y) e q)
-          (subst (λ u. Priced c b u (cond (leb deep (c .levels)) (shadowPrice c mach deep is (any (same u) (paths (b .held))) ((trace w (walk c false (mach .root) u)) .count) ((trace w (walk c false (mach .root) u)) .result)) (plainPrice (plain c mach false a))) k)
+          (ap (λ t. cond t (shadowPrice c mach false deep is (any (same path) (paths (b .held))) (part .count) (part .result)) (plainPrice (plain c mach false a))) (le-leb deep (c .levels) low)
+          ∙ ap₂ (λ t y. shadowPrice c mach false deep is t (part .count) y) e q)
+          (subst (λ u. Priced c b u (cond (leb deep (c .levels)) (shadowPrice c mach false deep is (any (same u) (paths (b .held))) ((trace w (walk c false (mach .root) u)) .count) ((trace w (walk c false (mach .root) u)) .result)) (plainPrice (plain c mach false a))) k)
           path-is (load-priced c mach b a deep))
 
       -- ---- held before the list, and kept
@@ -197,7 +197,7 @@ module _ (s : State) (r : Record) (m : List ℕ) (inv : Inv s r m) where
           ∙ ap (λ y. any (same path) (map (keyPath (c .levels)) (newest ks (o .paths .count))) || any (same path) (cond y ps [])) q
           ∙ ap (λ y. any (same path) (map (keyPath (c .levels)) (newest ks (o .paths .count))) || y) (found-held path (s .book .held) (some h) e)
           ∙ or-true (any (same path) (map (keyPath (c .levels)) (newest ks (o .paths .count)))) in
-          advances path (shadowPrice c mach deep is true (part .count) (granted (t, h .right))) (priced true (granted (t, h .right)) x (g .0)) (o .paths) ks _
+          advances path (shadowPrice c mach false deep is true (part .count) (granted (t, h .right))) (priced true (granted (t, h .right)) x (g .0)) (o .paths) ks _
           (ap (λ y. foundBy c ht m hold (rootOf r) ks o a deep (cond y (foundOf c m hold a deep) (host.Absent 0))) q
           ∙ ap (foundBy c ht m hold (rootOf r) ks o a deep) (found.found-some s r m inv a low h e)
           ∙ ap (λ y. yields (paid (o .sum) (o .paths) y) ks) (translates.served-is s r m inv false a m (found.memory-stands s r m inv) t (h .right) hold 0 low (g .1) (g .0))
@@ -293,7 +293,7 @@ module _ (s : State) (r : Record) (m : List ℕ) (inv : Inv s r m) where
 
             go : (x : Result Fault Place) → part .result ≡ x → Advances o k (missedBy c ht m hold ks o known n a deep (walkedOf c ht m 0 (walk c false (rootOf r) path)))
             go (failed x) e =
-                advances path (shadowPrice c mach deep is known (part .count) (failed x)) (priced known (failed x) known-is e) (o .paths) ks _
+                advances path (shadowPrice c mach false deep is known (part .count) (failed x)) (priced known (failed x) known-is e) (o .paths) ks _
                 (ap (missedBy c ht m hold ks o known n a deep) (came ∙ ap (λ y. plainWalked y (part .count)) e)) kept (omega arith)
             go (granted p) e =
                 let t = p .0 in
@@ -302,7 +302,7 @@ module _ (s : State) (r : Record) (m : List ℕ) (inv : Inv s r m) where
                 let f = heldAfter c ks (o .paths) known n a deep in
                 let z = translates.new-here s r m inv false a t right e in
                 let g = after-keeps known refl in
-                advances path (shadowPrice c mach deep is known (part .count) (granted p)) (priced known (granted p) known-is e) (f .result) (f .memory) _
+                advances path (shadowPrice c mach false deep is known (part .count) (granted p)) (priced known (granted p) known-is e) (f .result) (f .memory) _
                 (ap (missedBy c ht m hold ks o known n a deep) (came ∙ ap (λ y. plainWalked y (part .count)) e)
                 ∙ ap (λ y. yields (paid (o .sum) (f .result) y) (f .memory)) (translates.served-is s r m inv false a m (found.memory-stands s r m inv) t right hold (one (not known)) low (z .1) e)
                 ∙ ap (λ y. yields y (f .memory)) (paid-is (o .sum) (f .result) hold (one (not known) + hostExit (d .result)) ((c .levels - deep) + d .count) ((plain c mach false a) .result)))

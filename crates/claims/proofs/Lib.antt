@@ -19,3 +19,4 @@ pub mod Lookups
 pub mod Bytes
 pub mod Numbers
 pub mod Serving
+pub mod Quiet

@@ -197,11 +197,6 @@ find-keep f (h ∷ hs) a = go (f h) refl (same [] (h .path)) refl (find-keep f h
     go false p true q ih = let e : true ≡ false = sym (a .0 (same-empty h q)) ∙ p in let z : _≡_ {A = ℕ} 0 1 = cc in absurd (omega arith)
     go false p false q ih = ih
 
--- a drop of none
-pub keep-all : {A : Type 0} (f : A → Bool) (xs : List A) → All (λ x. f x ≡ true) xs → keep f xs ≡ xs
-keep-all f [] a = refl
-keep-all f (x ∷ xs) a = rw (a .0) (ap (λ l. x ∷ l) (keep-all f xs (a .1)))
-
 -- what is found has what every one has
 pub find-all : (P : Held → Type 0) (p : List ℕ) (hs : List Held) (x : Held) → All P hs → find p hs ≡ some x → P x
 find-all P p [] x a e = let z : _≡_ {A = ℕ} 0 1 = cc in absurd (omega arith)

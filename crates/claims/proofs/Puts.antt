@@ -4,15 +4,14 @@ use mathlib.Core.Path.{_≡_, refl, sym, ap, ap₂, _∙_, subst}
 use mathlib.Core.Logic.{inr}
 use Prim.Native.Nat.{ℕ, _+_, _-_, _*_, _<_, _≤_}
 use native.Mathlib.Omega.{arith}
-use mathlib.Core.Bool.{Bool, true, false, not, _&&_, _||_, cond}
+use mathlib.Core.Bool.{Bool, true, false, not, _||_, cond}
 use mathlib.Core.List.{List, [], _∷_}
 use mathlib.Core.Option.{none}
-use lib.Dec.{T, eqb, ltb}
+use lib.Dec.{T, ltb}
 use lib.ListN.{length, drop, set, length-set}
 use lib.Seq.{drop-set-add}
 use borrow.Author.Tests.{ltb-false}
 use Rattle.spec.specs.Config.{Config, guestBase}
-use Rattle.spec.specs.Prefix.{any}
 use Rattle.spec.specs.Machine.{Machine, Mapping, place, stored}
 use Rattle.spec.specs.Book.{Held, find, holding, dropWord, watched, readsFrame, readsWord}
 use Rattle.spec.specs.Count.{one}
@@ -20,7 +19,7 @@ use Rattle.spec.specs.Run.{State}
 use Rattle.spec.specs.Prefix.{All}
 use Rattle.spec_laws.proofs.Lists.{all-map, all-keep}
 use Rattle.spec_laws.proofs.Trail.{readsFrom}
-use Rattle.spec_laws.proofs.Keeps.{Valid}
+use Rattle.spec_laws.proofs.Keeps.{Valid, drop-unwatched}
 use Rattle.spec_laws.proofs.Runs.{kept-fits}
 use Rattle.words.specs.Words.{setIn}
 use Rattle.pool.specs.declared.Pool.{Pool}
@@ -70,37 +69,6 @@ area-store c m t i v b =
     ap (λ k. drop (512 * guestBase c) (set m k v)) e ∙ drop-set-add (512 * guestBase c) m (place c t i) v
 
 -- ---- lists
-
--- a frame that no path reads in is not watched, and no word of it is read
-any-none : {A : Type 0} (f g : A → Bool) (xs : List A) → ((x : A) → T (g x) → T (f x)) → any f xs ≡ false → any g xs ≡ false
-any-none f g [] h e = refl
-any-none f g (x ∷ xs) h e = go (f x) (g x) (h x) e (any-none f g xs h)
-  where
-    go : (a b : Bool) → (T b → T a) → (a || any f xs) ≡ false → (any f xs ≡ false → any g xs ≡ false) → (b || any g xs) ≡ false
-    go a true k q ih = differ a (k tt) q
-      where
-        differ : (a : Bool) → T a → (a || any f xs) ≡ false → true ≡ false
-        differ true x q = q
-        differ false x q = absurd x
-    go true false k q ih = let z : _≡_ {A = ℕ} 0 1 = cc in absurd (omega arith)
-    go false false k q ih = ih q
-
-word-frame : (t i : ℕ) (h : Held) → readsFrame t h ≡ false → readsWord t i h ≡ false
-word-frame t i h e = any-none (λ r. eqb t (r .0)) (λ r. eqb t (r .0) && eqb i (r .1)) (h .reads) (λ r k. left (eqb t (r .0)) (eqb i (r .1)) k) e
-  where
-    left : (a b : Bool) → T (a && b) → T a
-    left true b k = tt
-    left false b k = k
-
--- nothing is dropped from a frame that is not watched
-pub drop-unwatched : (t i : ℕ) (hs : List Held) → watched t hs ≡ false → dropWord t i hs ≡ hs
-drop-unwatched t i [] e = refl
-drop-unwatched t i (h ∷ hs) e = go (readsFrame t h) refl e (drop-unwatched t i hs)
-  where
-    go : (b : Bool) → readsFrame t h ≡ b → (b || watched t hs) ≡ false → (watched t hs ≡ false → dropWord t i hs ≡ hs)
-        → cond (not (readsWord t i h)) (h ∷ dropWord t i hs) (dropWord t i hs) ≡ h ∷ hs
-    go true q k ih = let z : _≡_ {A = ℕ} 0 1 = cc in absurd (omega arith)
-    go false q k ih = rw (word-frame t i h q) (ap (λ l. h ∷ l) (ih k))
 
 -- the path of no index reads nothing
 watched-longer : (t : ℕ) (hs : List Held) → All (λ (h : Held). h .path ≡ [] → readsFrame t h ≡ false) hs → watched t (longer hs) ≡ watched t hs
@@ -206,5 +174,5 @@ module _ (s : State) (r : Record) (m : List ℕ) (inv : Inv s r m) (t i v : ℕ)
         memory = setIn m t i v;
         done = ap (λ b. cond b (putBy (r .pools .shadow) t i v (scanOf c (Word (page t) i) (r .pools .shadow) m)) (put.stored (r .pools .shadow) 0 true (setIn m t i v))) (watched-same ∙ e)
             ∙ ap (λ b. put.stored (r .pools .shadow) (one b) true (setIn m t i v)) (sym e);
-        next = stored-next (r .pools .shadow) m (beside-refl (shadowArea c) m) (subst tables (ap longer (sym (drop-unwatched t i (s .book .held) e))) (inv .shadow));
+        next = stored-next (r .pools .shadow) m (beside-refl (shadowArea c) m) (subst tables (ap longer (sym (drop-unwatched t i (s .book .held) (subst (λ b. T (not b)) (sym e) tt)))) (inv .shadow));
       }

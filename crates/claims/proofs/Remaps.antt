@@ -25,7 +25,7 @@ use Rattle.spec.specs.Count.{bookStep}
 use Rattle.spec.specs.Refusal.{firstFailed, frameFits, inGuestArea, tests, refusal}
 use Rattle.spec.specs.Run.{State}
 use Rattle.spec.specs.Prefix.{All}
-use Rattle.spec_laws.proofs.Lists.{all-map, all-keep, is-true}
+use Rattle.spec_laws.proofs.Lists.{all-map, all-keep, keep-all, is-true}
 use Rattle.spec_laws.proofs.Granted.{through, then-trace, hosted-granted, level-granted}
 use Rattle.spec_laws.proofs.Trail.{readsFrom, usesFrom}
 use Rattle.spec_laws.proofs.Local.{Seen, seen}
@@ -60,7 +60,7 @@ use Rattle.drops_laws.proofs.Valid.{framesAt, entryOf, valid-entries, Stays, st
 use Rattle.calls.specs.Calls.{hostTop, headHeld, headHost, nothing, ended, refused, withHeld, withHost, droppedBy, unmappedOf, mappedBy, rootCall, mapCall, unmapCall}
 use Rattle.claims.proofs.Invariant.{longer, topBy, Inv, Follows, stands}
 use Rattle.drops.specs.declared.Left.{Left}
-use Rattle.claims.proofs.Moves.{Moved, dropped-left, after, follows-no, follows-ok, after-fits, first-positive, invariant, inv-fits, inv-stands, inv-root, inv-shadow, inv-top, fits-held, fits-host, maps-beside, shadow-drop, host-drop, shadow-none, shadow-on, top-on, keep-all, longer-keep, all-longer, find-keep}
+use Rattle.claims.proofs.Moves.{Moved, dropped-left, after, follows-no, follows-ok, after-fits, first-positive, invariant, inv-fits, inv-stands, inv-root, inv-shadow, inv-top, fits-held, fits-host, maps-beside, shadow-drop, host-drop, shadow-none, shadow-on, top-on, longer-keep, all-longer, find-keep}
 use Rattle.words.specs.After.{After}
 use Rattle.calls.specs.declared.Reply.{Reply}
 use Rattle.host.specs.declared.Change.{Change}

@@ -26,7 +26,7 @@ use Rattle.spec.specs.Bytes.{widthFits, aligned, bytesAt, withBytes}
 use Rattle.spec.specs.Refusal.{firstFailed, deviceFits, tests, refusal}
 use Rattle.spec.specs.Run.{State, lineOf, answered, step}
 use Rattle.spec_laws.proofs.Lists.{and-left}
-use Rattle.spec_laws.proofs.Keeps.{shadow-asked}
+use Rattle.spec_laws.proofs.Keeps.{plain-in}
 use Rattle.spec_laws.proofs.Asks.{asks-trace, AnswerIn, FaultFits, Guest, asks-bind, hosted-asks}
 use Rattle.words.specs.Words as words
 use Rattle.entry.proofs.Entries.{word-fits}
@@ -42,7 +42,6 @@ use Rattle.request.specs.Access.{loadBy, loadOf, writtenBy, storeBy, storeOf, d
 use Rattle.calls.specs.Calls.{hostTop, heldOf, headHeld, ended, refused, judged, admitted, placed, withHeld, servedBy, addressOk, translatedOf, loadCall, storeCall, deviceCall}
 use Rattle.claims.proofs.Invariant.{Inv, Follows, stands, at}
 use Rattle.claims.proofs.Paths.{exit-is}
-use Rattle.spec_laws.proofs.Indexes.{indexes-all}
 use Rattle.claims.proofs.Found as found
 use Rattle.claims.proofs.Moves.{at-inv}
 use Rattle.claims.proofs.Translates.{Translates, translates}
@@ -93,9 +92,7 @@ module _ (s : State) (r : Record) (m : List ℕ) (inv : Inv s r m) where
 
   -- the page of a granted walk is in the guest area
   pub page-in : (st : Bool) (a : ℕ) (p : Place) → (plain c mach st a) .result ≡ granted p → InGuestArea c (p .0)
-  unfolding plain
-  page-in st a p e =
-      shadow-asked c mach st (addressIndexes c a) (found.memory-stands s r m inv .inside) (found.root-small s r m inv) (indexes-all (c .levels) (pageOf a)) .grants p e
+  page-in st a p e = plain-in c mach st a p (found.memory-stands s r m inv .inside) (found.root-small s r m inv) e
 
   -- what memory a translation leaves stands for the machine still
   after-stands : (st : Bool) (a : ℕ) (k : Counted) (o : After Translated) (t : Translates s r m st a k o) → Stands c mach ht (t .memory)

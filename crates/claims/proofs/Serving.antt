@@ -21,7 +21,7 @@ use Rattle.claims.proofs.Forecasts.{used-is}
 use Rattle.claims.proofs.Demands.{follows, at-self, runs-follow, after-run}
 
 -- what the lines pay does not rest on the states beside them
-lines-paid : (f : Line → ℕ) (os : List (Line × State)) → allPaid f (machineRun os) ≡ allPaid f os
+pub lines-paid : (f : Line → ℕ) (os : List (Line × State)) → allPaid f (machineRun os) ≡ allPaid f os
 lines-paid f [] = refl
 lines-paid f (o ∷ os) = ap (λ n. f (o .0) + n) (lines-paid f os)
 

@@ -30,12 +30,10 @@ use Rattle.spec_laws.proofs.Parts.{shadow-fault, direct-result}
 use Rattle.spec_laws.proofs.Indexes.{indexes-length, indexes-all}
 use Rattle.spec_laws.proofs.Depth.{PathFits, no-proper-prefix}
 use Rattle.spec_laws.proofs.Keeps.{Valid, again, fill-valid}
-use Rattle.spec_laws.proofs.Runs.{BookFits, fill-keeps}
+use Rattle.spec_laws.proofs.Runs.{BookFits, fill-all, fill-keeps}
 use Rattle.area_laws.proofs.Paths.{onto}
 use Rattle.area_laws.proofs.Whole.{Holds, Next}
-use Rattle.layout.specs.declared.HostWalk.the-variants as host
 use Rattle.layout.proofs.Laws.{InGuestArea}
-use Rattle.walk.specs.declared.Walked.the-variants as walked
 use Rattle.walk.specs.Memory.{walkedOf}
 use Rattle.walk.proofs.Stands.{Stands, stands-trace, plainWalked, root-walked, table-walked}
 use Rattle.marks.proofs.Book.{depth-book}
@@ -292,13 +290,6 @@ module _ (s : State) (r : Record) (m : List ℕ) (inv : Inv s r m) (st : Bool) (
   fill-book : (right : Bool) → deep ≤ c .levels → BookFits c (holding (s .book) (fill c (new right) (s .book .held)))
   fill-book right low = fill-keeps c (s .book) (new right) (found.path-depth s r m inv a low) (inv .book)
 
-  fill-all : (P : Held → Type 0) (right : Bool) → P (new right) → All P (s .book .held) → All P (fill c (new right) (s .book .held))
-  fill-all P right p q = go (leb (shadowTables (new right ∷ s .book .held)) (c .shadows))
-    where
-      go : (b : Bool) → All P (cond b (new right ∷ s .book .held) (new right ∷ []))
-      go true = (p, q)
-      go false = (p, tt)
-
   -- ---- the book's price of a fill
   filled-count : (t : ℕ) (right : Bool) → deep ≤ c .levels → serves st deep (find path (s .book .held)) ≡ false → part .result ≡ granted (t, right)
       → let d = trace w (directPart c st deep (t, right) (addressIndexes c a)) in
@@ -340,7 +331,7 @@ module _ (s : State) (r : Record) (m : List ℕ) (inv : Inv s r m) (st : Bool) (
     longer-fill : fill c (new right) (longer (s .book .held)) ≡ longer (fill c (new right) (s .book .held))
     longer-fill =
         ap (fill c (new right)) (all-longer-is (s .book .held) others-long)
-        ∙ sym (all-longer-is (fill c (new right) (s .book .held)) (fill-all (λ (h : Held). 0 < length (h .path)) right long others-long))
+        ∙ sym (all-longer-is (fill c (new right) (s .book .held)) (fill-all (λ (h : Held). 0 < length (h .path)) c (new right) (s .book .held) long others-long))
 
     -- the walk over memory arrives too, and hands out the guest tables on the way
     over-memory : (trace (memoryWorld c ht m) (walk c st (r .guest .root .0) path)) .result ≡ granted (t, right)
@@ -373,12 +364,12 @@ module _ (s : State) (r : Record) (m : List ℕ) (inv : Inv s r m) (st : Bool) (
     filled-next = invariant (after right) (withHeld r (record { pool = placed .pool; frame = r .guest .held })) (placed .memory)
         (subst (Fits (withHeld r (record { pool = placed .pool; frame = r .guest .held }))) (sym (placed .beside .len)) (fits-held (found.rules s r m inv) (record { pool = placed .pool; frame = r .guest .held }) (holds-pool (placed .holds)) (found.rules s r m inv .held)))
         (inv .sorted) (inv .root) (maps-beside c (placed .beside) (inv .maps)) (shadow-drop c (placed .beside) ∙ inv .area)
-        (fill-book right (omega arith)) (fill-all (Valid c mach) right (new-valid t right e) (inv .valid)) (inv .marks)
+        (fill-book right (omega arith)) (fill-all (Valid c mach) c (new right) (s .book .held) (new-valid t right e) (inv .valid)) (inv .marks)
         (shadow-on (fill c (new right) (s .book .held)) mach mach ht ht m (placed .memory) (found.memory-stands s r m inv) memory-stands (found.root-small s r m inv) (found.root-small s r m inv) (found.few s r m inv)
-        (all-map (Valid c mach) (Stays c mach mach) (fill c (new right) (s .book .held)) (stays-same c mach) (fill-all (Valid c mach) right (new-valid t right e) (inv .valid)))
+        (all-map (Valid c mach) (Stays c mach mach) (fill c (new right) (s .book .held)) (stays-same c mach) (fill-all (Valid c mach) c (new right) (s .book .held) (new-valid t right e) (inv .valid)))
         (subst (λ x. Holds (shadowArea c) false (placed .pool) (placed .memory) (leafAt (entryOf c (framesAt c ht m x)) (longer (fill c (new right) (s .book .held)))) (framesAt c ht m x)) (inv .root) (placed .holds)))
         (inv .top ∙ ap (topBy (frames r m [])) (none-empty (s .book .held) others-long)
-        ∙ sym (ap (topBy (framesAt c ht (placed .memory) (mach .root) [])) (none-empty (fill c (new right) (s .book .held)) (fill-all (λ (h : Held). 0 < length (h .path)) right long others-long))))
+        ∙ sym (ap (topBy (framesAt c ht (placed .memory) (mach .root) [])) (none-empty (fill c (new right) (s .book .held)) (fill-all (λ (h : Held). 0 < length (h .path)) c (new right) (s .book .held) long others-long))))
 
     filled-path : serves st deep (find path (s .book .held)) ≡ false
         → Translates s r m st a (request c mach (s .book) st a deep) (filledOf c ht m hold gs st a deep t right)
@@ -431,7 +422,7 @@ module _ (s : State) (r : Record) (m : List ℕ) (inv : Inv s r m) (st : Bool) (
       maps = inv .maps;
       area = inv .area;
       book = fill-book right low;
-      valid = fill-all (Valid c mach) right (new-valid t right e) (inv .valid);
+      valid = fill-all (Valid c mach) c (new right) (s .book .held) (new-valid t right e) (inv .valid);
       marks = inv .marks;
       shadow = subst (λ l. Holds (shadowArea c) false (r .pools .shadow) m (leafAt (entryOf c (frames r m)) l) (frames r m)) (sym not-longer) (inv .shadow);
       top = sym here ∙ sym (ap (topBy (frames r m [])) found-top);

@@ -15,7 +15,7 @@ use Rattle.spec.specs.Entry.{writable, frameOf}
 use Rattle.spec.specs.Prefix.{begins, same}
 use Rattle.spec.specs.Book.{Held, find}
 use Rattle.spec.specs.Prefix.{All}
-use Rattle.spec_laws.proofs.Lists.{same-is, same-refl}
+use Rattle.spec_laws.proofs.Indexes.{same-sym}
 use Rattle.pool.specs.declared.Pool.{Pool}
 use Rattle.layout.specs.declared.HostWalk.{HostWalk}
 use Rattle.layout.specs.declared.HostWalk.the-variants.{Found, Absent}
@@ -27,7 +27,7 @@ use Rattle.area_laws.proofs.Find.{steps}
 use Rattle.area_laws.proofs.Whole.{Holds, Fits, holds-look}
 use Rattle.shadow.specs.Held.{shadowArea, heldOf}
 use Rattle.drops_laws.proofs.Scan.{Leaves}
-use Rattle.drops_laws.proofs.Held.{both-tests, entries, leafAt, HeldEntries, HeldAt, leaf-held, leaves-are, ext-begins}
+use Rattle.drops_laws.proofs.Held.{entries, leafAt, HeldEntries, HeldAt, leaf-held, leaves-are, ext-begins}
 
 -- ---- by leaves
 module _ (c : Config) {p : Pool} {m : List ℕ} {lv guest : List ℕ → ℕ} (h : Holds (shadowArea c) false p m lv guest) (is : List ℕ) (f : Fits (shadowArea c) lv is) where
@@ -78,9 +78,6 @@ entryFound w (some k) = w k
 abbrev pub answerFound : (Held → ℕ) → Option Held → ℕ → HostWalk
 answerFound w none n = Absent n
 answerFound w (some k) n = Found (page (frameOf (w k))) (writable (w k))
-
-same-sym : (p q : List ℕ) → same p q ≡ same q p
-same-sym p q = both-tests (same p q) (same q p) (λ h. subst (λ z. T (same z p)) (same-is p q h) (same-refl p)) (λ h. subst (λ z. T (same z q)) (same-is q p h) (same-refl q))
 
 get-find : (w : Held → ℕ) (is : List ℕ) (hs : List Held) → get (entries w hs) is ≡ entryFound w (find is hs)
 unfolding entries get

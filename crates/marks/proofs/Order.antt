@@ -11,7 +11,7 @@ use Rattle.spec.specs.Prefix.{any, keep, same}
 use Rattle.spec.specs.Book.{Mark, sameMark, isSet, levelFor, depth}
 use Rattle.spec.specs.Refusal.{noTwoAlike}
 use Rattle.spec_laws.proofs.Lists.{is-true, same-refl}
-use Rattle.spec_laws.proofs.Indexes.{eqb-sym}
+use Rattle.spec_laws.proofs.Indexes.{eqb-sym, same-sym}
 use Rattle.marks.proofs.Ascending.{and-left}
 
 abbrev pub SameMembers : {A : Type 0} → List A → List A → Type 0
@@ -73,12 +73,6 @@ members-keep f (List·Permᴰ·swap {a} {b} {a′} {b′} {l} e₁ e₂) =
 members-keep f (List·Permᴰ·trans d₁ d₂) = List·Permᴰ·trans (members-keep f d₁) (members-keep f d₂)
 
 -- ---- whether a mark is there twice does not depend on the order
-same-sym : (xs ys : List ℕ) → same xs ys ≡ same ys xs
-same-sym [] [] = refl
-same-sym [] (y ∷ ys) = refl
-same-sym (x ∷ xs) [] = refl
-same-sym (x ∷ xs) (y ∷ ys) = ap₂ _&&_ (eqb-sym x y) (same-sym xs ys)
-
 pub alike-sym : (m n : Mark) → sameMark m n ≡ sameMark n m
 alike-sym m n = ap₂ _&&_ (eqb-sym (m .level) (n .level)) (same-sym (m .prefix) (n .prefix))
 

@@ -14,5 +14,6 @@ pub mod Refusal
 pub mod Forecast
 pub mod Run
 pub mod Serving
+pub mod Quiet
 pub mod Computing
 pub mod Guest

@@ -1,26 +1,25 @@
 -- How many words a granted walk and a granted request read, for any number of levels.
 -- Assumes nothing.
 use mathlib.Core.Path.{_≡_, refl, sym, ap, _∙_, subst}
-use Prim.Native.Nat.{ℕ, zero, suc, pred, _+_, _*_, _-_, _≤_, _<_}
+use Prim.Native.Nat.{ℕ, suc, pred, _+_, _*_, _-_, _≤_}
 use native.Mathlib.Omega.{arith}
 use mathlib.Core.Bool.{Bool, true, false, not, cond}
 use mathlib.Core.List.{List, [], _∷_}
-use mathlib.Core.Option.{Option, none, some}
-use lib.Dec.{T, leb, le→leb, leb→le, nleb→lt}
+use mathlib.Core.Option.{some}
+use lib.Dec.{T, leb, leb→le, nleb→lt}
 use lib.ListN.{length, length-drop}
 use Rattle.spec.specs.declared.Fault.{Fault}
 use Rattle.spec.specs.Config.{Config}
-use Rattle.spec.specs.Entry.{index, indexes, pageOf}
-use Rattle.spec.specs.Walk.{World, Trace, Result, granted, failed, trace}
+use Rattle.spec.specs.Entry.{pageOf}
+use Rattle.spec.specs.Walk.{World, Trace, granted, trace}
 use Rattle.spec.specs.Plain.{Place, hosted, levels, walk, upper, shadowPart, directPart}
-use Rattle.spec.specs.Machine.{Machine, Mapping, lookup, costOf, hostCost, world}
+use Rattle.spec.specs.Machine.{Machine, costOf, hostCost, world}
 use Rattle.spec.specs.Book.{Book, find}
 use Rattle.spec.specs.Call.{addressIndexes, plain}
-use Rattle.spec.specs.Count.{Counted, serves, shadowed, unshadowed, request}
+use Rattle.spec.specs.Count.{serves, shadowed, unshadowed, request}
 use Rattle.spec_laws.proofs.Indexes.{indexes-length}
 use Rattle.spec_laws.proofs.Granted.{through, then-trace, hosted-granted, level-granted}
-use Rattle.spec_laws.proofs.Parts.{plain-parts, direct-result}
-use Rattle.spec_laws.proofs.Lists.{is-true, is-false}
+use Rattle.spec_laws.proofs.Parts.{plain-parts}
 
 -- the host walk of a mapped frame reads N words
 pub mapped-cost : (c : Config) (m : Machine) (g : ℕ) (r : Place) → (world c m) .hostAt g ≡ some r → (world c m) .hostCost g ≡ c .levels
@@ -64,12 +63,12 @@ plain-count c m st a r h =
     e ∙ ap (λ n. n + c .levels * suc n) (indexes-length (c .levels) (pageOf a))
 
 -- where a granted request's shadow part arrived
-record Shadow (c : Config) (m : Machine) (st : Bool) (a d : ℕ) (r : Place) : Type 0 where
-  at : Place
-  comes : (trace (world c m) (shadowPart c st d (m .root) (addressIndexes c a))) .result ≡ granted at
-  next : (trace (world c m) (directPart c st d at (addressIndexes c a))) .result ≡ granted r
+pub record Shadow (c : Config) (m : Machine) (st : Bool) (a d : ℕ) (r : Place) : Type 0 where
+  pub at : Place
+  pub comes : (trace (world c m) (shadowPart c st d (m .root) (addressIndexes c a))) .result ≡ granted at
+  pub next : (trace (world c m) (directPart c st d at (addressIndexes c a))) .result ≡ granted r
 
-shadow-granted : (c : Config) (m : Machine) (st : Bool) (a d : ℕ) (r : Place) → d ≤ c .levels → (plain c m st a) .result ≡ granted r → Shadow c m st a d r
+pub shadow-granted : (c : Config) (m : Machine) (st : Bool) (a d : ℕ) (r : Place) → d ≤ c .levels → (plain c m st a) .result ≡ granted r → Shadow c m st a d r
 unfolding plain
 shadow-granted c m st a d r b h =
     let is = addressIndexes c a in

@@ -1,16 +1,16 @@
 -- How many different prefixes there are: as many as a list has that holds each of them once.
 -- Assumes nothing.
-use mathlib.Core.Path.{_≡_, refl, sym, ap, ap₂, _∙_, subst}
-use mathlib.Core.Logic.{_≢_, _⊎_, inl, inr}
-use Prim.Native.Nat.{ℕ, zero, suc, _+_, _≤_, _<_, zero-le}
+use mathlib.Core.Path.{_≡_, refl, sym, ap, _∙_, subst}
+use mathlib.Core.Logic.{_⊎_, inl, inr}
+use Prim.Native.Nat.{ℕ, suc, _+_, _≤_, _<_, zero-le}
 use native.Mathlib.Nat.{le-antisymm}
 use native.Mathlib.Omega.{arith}
-use mathlib.Core.Bool.{Bool, true, false, not, _&&_, _||_, cond}
+use mathlib.Core.Bool.{Bool, true, false, not, _&&_, _||_, cond, and-false}
 use mathlib.Core.List.{List, [], _∷_, _++_}
-use lib.Dec.{T, eqb, eqb→eq, eqb-refl, T-not, not-T}
+use lib.Dec.{T, T-not, not-T}
 use lib.ListN.{length}
 use Rattle.spec.specs.Prefix.{any, keep, same, distinct}
-use Rattle.spec_laws.proofs.Lists.{same-is, same-refl, or-cases, or-left, or-right}
+use Rattle.spec_laws.proofs.Lists.{and-left, and-right, both, not-both, same-is, same-refl, or-cases, or-left, or-right}
 
 abbrev pub In : List ℕ → List (List ℕ) → Type 0
 In p xs = T (any (same p) xs)
@@ -40,16 +40,28 @@ without-less p (x ∷ xs) h = go (same p x) h (without-less p xs) (shorter p xs)
     go true k ih s = omega arith
     go false k ih s = let i = ih k in omega arith
 
-pub without-in : (p q : List ℕ) (xs : List (List ℕ)) → In q xs → (T (same p q) → ⊥) → In q (without p xs)
-without-in p q [] h n = h
-without-in p q (x ∷ xs) h n = go (same p x) refl (same q x) refl h (λ k. without-in p q xs k n)
+-- what is kept are the members that pass
+pub kept-any : (f : List ℕ → Bool) (p : List ℕ) (xs : List (List ℕ)) → any (same p) (keep f xs) ≡ (f p && any (same p) xs)
+kept-any f p [] = sym (and-false (f p))
+kept-any f p (x ∷ xs) = go (same p x) refl (f x) refl (kept-any f p xs)
   where
-    go : (b : Bool) → same p x ≡ b → (d : Bool) → same q x ≡ d → T (d || any (same q) xs) → (In q xs → In q (without p xs))
-        → In q (cond (not b) (x ∷ without p xs) (without p xs))
-    go true e true f k ih = absurd (n (subst (λ y. T (same p y)) (sym (same-is q x (subst T (sym f) tt))) (subst T (sym e) tt)))
-    go true e false f k ih = ih k
-    go false e true f k ih = or-left (same q x) _ (subst T (sym f) tt)
-    go false e false f k ih = or-right (same q x) _ (ih k)
+    alike : (d : Bool) → same p x ≡ true → f x ≡ d → f p ≡ d
+    alike d e g = ap f (same-is p x (subst T (sym e) tt)) ∙ g
+
+    go : (b : Bool) → same p x ≡ b → (d : Bool) → f x ≡ d → any (same p) (keep f xs) ≡ (f p && any (same p) xs)
+        → any (same p) (cond d (x ∷ keep f xs) (keep f xs)) ≡ (f p && (b || any (same p) xs))
+    go true e true g ih = ap (λ b. b || any (same p) (keep f xs)) e ∙ sym (ap (λ b. b && true) (alike true e g))
+    go true e false g ih = ih ∙ ap (λ b. b && any (same p) xs) (alike false e g) ∙ sym (ap (λ b. b && true) (alike false e g))
+    go false e true g ih = ap (λ b. b || any (same p) (keep f xs)) e ∙ ih
+    go false e false g ih = ih
+
+pub without-in : (p q : List ℕ) (xs : List (List ℕ)) → In q xs → (T (same p q) → ⊥) → In q (without p xs)
+without-in p q xs h n = subst T (sym (kept-any (λ x. not (same p x)) q xs)) (both (not (same p q)) (any (same q) xs) (not-T (same p q) n) h)
+
+pub without-out : (p q : List ℕ) (xs : List (List ℕ)) → In q (without p xs) → In q xs × (T (same p q) → ⊥)
+without-out p q xs h =
+    let k = subst T (kept-any (λ x. not (same p x)) q xs) h in
+    (and-right (not (same p q)) (any (same q) xs) k, λ e. not-both (same p q) e (and-left (not (same p q)) (any (same q) xs) k))
 
 -- no list that holds each once is longer than one that holds them all
 pub pigeon : (ys zs : List (List ℕ)) → Once ys → ((p : List ℕ) → In p ys → In p zs) → length ys ≤ length zs
@@ -107,15 +119,6 @@ distinct-is xs ys o f g =
     (pigeon ys (dedup xs) o (λ p h. dedup-in p xs .0 (f p h)))
 
 -- ---- one taken out of a list that holds each once
-pub without-out : (p q : List ℕ) (xs : List (List ℕ)) → In q (without p xs) → In q xs × (T (same p q) → ⊥)
-without-out p q [] h = absurd h
-without-out p q (x ∷ xs) h = go (same p x) refl h (without-out p q xs)
-  where
-    go : (b : Bool) → same p x ≡ b → In q (cond (not b) (x ∷ without p xs) (without p xs)) → (In q (without p xs) → In q xs × (T (same p q) → ⊥)) → T (same q x || any (same q) xs) × (T (same p q) → ⊥)
-    go true e k ih = (or-right (same q x) _ (ih k .0), ih k .1)
-    go false e k ih = elim (or-cases (same q x) (any (same q) (without p xs)) k)
-        [ inl a ↦ (or-left (same q x) _ a, λ t. subst T (ap (same p) (same-is q x a) ∙ e) t) | inr c ↦ (or-right (same q x) _ (ih c .0), ih c .1) ]
-
 pub without-once : (p : List ℕ) (xs : List (List ℕ)) → Once xs → Once (without p xs)
 without-once p [] o = tt
 without-once p (x ∷ xs) o = go (same p x) (without-once p xs (o .1))

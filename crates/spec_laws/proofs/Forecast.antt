@@ -38,12 +38,13 @@ unfolding access
 load-leaves c m a w (failed x) = refl
 load-leaves c m a w (granted p) = refl
 
--- a load's line says both counts, whether it has a value or a fault
-load-paid : (c : Config) (m : Machine) (a w : ℕ) (x : Result Fault Place) (r e : ℕ)
-    → let l = lineOf ((access c m a w none x) .0) r e in (referencesPaid l ≡ r) × (exitsPaid l ≡ e)
+-- the line of a load or a store says both counts, whether it is granted or a fault
+pub access-paid : (c : Config) (m : Machine) (a w : ℕ) (v : Option ℕ) (x : Result Fault Place) (r e : ℕ)
+    → let l = lineOf ((access c m a w v x) .0) r e in (referencesPaid l ≡ r) × (exitsPaid l ≡ e)
 unfolding access
-load-paid c m a w (failed x) r e = (refl, refl)
-load-paid c m a w (granted p) r e = (refl, refl)
+access-paid c m a w v (failed x) r e = (refl, refl)
+access-paid c m a w none (granted p) r e = (refl, refl)
+access-paid c m a w (some v) (granted p) r e = (refl, refl)
 
 -- the step o of a load that is really made in state s pays what the forecast counts for it, and leaves the forecast's book
 pub record Loaded (s : State) (k : Counted) (o : Line × State) : Type 0 where
@@ -68,7 +69,7 @@ load-served a s = go (refusal c (loadWord a) m (s .book))
     go (some n) = record { references = refl; exits = refl; state = refl }
     go none =
         let x = (plain c m false a) .result in
-        let p = load-paid c m a 8 x (k .references) (k .exits) in
+        let p = access-paid c m a 8 none x (k .references) (k .exits) in
         record { references = p .0; exits = p .1; state = ap (λ z. record { config = c; machine = z; book = k .book }) (load-leaves c m a 8 x) }
 
 -- ---- the list

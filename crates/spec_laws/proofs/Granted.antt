@@ -1,17 +1,20 @@
 -- What a granted walk did, level by level; and that a granted store walks as a load does.
 -- Assumes nothing.
-use mathlib.Core.Path.{_≡_, refl, sym, ap, _∙_}
-use Prim.Native.Nat.{ℕ, pred, _+_}
+use mathlib.Core.Path.{_≡_, refl, sym, ap, ap₂, _∙_}
+use Prim.Native.Nat.{ℕ, pred}
 use native.Mathlib.Nat.{add-zero}
 use native.Mathlib.Omega.{arith}
 use mathlib.Core.Bool.{Bool, true, false, not, _&&_, _||_}
 use mathlib.Core.List.{List, [], _∷_}
 use mathlib.Core.Option.{Option, none, some}
+use borrow.Author.Tests.{eq-eqb}
 use lib.Dec.{eqb}
+use lib.ListN.{length}
 use Rattle.spec.specs.declared.Fault.{Fault}
+use Rattle.spec.specs.declared.Fault.the-variants.{Protected, HostReadOnly}
 use Rattle.spec.specs.Config.{Config}
 use Rattle.spec.specs.Entry.{present, writable, frameOf, malformed}
-use Rattle.spec.specs.Walk.{Walk, done, fail, host, word, _>>=_, _>>_, World, Trace, Result, granted, failed, trace}
+use Rattle.spec.specs.Walk.{Walk, done, _>>=_, _>>_, World, Trace, Result, granted, failed, trace}
 use Rattle.spec.specs.Plain.{Place, must, mapped, hosted, entry, next, levels, walk}
 use Rattle.spec_laws.proofs.Bind.{andThen, onto, more, trace-bind}
 
@@ -257,3 +260,36 @@ pub walk-serves : (w : World) (c : Config) (root : ℕ) (is : List ℕ) (f : ℕ
 unfolding walk
 walk-serves w c root is f h =
     same-bind w (hosted root) (hosted root) _ _ (f, true) (λ _ _. refl) (λ a j. levels-serve w c (c .levels) (a .0) true is f j) h
+
+-- ---- and a store's walk to a page comes to a place with the write right
+
+page-right : (w : World) (g : ℕ) (v : Bool) (q : Place) → (trace w (next true true g v)) .result ≡ granted q → q .1 ≡ true
+unfolding next trace
+page-right w g v q h =
+    let a = must-granted w v (Protected 1) _ q h in
+    let t = through w (hosted g) (λ r. must (r .1) (HostReadOnly g) >> done (r .0, (v && r .1))) q (a .1) in
+    let b = must-granted w (t .mid .1) (HostReadOnly g) (done (t .mid .0, (v && t .mid .1))) q (t .next) in
+    let e : (t .mid .0, (v && t .mid .1)) ≡ q = granted-is (t .mid .0, (v && t .mid .1)) q (b .1) in
+    sym (ap (λ (x : Place). x .1) e) ∙ ap₂ (λ x y. x && y) (a .0) (b .0)
+
+levels-store : (w : World) (c : Config) (n t : ℕ) (v : Bool) (is : List ℕ) (r : Place) → length is ≡ n → (n ≡ 0 → v ≡ true)
+    → (trace w (levels c true n t v is)) .result ≡ granted r → r .1 ≡ true
+unfolding levels trace
+levels-store w c n t v [] r l ok h = sym (ap (λ (x : Place). x .1) (granted-is (t, v) r h)) ∙ ok (sym l)
+levels-store w c n t v (i ∷ is) r l ok h =
+    let a = through w (entry c n t i) (λ e. next true (eqb n 1) (e .0) (v && e .1) >>= λ q. levels c true (pred n) (q .0) (q .1) is) r h in
+    let b = through w (next true (eqb n 1) (a .mid .0) (v && a .mid .1)) (λ q. levels c true (pred n) (q .0) (q .1) is) r (a .next) in
+    let k : length is ≡ pred n = omega arith in
+    levels-store w c (pred n) (b .mid .0) (b .mid .1) is r k
+    (λ z.
+    let o : n ≡ 1 = omega arith in
+    page-right w (a .mid .0) (v && a .mid .1) (b .mid)
+    (sym (ap (λ x. (trace w (next true x (a .mid .0) (v && a .mid .1))) .result) (eq-eqb n 1 o)) ∙ b .first))
+    (b .next)
+
+pub walk-store : (w : World) (c : Config) (root : ℕ) (is : List ℕ) (r : Place) → length is ≡ c .levels
+    → (trace w (walk c true root is)) .result ≡ granted r → r .1 ≡ true
+unfolding walk
+walk-store w c root is r l h =
+    let t = through w (hosted root) (λ q. levels c true (c .levels) (q .0) true is) r h in
+    levels-store w c (c .levels) (t .mid .0) true is r l (λ _. refl) (t .next)

@@ -76,6 +76,12 @@ eqb-sym a b = go (eqb a b) refl
     go true e = sym (eq-eqb b a (sym (eqb-true a b e)))
     go false e = sym (ne-eqb b a (λ f. eqb-false a b e (sym f)))
 
+pub same-sym : (p q : List ℕ) → same p q ≡ same q p
+same-sym [] [] = refl
+same-sym [] (y ∷ q) = refl
+same-sym (x ∷ p) [] = refl
+same-sym (x ∷ p) (y ∷ q) = ap₂ _&&_ (eqb-sym x y) (same-sym p q)
+
 -- two numbers of a high and a low part are equal where both parts are
 both-parts : (k a b c d : ℕ) → b < 2 ^ k → d < 2 ^ k → (eqb a c && eqb b d) ≡ eqb (a * 2 ^ k + b) (c * 2 ^ k + d)
 both-parts k a b c d lb ld = go (eqb a c) refl (eqb b d) refl

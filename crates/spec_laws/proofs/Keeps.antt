@@ -4,22 +4,24 @@ use mathlib.Core.Path.{_≡_, refl, sym, ap, _∙_, subst}
 use mathlib.Core.Logic.{_≢_}
 use Prim.Native.Nat.{ℕ, _+_, _*_, _-_, _%_, _^_, _<_, _≤_}
 use native.Mathlib.Omega.{arith}
-use mathlib.Core.Bool.{Bool, true, false, not, _&&_, cond}
+use mathlib.Core.Bool.{Bool, true, false, not, _&&_, _||_, cond}
 use mathlib.Core.List.{List, [], _∷_}
-use mathlib.Core.Option.{Option, none, some}
+use mathlib.Core.Option.{some}
 use lib.Dec.{T, eqb, eqb→eq, eqb-refl}
-use lib.ListN.{getD, set}
 use lib.Seq.{getD-set-other}
 use lib.Arith.{digits-mod}
 use Rattle.spec.specs.declared.Fault.{Fault}
 use Rattle.spec.specs.Config.{Config, guestBase, frameBits}
+use Rattle.spec.specs.Entry.{pageOf}
 use Rattle.spec.specs.Walk.{World, Trace, Result, granted, trace}
 use Rattle.spec.specs.Plain.{Place, walk}
 use Rattle.spec.specs.Machine.{Machine, Mapping, world, place, stored, remapped, lookup, with, without}
-use Rattle.spec.specs.Book.{Held, readsWord, usesMapping}
+use Rattle.spec.specs.Book.{Held, readsWord, readsFrame, dropWord, watched, usesMapping}
+use Rattle.spec.specs.Call.{addressIndexes, plain}
 use Rattle.spec.specs.Count.{heldBy}
-use Rattle.spec.specs.Prefix.{All}
-use Rattle.spec_laws.proofs.Lists.{all-map, all-any, all-both, none-passes, and-left, both, not-both, not-eqb}
+use Rattle.spec.specs.Prefix.{All, any}
+use Rattle.spec_laws.proofs.Lists.{all-map, all-any, all-both, keep-all, none-passes, is-true, both, not-both, not-eqb}
+use Rattle.spec_laws.proofs.Indexes.{indexes-all}
 use Rattle.spec_laws.proofs.Local.{Seen, seen, local-seen, SameMapping, SameWord}
 use Rattle.spec_laws.proofs.Granted.{walk-same}
 use Rattle.spec_laws.proofs.Asks.{Asked, asks-trace, AnswerIn, FaultFits, walk-asks}
@@ -52,6 +54,11 @@ unfolding world
 shadow-asked c m st p mi b s =
     asks-trace (AnswerIn (InArea c)) (λ g. g < 2 ^ frameBits c) (λ t i. InArea c t × (i < 512)) (FaultFits c) (world c m) (walk c st (m .root) p) (λ r. InArea c (r .0)) mi
     (walk-asks c (InArea c) st (m .root) p b s)
+
+-- and a granted walk comes to a page there
+pub plain-in : (c : Config) (m : Machine) (st : Bool) (a : ℕ) (r : Place) → MappedIn c m → m .root < 2 ^ frameBits c → (plain c m st a) .result ≡ granted r → InArea c (r .0)
+unfolding plain
+plain-in c m st a r mi b h = shadow-asked c m st (addressIndexes c a) mi b (indexes-all (c .levels) (pageOf a)) .grants r h
 
 -- ---- a store
 
@@ -93,6 +100,22 @@ store-keeps c m t i v h mi rb bt bi va nr = record {
 
     Off : ℕ × ℕ → Type 0
     Off x = T (not (eqb t (x .0) && eqb i (x .1)))
+
+-- into a frame that is not watched no path is dropped: none reads a word of it
+pub unwatched-unread : (t i : ℕ) (hs : List Held) → T (not (watched t hs)) → All (λ h. T (not (readsWord t i h))) hs
+unwatched-unread t i hs h = all-map (λ k. T (not (readsFrame t k))) _ hs (λ k n. unread (k .reads) n) (none-passes (readsFrame t) hs h)
+  where
+    unread : (rs : List (ℕ × ℕ)) → T (not (any (λ r. eqb t (r .0)) rs)) → T (not (any (λ r. eqb t (r .0) && eqb i (r .1)) rs))
+    unread [] n = n
+    unread (r ∷ rs) n = go (eqb t (r .0)) n (unread rs)
+      where
+        go : (b : Bool) → T (not (b || any (λ r. eqb t (r .0)) rs)) → (T (not (any (λ r. eqb t (r .0)) rs)) → T (not (any (λ r. eqb t (r .0) && eqb i (r .1)) rs)))
+            → T (not (b && eqb i (r .1) || any (λ r. eqb t (r .0) && eqb i (r .1)) rs))
+        go true k ih = absurd k
+        go false k ih = ih k
+
+pub drop-unwatched : (t i : ℕ) (hs : List Held) → T (not (watched t hs)) → dropWord t i hs ≡ hs
+drop-unwatched t i hs h = keep-all (λ k. not (readsWord t i k)) hs (all-map _ _ hs (λ k n. is-true (not (readsWord t i k)) n) (unwatched-unread t i hs h))
 
 -- ---- a mapping
 

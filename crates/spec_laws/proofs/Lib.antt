@@ -14,5 +14,7 @@ pub mod Asks
 pub mod Trail
 pub mod Keeps
 pub mod Added
+pub mod Members
 pub mod Price
 pub mod Forecast
+pub mod Quiet

@@ -85,23 +85,26 @@ clear-keeps c b m i = record {
       (all-keep (HeldFits c (b .marks)) (λ h. not (begins (m .prefix) (h .path))) (b .held) (i .held));
 }
 
-pub fill-keeps : (c : Config) (b : Book) (h : Held) → HeldFits c (b .marks) h → BookFits c b → BookFits c (holding b (fill c h (b .held)))
-fill-keeps c b h ok i = go (leb (shadowTables (h ∷ b .held)) (c .shadows))
+pub fill-all : (P : Held → Type 0) (c : Config) (h : Held) (hs : List Held) → P h → All P hs → All P (fill c h hs)
+fill-all P c h hs one all = go (leb (shadowTables (h ∷ hs)) (c .shadows))
   where
-    go : (t : Bool) → BookFits c (holding b (cond t (h ∷ b .held) (h ∷ [])))
-    go true = record { marks = i .marks; held = (ok, i .held) }
-    go false = record { marks = i .marks; held = (ok, tt) }
+    go : (t : Bool) → All P (cond t (h ∷ hs) (h ∷ []))
+    go true = (one, all)
+    go false = (one, tt)
 
-pub request-keeps : (c : Config) (m : Machine) (b : Book) (st : Bool) (a : ℕ) → BookFits c b
-    → BookFits c ((request c m b st a (depth (b .marks) (addressIndexes c a))) .book)
+pub fill-keeps : (c : Config) (b : Book) (h : Held) → HeldFits c (b .marks) h → BookFits c b → BookFits c (holding b (fill c h (b .held)))
+fill-keeps c b h ok i = record { marks = i .marks; held = fill-all (HeldFits c (b .marks)) c h (b .held) ok (i .held) }
+
+-- a request leaves the book as it is, or fills its path where its shadow part is granted
+pub request-book : (P : Book → Type 0) (c : Config) (m : Machine) (b : Book) (st : Bool) (a d : ℕ)
+    → let p = upper c d (addressIndexes c a) in
+    let s = trace (world c m) (shadowPart c st d (m .root) (addressIndexes c a)) in
+    P b → ((r : Place) → d ≤ c .levels → s .result ≡ granted r → P (holding b (fill c (heldBy p s (r .1)) (b .held)))) → P ((request c m b st a d) .book)
 unfolding request
-request-keeps c m b st a i = go (leb d (c .levels)) refl
+request-book P c m b st a d same fills = go (leb d (c .levels)) refl
   where
     is : List ℕ
     is = addressIndexes c a
-
-    d : ℕ
-    d = depth (b .marks) is
 
     held : Bool
     held = serves st d (find (upper c d is) (b .held))
@@ -109,19 +112,25 @@ request-keeps c m b st a i = go (leb d (c .levels)) refl
     s : Trace Fault Place
     s = trace (world c m) (shadowPart c st d (m .root) is)
 
-    kept : (r : Place) (k : Bool) → d ≤ c .levels → BookFits c (cond k b (holding b (fill c (heldBy (upper c d is) s (r .1)) (b .held))))
-    kept r true l = i
-    kept r false l =
-        fill-keeps c b (heldBy (upper c d is) s (r .1)) (fill-fits (c .levels) (b .marks) is (i .marks) (indexes-length (c .levels) (pageOf a)) l) i
+    kept : (r : Place) (k : Bool) → d ≤ c .levels → s .result ≡ granted r → P (cond k b (holding b (fill c (heldBy (upper c d is) s (r .1)) (b .held))))
+    kept r true l e = same
+    kept r false l e = fills r l e
 
-    part : (x : Result Fault Place) → d ≤ c .levels → BookFits c ((shadowed c m b st d is (upper c d is) held s x) .book)
-    part (failed x) l = i
-    part (granted r) l = kept r held l
+    part : (x : Result Fault Place) → s .result ≡ x → d ≤ c .levels → P ((shadowed c m b st d is (upper c d is) held s x) .book)
+    part (failed x) e l = same
+    part (granted r) e l = kept r held l e
 
     go : (t : Bool) → leb d (c .levels) ≡ t
-        → BookFits c ((cond t (shadowed c m b st d is (upper c d is) held s (s .result)) (unshadowed b (plain c m st a))) .book)
-    go true e = part (s .result) (leb→le d (c .levels) (subst T (sym e) tt))
-    go false e = i
+        → P ((cond t (shadowed c m b st d is (upper c d is) held s (s .result)) (unshadowed b (plain c m st a))) .book)
+    go true e = part (s .result) refl (leb→le d (c .levels) (subst T (sym e) tt))
+    go false e = same
+
+pub request-keeps : (c : Config) (m : Machine) (b : Book) (st : Bool) (a : ℕ) → BookFits c b
+    → BookFits c ((request c m b st a (depth (b .marks) (addressIndexes c a))) .book)
+request-keeps c m b st a i =
+    let is = addressIndexes c a in
+    request-book (BookFits c) c m b st a (depth (b .marks) is) i
+    (λ r l e. fill-keeps c b _ (fill-fits (c .levels) (b .marks) is (i .marks) (indexes-length (c .levels) (pageOf a)) l) i)
 
 storing-keeps : (c : Config) (i : ℕ) (x : Result Fault Place) (k : Counted) → BookFits c (k .book) → BookFits c ((storing i x k) .book)
 unfolding storing

@@ -12,3 +12,4 @@ pub mod InFull
 pub mod Forecasts
 pub mod Lookups
 pub mod Widths
+pub mod Quiet

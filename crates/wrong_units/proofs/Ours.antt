@@ -14,6 +14,7 @@ use Rattle.spec.specs.Entry.{pageOf}
 use Rattle.spec.specs.Plain.{next}
 use Rattle.spec.specs.Refusal.{forecastRoom}
 use Rattle.spec.specs.Run.{State, step, opened}
+use Rattle.spec.specs.Serving.{exitsPaid, allPaid}
 use Rattle.words.specs.After.{After}
 use Rattle.walk.specs.declared.Walked.{Walked}
 use Rattle.walk.specs.declared.Walked.the-variants as walked
@@ -40,7 +41,8 @@ use Rattle.claims.proofs.Plain.{demand-2}
 use Rattle.claims.proofs.Counted.{run-counted-load}
 use Rattle.claims.specs.Lookups.{LooksUp}
 use Rattle.claims.proofs.Lookups.{run-lookup}
-use Rattle.wrong_units.specs.Unit.{runBy, afterBy, specified, Demand-3, Demand-2, Calls, told, unitBy, cangrieb, WordsCounted, Lookups}
+use Rattle.claims.proofs.Quiet.{quiet-day}
+use Rattle.wrong_units.specs.Unit.{runBy, afterBy, specified, Demand-3, Demand-2, QuietDay, Calls, told, unitBy, cangrieb, WordsCounted, Lookups}
 use Rattle.wrong_units.specs.Wrong.{storeAs, storeWith, deviceAs, deviceWith, ourStep, ourEnd, listWith, forecastWith}
 
 -- a table of calls that does what ours does on every record and memory that stand for a machine and a book
@@ -79,6 +81,13 @@ unfolding afterBy unitAfter
 after-is [] r m e p q = λ i. (p i, q i)
 after-is (x ∷ xs) r m e p q = after-is xs (callOf x r m .result .unit) (callOf x r m .memory) (callOf x r m) refl refl
 
+run-is : (xs : List Call) (r : Record) (m : List ℕ) → runBy cangrieb xs (r, m) ≡ unitRun xs r m
+unfolding runBy unitRun
+run-is [] r m = refl
+run-is (x ∷ xs) r m =
+    let u = callOf x r m in
+    ap (λ os. (line (u .result .answer), guestArea (u .result .unit) (u .memory)) ∷ os) (run-is xs (u .result .unit) (u .memory))
+
 pub cangrieb-demand-2 : Demand-2 callOf
 unfolding Demand-2
 cangrieb-demand-2 m h s xs g a w v =
@@ -107,6 +116,14 @@ cangrieb-lookups m h s xs g a =
   where
     Looks : Record × List ℕ → Type 0
     Looks e = LooksUp (configBy (length m) h s) ((specified m h s xs) .book) (e .0) a (lookupAt (e .0) a)
+
+pub cangrieb-quiet-day : QuietDay cangrieb
+unfolding QuietDay
+cangrieb-quiet-day m h s xs ys g q =
+    let o = openCall m h s in
+    let u = unitAfter xs (o .result .unit) (o .memory) o in
+    ap (λ e. allPaid exitsPaid (runBy cangrieb ys e)) (after-is xs (o .result .unit) (o .memory) o refl refl)
+    ∙ ap (allPaid exitsPaid) (run-is ys (u .result .unit) (u .memory)) ∙ quiet-day m h s xs ys g q
 
 -- ---- the calls of specs/Wrong.antt that take an argument for what is changed are ours with our own argument
 

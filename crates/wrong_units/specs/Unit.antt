@@ -5,11 +5,14 @@ use Prim.Native.Nat.{ℕ}
 use mathlib.Core.Bool.{false}
 use mathlib.Core.List.{List, [], _∷_}
 use mathlib.Core.Option.{Option}
+use lib.Dec.{T}
 use lib.ListN.{length}
 use Rattle.spec.specs.declared.Lookup.{Lookup}
 use Rattle.spec.specs.Answer.{Line, line}
 use Rattle.spec.specs.Call.{Call, load}
 use Rattle.spec.specs.Run.{State, run, after, opened}
+use Rattle.spec.specs.Serving.{exitsPaid, allPaid}
+use Rattle.spec.specs.Quiet.{quiet, quietExits}
 use Rattle.words.specs.After.{After}
 use Rattle.record.specs.declared.Record.{Record}
 use Rattle.record.specs.Record.{configBy}
@@ -49,6 +52,12 @@ unfoldable pub Demand-3 : MemoryUnit → Type 0
 Demand-3 u =
     (m : List ℕ) (h s : ℕ) (xs : List Call) → refusalOf (length m) h s ≡ 0
     → runBy u xs (u .opens m h s) ≡ machineRun (run xs (opened (configBy (length m) h s) m))
+
+-- a quiet stretch (document 02, 5): after any run its exits add up to the figure
+unfoldable pub QuietDay : MemoryUnit → Type 0
+QuietDay u =
+    (m : List ℕ) (h s : ℕ) (xs ys : List Call) → refusalOf (length m) h s ≡ 0 → T (quiet ys (specified m h s xs))
+    → allPaid exitsPaid (runBy u ys (afterBy u xs (u .opens m h s))) ≡ quietExits ys (specified m h s xs)
 
 -- ---- units that have our record and our tables
 

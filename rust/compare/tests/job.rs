@@ -6,9 +6,10 @@ use std::path::PathBuf;
 use std::process::{Child, Command, Stdio};
 use std::time::{Duration, Instant};
 
-use walker::job::{raw_record, run_job, write_record, Record};
+use walker::job::{raw_record, read_record, run_job, write_record, Record, JOB_LEVELS};
+use walker::quiet::{part, End, Stretch};
 use walker::random::{job, Random};
-use walker::Call;
+use walker::{Answer, Call, Unit};
 
 fn start() -> Child {
     let built = PathBuf::from(env!("CARGO_MANIFEST_DIR")).join("../../target/bin/job");
@@ -41,18 +42,63 @@ fn open() -> Vec<u8> {
     write_record(&Record::Open { h: 4, s: 4 })
 }
 
-/// Two jobs whose lines were worked out by hand: every line of document 01 on its sixteen-frame guest, each from a new opening, with
-/// pages that hold their host frame and word (0xc01 is frame 12, word 1), its load of 0xFFFFFFFFFFF8 refused as request 1 of
-/// document 02 has it; and every refusal that a job can meet.
+const QUIET_JOB: &[u8] = include_bytes!("../jobs/quiet.job");
+const QUIET_LINES: &str = include_str!("../jobs/quiet.txt");
+
+/// Three jobs whose lines were worked out by hand: every line of document 01 on its sixteen-frame guest, each from a new opening,
+/// with pages that hold their host frame and word (0xc01 is frame 12, word 1), its load of 0xFFFFFFFFFFF8 refused as request 1 of
+/// document 02 has it; every refusal that a job can meet; and a quiet stretch that is run twice.
 #[test]
 fn jobs_with_known_lines() {
-    let jobs: [(&[u8], &str); 2] = [
+    let jobs: [(&[u8], &str); 3] = [
         (include_bytes!("../jobs/guest.job"), include_str!("../jobs/guest.txt")),
         (include_bytes!("../jobs/refusals.job"), include_str!("../jobs/refusals.txt")),
+        (QUIET_JOB, QUIET_LINES),
     ];
     for (input, lines) in jobs {
         assert_eq!(output(input, 65_536), lines);
         assert_eq!(run_job(input), lines, "the second walker");
+    }
+}
+
+/// Records 23 to 32 of the quiet job, and the same as 33 to 42. They touch four paths, one of them held at first, with S tables:
+/// three exits, then none.
+#[test]
+fn a_quiet_stretch_costs_three_exits_and_then_none() {
+    let mut records = Vec::new();
+    let mut rest = QUIET_JOB;
+    while let Some((record, after)) = read_record(rest) {
+        records.push(record);
+        rest = after;
+    }
+    assert_eq!(records[22..32], records[32..]);
+    let Record::Open { h, s } = records[0] else { panic!("{:?}", records[0]) };
+    let mut unit = Unit::open(JOB_LEVELS, vec![0; 16 * 512], h as u64, s as u64).unwrap();
+    records[1..22].iter().for_each(|record| assert!(!matches!(unit.call(call_of(record)), Answer::No(_))));
+    for (stretch, figure) in [(22..32, 3), (32..42, 0)] {
+        let taken = take_stretch(&mut unit, &records[stretch.clone()]).unwrap();
+        assert_eq!((taken.figure(), taken.touched.len(), taken.tables()), (figure, 4, 4));
+        let lines = QUIET_LINES.lines().skip(stretch.start).take(10);
+        let exits = lines.map(|line| line.rsplit(' ').next().unwrap().parse::<u64>().unwrap());
+        assert_eq!(exits.sum::<u64>(), figure);
+    }
+}
+
+/// Runs the records as one stretch.
+fn take_stretch(unit: &mut Unit, records: &[Record]) -> Result<Stretch, End> {
+    let mut stretch = Stretch::start(unit);
+    for call in records.iter().map(call_of) {
+        let before = unit.clone();
+        let answer = unit.call(call);
+        stretch.take(&part(&before, call, &answer)?)?;
+    }
+    Ok(stretch)
+}
+
+fn call_of(record: &Record) -> &Call {
+    match record {
+        Record::Call(call) => call,
+        open => panic!("{open:?}"),
     }
 }
 

@@ -4,7 +4,8 @@
 //! remapped, tables and pages are read-only at times, marks come and go. Pages and
 //! marks are of both halves, and some differ in their half alone. One call in ten is
 //! a forecast, more than half of the loads and stores are narrow, and a few have a
-//! wrong width, but not in jobs. Runs of another sort mostly set and clear marks.
+//! wrong width, but not in jobs. Runs of another sort mostly set and clear marks, and
+//! quiet ones mostly load and store where it is granted.
 
 use crate::answer::Call;
 use crate::job::{raw_record, write_record, Record, JOB_FRAMES, JOB_LEVELS};
@@ -100,6 +101,11 @@ pub fn mark_run(seed: u64, sizes: Sizes, calls: usize) -> Run {
     run_by(Guest::next_mark_call, seed, sizes, calls)
 }
 
+/// A run in which most calls are loads and stores of pages that grant them.
+pub fn quiet_run(seed: u64, sizes: Sizes, calls: usize) -> Run {
+    run_by(Guest::next_quiet_call, seed, sizes, calls)
+}
+
 /// A run of the calls that a job's records can make.
 pub fn job_run(seed: u64, sizes: Sizes, calls: usize) -> Run {
     run_by(Guest::next_job_call, seed, sizes, calls)
@@ -142,6 +148,9 @@ struct Guest {
     /// the guest's, and a device's.
     guest_entries: Vec<(u64, u64)>,
     device_entries: Vec<(u64, u64)>,
+    /// Pages of which the plan grants loads, and those of which it grants stores too.
+    load_pages: Vec<u64>,
+    store_pages: Vec<u64>,
     last_page: u64,
     marks: Vec<(u64, u64)>,
     undo: Vec<Call>,
@@ -161,6 +170,8 @@ impl Guest {
             pages: Vec::new(),
             guest_entries: Vec::new(),
             device_entries: Vec::new(),
+            load_pages: Vec::new(),
+            store_pages: Vec::new(),
             last_page: 0,
             marks: Vec::new(),
             undo: Vec::new(),
@@ -170,6 +181,7 @@ impl Guest {
         guest.choose_entries();
         guest.choose_pages();
         guest.find_entries();
+        guest.find_granted_pages();
         guest
     }
 
@@ -383,8 +395,7 @@ impl Guest {
             let words = read.range((host, 0)..(host + 1, 0));
             words.map(move |((_, index), entry)| (first + 8 * index, *entry))
         };
-        let tables: BTreeSet<u64> = self.pages.iter().map(|page| page - page % FRAME_WORDS).collect();
-        for page in tables.iter().flat_map(|first| self.indexes.iter().map(move |index| first + index)) {
+        for page in self.pages_beside() {
             if let (_, Some(host)) = self.planned_walk(page) {
                 self.guest_entries.extend(read_in(host, address_of(page, self.sizes.levels)));
             }
@@ -392,6 +403,37 @@ impl Guest {
         for (guest, host, _) in &self.plan {
             self.device_entries.extend(read_in(*host, device_address_of(*guest)));
         }
+    }
+
+    /// The pages that have the same table of level 1 as one that calls go to.
+    fn pages_beside(&self) -> Vec<u64> {
+        let tables: BTreeSet<u64> = self.pages.iter().map(|page| page - page % FRAME_WORDS).collect();
+        tables.iter().flat_map(|first| self.indexes.iter().map(move |index| first + index)).collect()
+    }
+
+    fn find_granted_pages(&mut self) {
+        for page in self.pages_beside() {
+            let rights = self.planned_rights(page);
+            self.load_pages.extend(rights.map(|_| page));
+            self.store_pages.extend(rights.filter(|writable| *writable).map(|_| page));
+        }
+    }
+
+    /// Whether the plan grants a store of the page; none if it does not grant a load.
+    fn planned_rights(&self, page: u64) -> Option<bool> {
+        let levels = self.sizes.levels;
+        let planned = |name: u64| self.plan.iter().find(|(guest, _, _)| *guest == name);
+        let mut all_writable = true;
+        let mut found = planned(self.names[0])?;
+        for level in (1..=levels).rev() {
+            let entry = Entry(*self.entries.get(&(found.1, index(page, level)))?);
+            if !entry.present() || entry.malformed(level, levels) {
+                return None;
+            }
+            all_writable = all_writable && entry.writable();
+            found = planned(entry.frame())?;
+        }
+        Some(all_writable && found.2)
     }
 
     /// The entries that the page's walk reads by the plan, whatever they allow, and the
@@ -528,6 +570,64 @@ impl Guest {
         } else {
             Call::ClearMark { address, level }
         }
+    }
+
+    /// Mostly loads and stores of pages that grant them. A few calls are forecasts or
+    /// refused, and a few change something, which is mostly soon undone.
+    fn next_quiet_call(&mut self) -> Call {
+        match self.random.below(96) {
+            0 => self.next_call(),
+            1 => self.repair(),
+            2 => Call::Root { frame: self.names[0] },
+            3..=5 => match self.undo.pop() {
+                Some(call) => call,
+                None => self.set_mark(),
+            },
+            6 => self.clear_mark(),
+            7 | 8 => self.forecast(),
+            9 | 10 => self.call_of_wrong_width(),
+            11 => self.odd_call(),
+            12..=37 => self.quiet_store(),
+            _ => {
+                let word = self.granted_address(false);
+                let (address, width) = self.part_at(word);
+                Call::Load { address, width }
+            }
+        }
+    }
+
+    /// Mostly of what stood there at opening, so that tables stay as they are. One in
+    /// eight goes to an entry, if a page of the guest has one.
+    fn quiet_store(&mut self) -> Call {
+        let mut word = self.granted_address(true);
+        let mut value = self.value();
+        if !self.guest_entries.is_empty() && self.random.one_in(8) {
+            (word, value) = self.random.pick(&self.guest_entries);
+        } else if !self.random.one_in(4) {
+            value = self.word_at_opening(word).unwrap_or(value);
+        }
+        let (address, width) = self.part_at(word);
+        Call::Store { address, width, value: self.part_of(value, address, width) }
+    }
+
+    /// What the plan has at a guest-virtual address.
+    fn word_at_opening(&self, address: u64) -> Option<u64> {
+        let (_, host) = self.planned_walk(frame_of(address));
+        self.entries.get(&(host?, word_in_frame(address))).copied()
+    }
+
+    /// A word of a page that the plan grants, if there is one: often of the page used
+    /// last, or of one of a few.
+    fn granted_address(&mut self, store: bool) -> u64 {
+        let pages = if store { self.store_pages.clone() } else { self.load_pages.clone() };
+        if pages.is_empty() {
+            return self.address();
+        }
+        if !pages.contains(&self.last_page) || !self.random.one_in(3) {
+            let many = if self.random.one_in(3) { pages.len() } else { pages.len().min(6) };
+            self.last_page = self.random.pick(&pages[..many]);
+        }
+        address_of(self.last_page, self.sizes.levels) + 8 * self.word_place()
     }
 
     fn next_job_call(&mut self) -> Call {

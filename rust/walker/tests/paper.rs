@@ -1,9 +1,11 @@
 //! Document 01's own examples and each refusal, by the numbers printed there, with
-//! requests 1 to 4 of document 02.
+//! requests 1 to 5 of document 02.
 
+use std::collections::BTreeSet;
 use walker::answer::{Answer, Call, Fault};
 use walker::book::{Lookup, Mark};
 use walker::machine::Access;
+use walker::quiet::{part, path_of, End, Stretch};
 use walker::Unit;
 
 const LEVELS: u32 = 4;
@@ -838,6 +840,199 @@ fn forecasts_keep_width_8() {
     assert_eq!(forecast(&mut unit, &[1, 2, 4, 8]), figures(4, 0, 4));
 }
 
+// Request 5: "It costs one exit for each different path touched that was not held at
+// the start, and no other; depth 5 costs none." Pages 0, 1 and 4 of the guest grant
+// loads: frames 4 and 5, and frame 3, their table of level 1.
+
+/// Some calls, and the stretch that the first ones of them are.
+#[derive(Debug, PartialEq, Eq)]
+struct Day {
+    /// The exits of all the calls. What a forecast says is not paid.
+    exits: u64,
+    /// The different paths of all granted loads and stores that were not held at first.
+    paths: u64,
+    figure: u64,
+    tables: u64,
+    /// Where the stretch ended, counted from 0, and why.
+    end: Option<(usize, End)>,
+}
+
+/// The calls from here on, as one stretch.
+fn day(unit: &mut Unit, calls: &[Call]) -> Day {
+    let mut stretch = Stretch::start(unit);
+    let (mut exits, mut paths, mut end) = (0, BTreeSet::new(), None);
+    for (number, call) in calls.iter().enumerate() {
+        let before = unit.clone();
+        let answer = unit.call(call);
+        if !matches!(call, Call::Forecast { .. }) {
+            exits += answer.counts().1;
+        }
+        if let Call::Load { address, .. } | Call::Store { address, .. } = call {
+            let granted = matches!(answer, Answer::Value { .. } | Answer::Done { .. });
+            paths.extend(path_of(before.book(), *address).filter(|_| granted));
+        }
+        if end.is_none() {
+            let taken = part(&before, call, &answer).and_then(|part| stretch.take(&part));
+            end = taken.err().map(|why| (number, why));
+        }
+    }
+    if end.is_none() {
+        assert!(stretch.held_after().iter().eq(unit.book().held.keys()));
+    }
+    let paths = paths.difference(&stretch.held).count() as u64;
+    Day { exits, paths, figure: stretch.figure(), tables: stretch.tables(), end }
+}
+
+/// A day that is all one stretch: its exits are the figure.
+fn quiet(exits: u64, tables: u64) -> Day {
+    Day { exits, paths: exits, figure: exits, tables, end: None }
+}
+
+fn loads(addresses: &[u64]) -> Vec<Call> {
+    addresses.iter().map(|address| Call::load_word(*address)).collect()
+}
+
+#[test]
+fn a_quiet_stretch_costs_its_new_paths() {
+    let mut unit = sixteen_frame_guest();
+    assert_eq!(day(&mut unit, &[]), quiet(0, 0));
+    // Two pages, four tables; the table's page is only loaded.
+    let calls = [loads(&[0, 8, 0x4000, 0, 0x4ff8]), vec![Call::store_word(0, 7)], loads(&[0])].concat();
+    assert_eq!(day(&mut unit, &calls), quiet(2, 4));
+    assert_eq!(day(&mut unit, &calls), quiet(0, 4));
+    // One page that was not held, and two that were.
+    assert_eq!(day(&mut unit, &[loads(&[0x1000]), calls].concat()), quiet(1, 4));
+    assert_eq!(day(&mut unit, &loads(&[0x1000, 0, 0x4000, 0x1008])), quiet(0, 4));
+}
+
+#[test]
+fn the_pages_of_one_path_cost_one_exit_and_depth_5_none() {
+    for depth in 1..=5 {
+        let mut unit = sixteen_frame_guest();
+        set_mark(&mut unit, 0, depth);
+        // At no depth but 0 is the table of level 1 watched: a store into it may stand in
+        // a stretch. From depth 2 on the pages of 0x200000 have the same path.
+        let calls = [loads(&[0, 0x1000]), vec![Call::store_word(0x4000, 0x7003)], loads(&[0])].concat();
+        let tables = 4u64.saturating_sub(depth);
+        assert_eq!(day(&mut unit, &calls), quiet((depth < 5) as u64, tables));
+        assert_eq!(day(&mut unit, &calls), quiet(0, tables));
+        let further = day(&mut unit, &loads(&[0x200000]));
+        assert_eq!(further, if depth == 1 { quiet(1, 4) } else { quiet(0, tables) });
+    }
+    // Two depths: 256, and 0, 0, 0, 0.
+    let mut unit = guest_with_an_upper_half();
+    set_mark(&mut unit, UPPER, 3);
+    assert_eq!(day(&mut unit, &loads(&[UPPER, 0, UPPER + 0x1000, 0])), quiet(2, 4));
+}
+
+/// "no store into a watched frame", which is judged "once the store is translated".
+#[test]
+fn a_stores_own_fill_may_end_a_stretch() {
+    // Nothing is held, so that no frame is watched before the store. Its own path reads
+    // the table it stores to: two exits for one path. The word stored to is the one
+    // that the path reads, or one that nobody reads.
+    for address in [0x4020, 0x4ff8] {
+        let mut unit = sixteen_frame_guest();
+        assert!(!unit.book().watched(11));
+        let said = day(&mut unit, &[Call::store_word(address, 0x3003)]);
+        assert_eq!(said, Day { exits: 2, paths: 1, figure: 0, tables: 0, end: Some((0, End::WatchedFrame)) });
+    }
+    // Watched by another path, and in a word that nobody reads: an exit, and no drop.
+    let mut unit = sixteen_frame_guest();
+    let said = day(&mut unit, &[loads(&[0x4000, 0]), vec![Call::store_word(0x4ff8, 1)]].concat());
+    assert_eq!(said, Day { exits: 3, paths: 2, figure: 2, tables: 4, end: Some((2, End::WatchedFrame)) });
+    assert_eq!(unit.book().held.len(), 2);
+    // A narrow store is into its frame too.
+    let said = day(&mut unit, &[Call::Store { address: 0x4fff, width: 1, value: 1 }]);
+    assert_eq!(said, Day { exits: 1, paths: 0, figure: 0, tables: 4, end: Some((0, End::WatchedFrame)) });
+}
+
+/// "paths whose shadow tables fit S with those already held"
+#[test]
+fn the_tables_already_held_count_where_paths_must_fit() {
+    let mut unit = guest_with_an_upper_half();
+    set_mark(&mut unit, UPPER, 3);
+    // The paths 256 and 0, 0, 1, 0 have four tables, and so have 256 and 0, 0, 0, 0: the
+    // paths touched would fit by themselves. All three have five. The load of 0 drops
+    // the other two, so that 256, held at the start, costs an exit again.
+    assert_eq!(day(&mut unit, &loads(&[UPPER, 0x200000])), quiet(2, 4));
+    let said = day(&mut unit, &loads(&[UPPER, 0, UPPER]));
+    assert_eq!(said, Day { exits: 2, paths: 1, figure: 0, tables: 4, end: Some((1, End::NoRoom)) });
+    // From there on they fit.
+    assert_eq!(day(&mut unit, &loads(&[UPPER, 0, UPPER])), quiet(0, 4));
+}
+
+#[test]
+fn the_tables_of_all_paths_must_fit_together() {
+    // "each 4, 1, since five tables do not fit four": three exits for two paths.
+    let mut unit = sixteen_frame_guest();
+    let said = day(&mut unit, &loads(&[0, 0x200000, 0]));
+    assert_eq!(said, Day { exits: 3, paths: 2, figure: 1, tables: 4, end: Some((1, End::NoRoom)) });
+    // One more table, and they do.
+    let mut unit = Unit::open(LEVELS, memory(16), 4, 5).unwrap();
+    for frame in 0..7 {
+        map(&mut unit, frame, 9 + frame);
+    }
+    let entries = [(0, 0x1003), (0x1000, 0x2003), (0x2000, 0x3003), (0x2008, 0x3003), (0x3000, 0x4003)];
+    for (address, entry) in entries {
+        unit.call(&Call::device_store_word(address, entry));
+    }
+    assert_eq!(day(&mut unit, &loads(&[0, 0x200000, 0])), quiet(2, 5));
+}
+
+#[test]
+fn refused_calls_and_forecasts_may_stand_in_a_stretch() {
+    let mut unit = sixteen_frame_guest();
+    set_mark(&mut unit, 0x200000, 1);
+    let nothing = [
+        Call::load_word(4),
+        Call::Load { address: 0, width: 3 },
+        Call::store_word(1 << 48, 1),
+        Call::device_store_word(4, 1),
+        Call::DeviceStore { address: 0x3000, width: 16, value: 0 },
+        Call::Root { frame: 1 << 36 },
+        Call::Map { guest: 4, host: 7, writable: true },
+        Call::Map { guest: 512, host: 8, writable: true },
+        Call::Unmap { guest: 8 },
+        Call::SetMark { address: 0x3fffff, level: 1 },
+        Call::ClearMark { address: 0, level: 5 },
+        Call::Forecast { addresses: vec![0; 257] },
+        // Its two exits are said, not paid.
+        Call::Forecast { addresses: vec![0x1000, 0x200000] },
+    ];
+    let mut calls = vec![Call::load_word(0)];
+    for call in nothing {
+        calls.extend([call, Call::load_word(0)]);
+    }
+    assert_eq!(day(&mut unit, &calls), quiet(1, 4));
+}
+
+#[test]
+fn any_other_call_ends_a_stretch() {
+    let others = [
+        (Call::Root { frame: 0 }, 0, End::OtherCall),
+        (Call::Map { guest: 4, host: 12, writable: true }, 0, End::OtherCall),
+        (Call::Unmap { guest: 7 }, 0, End::OtherCall),
+        (Call::SetMark { address: 1 << 40, level: 1 }, 0, End::OtherCall),
+        (Call::ClearMark { address: UPPER, level: 1 }, 0, End::OtherCall),
+        // Device stores: into a frame that is not watched, a watched one, and none.
+        (Call::device_store_word(0x4000, 1), 0, End::OtherCall),
+        (Call::device_store_word(0x3ff8, 1), 1, End::OtherCall),
+        (Call::device_store_word(0x8000, 1), 1, End::OtherCall),
+        // A, H and P: at depth 0 not held, each costs an exit and fills nothing.
+        (Call::load_word(0x3000), 1, End::Fault),
+        (Call::load_word(0x2000), 1, End::Fault),
+        (Call::store_word(0x1000, 1), 1, End::Fault),
+    ];
+    for (call, exits, why) in others {
+        let mut unit = sixteen_frame_guest();
+        set_mark(&mut unit, UPPER, 1);
+        let said = day(&mut unit, &[Call::load_word(0), call.clone()]);
+        let day = Day { exits: 1 + exits, paths: 1, figure: 1, tables: 4, end: Some((1, why)) };
+        assert_eq!(said, day, "{call:?}");
+    }
+}
+
 // Openings.
 
 #[test]
@@ -1118,21 +1313,23 @@ fn stores_drop_by_host_word() {
 
 // Five levels.
 
-#[test]
-fn five_levels() {
+/// Guest frame n at host frame 10 + n; frames 0 to 4 are the tables, 5 the page.
+fn five_level_guest() -> Unit {
     let mut words = memory(24);
-    // Guest frame n at host frame 10 + n; frames 0 to 4 are the tables, 5 the page.
     for frame in 0..5u64 {
         words[(10 + frame as usize) * 512] = (frame + 1) << 12 | 3;
     }
-    assert_eq!(Unit::open(5, words.clone(), 4, 5).err(), Some(2));
-    let open = || {
-        let mut unit = Unit::open(5, words.clone(), 5, 5).unwrap();
-        for frame in 0..8 {
-            assert_eq!(map(&mut unit, frame, 10 + frame), Answer::Ok);
-        }
-        unit
-    };
+    let mut unit = Unit::open(5, words, 5, 5).unwrap();
+    for frame in 0..8 {
+        assert_eq!(map(&mut unit, frame, 10 + frame), Answer::Ok);
+    }
+    unit
+}
+
+#[test]
+fn five_levels() {
+    assert_eq!(Unit::open(5, memory(24), 4, 5).err(), Some(2));
+    let open = five_level_guest;
     for depth in 0..=6 {
         let mut unit = open();
         if depth > 0 {
@@ -1192,4 +1389,20 @@ fn five_levels_end_a_lookup_at_level_6() {
     clear_mark(&mut unit, 0, 5);
     assert_eq!(lookup(&unit, &[four.clone(), None], 0x1_FFFF_FFFF_FFFF), found(4, 1));
     assert_eq!(lookup(&unit, &[None, four], 0), found(0, 1));
+}
+
+/// "What document 01 and requests 5), 6) and 8) say of 4 and 5 as depths or mark levels
+/// holds of N and N + 1": depth 5 has a path, without a table, and depth 6 has none.
+#[test]
+fn five_levels_have_no_path_at_depth_6() {
+    for depth in 0..=6 {
+        let mut unit = five_level_guest();
+        if depth > 0 {
+            set_mark(&mut unit, 0, depth);
+        }
+        let calls = [Call::load_word(0), Call::store_word(8, 1), Call::load_word(8)];
+        let tables = 5u64.saturating_sub(depth);
+        assert_eq!(day(&mut unit, &calls), quiet((depth < 6) as u64, tables));
+        assert_eq!(day(&mut unit, &calls), quiet(0, tables));
+    }
 }

@@ -1,5 +1,6 @@
 //! Random runs: the walker beside a separate plain walk over real host tables, the
-//! rules of the book checked after each call, and lookups beside a search that stops.
+//! rules of the book checked after each call, lookups beside a search that stops, and
+//! the exits of quiet stretches beside their figure.
 
 mod naive;
 
@@ -9,7 +10,8 @@ use walker::answer::{Answer, Call};
 use walker::book::{Lookup, Mark};
 use walker::events::{of_forecasts, of_halves, of_lookups, of_widths, Events};
 use walker::numbers::{address_of, page_from};
-use walker::random::{mark_run, run, Random, Run, Sizes};
+use walker::quiet::{part, Part, Stretch};
+use walker::random::{mark_run, quiet_run, run, Random, Run, Sizes};
 use walker::vectors::lines;
 use walker::Unit;
 
@@ -463,6 +465,53 @@ fn lookups_among_marks_that_come_and_go() {
             events.join(&check_run(&mark_run(seed, sizes, 600)));
         }
         assert_all_met(of_lookups(levels), &events);
+    }
+}
+
+// Quiet stretches.
+
+/// From each call on the run has a stretch, maybe of no call. As long as it goes on, its
+/// exits are its figure, and what is held is what was held and what it touched.
+fn check_stretches(run: &Run, events: &mut Events) {
+    let Sizes { levels, h, s, .. } = run.sizes;
+    let mut unit = Unit::open(levels, run.words.clone(), h, s).unwrap();
+    let mut live: Vec<(Stretch, u64)> = Vec::new();
+    for call in &run.calls {
+        live.push((Stretch::start(&unit), 0));
+        let before = unit.clone();
+        let answer = unit.call(call);
+        let Ok(part) = part(&before, call, &answer) else {
+            live.clear();
+            continue;
+        };
+        live.retain_mut(|(stretch, _)| stretch.take(&part).is_ok());
+        let exits = if part == Part::Nothing { 0 } else { answer.counts().1 };
+        for (stretch, paid) in &mut live {
+            *paid += exits;
+            assert_eq!(*paid, stretch.figure(), "{call:?}");
+            assert!(stretch.held_after().iter().eq(unit.book().held.keys()), "{call:?}");
+        }
+        if let (Part::Request { path }, true) = (&part, live.len() > 1) {
+            let depth = path.as_ref().map_or(levels + 1, |path| levels - path.len() as u32);
+            events.add(format!("stretch goes on at depth {depth}"));
+            events.add_if(exits > 0, &format!("stretch pays at depth {depth}"));
+        }
+    }
+}
+
+#[test]
+fn quiet_stretches_cost_their_figure() {
+    for levels in [4, 5] {
+        let mut events = Events::default();
+        for seed in 3000..3040 {
+            let sizes = Sizes::small(&mut Random::new(seed + 1), levels);
+            check_stretches(&quiet_run(seed, sizes, 600), &mut events);
+            check_stretches(&run(seed, sizes, 300), &mut events);
+        }
+        let on = (0..=levels + 1).map(|depth| format!("stretch goes on at depth {depth}"));
+        let pays = (0..=levels).map(|depth| format!("stretch pays at depth {depth}"));
+        assert_all_met(on.chain(pays).collect(), &events);
+        assert_eq!(events.count(&format!("stretch pays at depth {}", levels + 1)), 0);
     }
 }
 
