@@ -10,8 +10,8 @@ use lib.Dec.{eqb}
 use borrow.Author.Tests.{ne-eqb}
 use lib.ListN.{getD, length}
 use Rattle.spec.specs.Config.{Config}
-use Rattle.spec.specs.Entry.{index, indexes, frameOf}
-use Rattle.spec.specs.Bits.{isLast, hasBits, withBits, lacks, mayWrite, owed}
+use Rattle.spec.specs.Entry.{index, indexes, frameOf, dirty}
+use Rattle.spec.specs.Bits.{isLast, hasBits, withBits, lacks, mayWrite, owed, dirtyAt}
 use Rattle.spec_laws.proofs.Indexes.{indexes-step}
 use Rattle.words.specs.Words.{wordIn, setIn}
 use Rattle.host.specs.Walk.{hostWalkOf}
@@ -82,3 +82,14 @@ module _ (m ts : List ℕ) (st : Bool) (k n page : ℕ) (some-left : 0 < n) wher
 pub none-left : (ts : List ℕ) (k n page : ℕ) → n ≡ 0 → entries ts k (indexes n page) ≡ []
 unfolding indexes
 none-left ts k n page z = ap (λ j. entries ts k (indexes j page)) z
+
+-- ---- the last entry
+
+pub dirty-last : (m ts : List ℕ) (k n page : ℕ) → 0 < n
+    → dirtyAt (wordsOf m) (entries ts k (indexes n page)) ≡ dirty (wordIn m (getD ts (k + (n - 1)) 0) (index 0 page))
+unfolding indexes
+dirty-last m ts k zero page h = absurd (omega arith)
+dirty-last m ts k (suc zero) page h = let z : k + 0 ≡ k = omega arith in ap (λ j. dirty (wordIn m (getD ts j 0) (index 0 page))) (sym z)
+dirty-last m ts k (suc (suc n)) page h =
+    let z : k + 1 + (suc n - 1) ≡ k + (suc (suc n) - 1) = omega arith in
+    dirty-last m ts (k + 1) (suc n) page (omega arith) ∙ ap (λ j. dirty (wordIn m (getD ts j 0) (index 0 page))) z

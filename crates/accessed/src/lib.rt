@@ -5,7 +5,7 @@ ghost use mathlib.Core.Bool.{_&&_, _||_};
 ghost use Prim.Native.Nat.{_≤_};
 ghost use lib.Dec.{eqb};
 ghost use Rattle.spec.specs.Entry.{indexes};
-ghost use Rattle.spec.specs.Bits.{hasBits, lacks, mayWrite};
+ghost use Rattle.spec.specs.Bits.{hasBits, lacks, mayWrite, dirtyAt};
 ghost use Rattle.host.specs.Walk.{hostWalkOf};
 ghost use Rattle.walk.specs.Memory.{placeOf};
 ghost use Rattle.layout.specs.Layout.{LayoutFits, config};
@@ -120,4 +120,16 @@ pub fn set_bits(mem: &mut [u64], store: bool, page: u64, steps: u64, tables: &[u
         );
         depth += 1;
     }
+}
+
+// Is the last of the entries dirty? Where there is none nothing is asked.
+pub fn last_dirty(mem: &[u64], page: u64, steps: u64, tables: &[u64; 8]) -> bool
+    requires { ⌜ (steps ≤ 8) × (Frames (now tables)) ⌝ }
+    ensures { λ r. ⌜ r ≡ dirtyAt (wordsOf (now (mem .entry))) (entries (now (tables .entry)) 0 (indexes steps page)) ⌝ }
+{
+    if steps == 0 {
+        return true;
+    }
+    let i = entry::index_of(page, 0) as u64;
+    entry::dirty(words::word_in(mem, tables[steps as usize - 1], i))
 }
