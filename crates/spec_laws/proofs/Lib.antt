@@ -2,6 +2,7 @@ pub mod Lists
 pub mod Indexes
 pub mod Bind
 pub mod Bytes
+pub mod EntryBits
 pub mod Local
 pub mod Distinct
 pub mod Parts
