@@ -4,6 +4,7 @@ pub mod Bind
 pub mod Bytes
 pub mod EntryBits
 pub mod Local
+pub mod Ignored
 pub mod Distinct
 pub mod Parts
 pub mod Granted
