@@ -15,6 +15,7 @@ pub mod Runs
 pub mod Asks
 pub mod Trail
 pub mod Keeps
+pub mod SetBits
 pub mod Added
 pub mod Members
 pub mod Price
