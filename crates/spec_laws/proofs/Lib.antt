@@ -2,6 +2,7 @@ pub mod Lists
 pub mod Indexes
 pub mod Bind
 pub mod Bytes
+pub mod Before
 pub mod EntryBits
 pub mod Local
 pub mod Ignored
