@@ -7,6 +7,9 @@ pub mod EntryBits
 pub mod Local
 pub mod Ignored
 pub mod Distinct
+pub mod Added
+pub mod Members
+pub mod Refill
 pub mod Parts
 pub mod Granted
 pub mod Counts
@@ -17,8 +20,6 @@ pub mod Asks
 pub mod Trail
 pub mod Keeps
 pub mod SetBits
-pub mod Added
-pub mod Members
 pub mod Price
 pub mod Forecast
 pub mod Quiet
