@@ -4,27 +4,27 @@ use mathlib.Core.Path.{_≡_, refl, sym, ap, _∙_, subst}
 use mathlib.Core.Logic.{_≢_, _⊎_, inl, inr}
 use Prim.Native.Nat.{ℕ, _+_, _*_, _-_, _%_, _^_, _<_, _≤_}
 use native.Mathlib.Omega.{arith}
-use mathlib.Core.Bool.{Bool, true, false, not, _&&_, _||_, cond, and-true, and-false}
+use mathlib.Core.Bool.{Bool, true, false, not, _&&_, _||_, cond, and-true, and-false, false≢true}
 use mathlib.Core.List.{List, [], _∷_}
 use mathlib.Core.Option.{some}
 use borrow.Author.Tests.{eqb-true, not-false}
 use lib.Dec.{T, eqb, eqb→eq, eqb-refl}
 use lib.ListN.{length}
-use lib.Seq.{getD-set-other}
+use lib.Seq.{getD-set-other, length-take-le}
 use lib.Arith.{digits-mod}
 use Rattle.spec.specs.declared.Fault.{Fault}
 use Rattle.spec.specs.Config.{Config, guestBase, frameBits}
 use Rattle.spec.specs.Entry.{pageOf}
 use Rattle.spec.specs.Walk.{World, Trace, Result, granted, trace}
-use Rattle.spec.specs.Plain.{Place, walk}
+use Rattle.spec.specs.Plain.{Place, walk, upper}
 use Rattle.spec.specs.Machine.{Machine, Mapping, hostCost, world, place, wordIn, stored, remapped, lookup, with, without}
 use Rattle.spec.specs.Bits.{dirtyAt}
 use Rattle.spec.specs.Book.{Held, readsWord, readsFrame, dropWord, watched, usesMapping}
 use Rattle.spec.specs.Call.{addressIndexes, plain}
 use Rattle.spec.specs.Count.{heldBy, rightOf}
 use Rattle.spec.specs.Prefix.{All, any}
-use Rattle.spec_laws.proofs.Lists.{all-map, all-any, all-both, keep-all, none-passes, is-true, both, not-both, and-first, and-second, or-first, not-eqb}
-use Rattle.spec_laws.proofs.Indexes.{indexes-all}
+use Rattle.spec_laws.proofs.Lists.{all-map, all-take, all-any, all-both, keep-all, none-passes, is-true, both, not-both, and-first, and-second, or-first, not-eqb}
+use Rattle.spec_laws.proofs.Indexes.{indexes-length, indexes-all}
 use Rattle.spec_laws.proofs.Local.{Seen, seen, local-seen, SameMapping, SameWord}
 use Rattle.spec_laws.proofs.EntryBits.{AlikeWord}
 use Rattle.spec_laws.proofs.Ignored.{AlikeWorld, walk-alike}
@@ -62,6 +62,16 @@ pub held-place : (c : Config) (m : Machine) (h : Held) (v : Valid c m h) (st : B
     → r ≡ (v .frame, v .wide)
 held-place c m h v st r e =
     granted-is r (v .frame, v .wide) (sym (ap (λ (x : Seen Fault Place). x .result) (sees c m st (h .path) r e)) ∙ ap (λ (x : Seen Fault Place). x .result) (v .comes))
+
+-- it lets no store pass that the walk does not, and lets those pass that the walk does: with bits off, and below depth 0
+pub right-wide : (c : Config) (m : Machine) (h : Held) (v : Valid c m h) → h .right ≡ true → v .wide ≡ true
+right-wide c m h v e = elim (v .right) [ inl k ↦ sym k ∙ e | inr k ↦ absurd (false≢true (sym (k .0) ∙ e)) ]
+
+pub right-off : (c : Config) (m : Machine) (h : Held) (v : Valid c m h) → c .bits ≡ false → h .right ≡ v .wide
+right-off c m h v off = elim (v .right) [ inl k ↦ k | inr k ↦ absurd (false≢true (sym off ∙ k .2)) ]
+
+pub right-deep : (c : Config) (m : Machine) (h : Held) (v : Valid c m h) → length (h .path) ≢ c .levels → h .right ≡ v .wide
+right-deep c m h v deep = elim (v .right) [ inl k ↦ k | inr k ↦ absurd (deep (k .1)) ]
 
 -- and it stays valid on each machine on which its shadow part comes to the same
 pub valid-again : (c : Config) (m n : Machine) (h : Held) → Valid c m h → again c n (h .path) ≡ again c m (h .path) → Valid c n h
@@ -189,6 +199,13 @@ alike-keeps c m n h r alike va =
     ∙ ap (λ (x : Trace Fault Place). as-seen (x .result) x) (walk-alike (world c m) (world c n) alike c false (m .root) (h .path)))
 
 -- ---- a fill
+
+-- the path of an address at depth d
+pub upper-small : (c : Config) (d a : ℕ) → All (λ i. i < 512) (upper c d (addressIndexes c a))
+upper-small c d a = all-take (λ i. i < 512) (c .levels - d) (addressIndexes c a) (indexes-all (c .levels) (pageOf a))
+
+pub upper-long : (c : Config) (d a : ℕ) → length (upper c d (addressIndexes c a)) ≡ c .levels - d
+upper-long c d a = length-take-le (c .levels - d) (addressIndexes c a) (omega (arith, indexes-length (c .levels) (pageOf a)))
 
 -- what a granted shadow part fills, a store's too, is valid: with bits on a load may fill a path that forbids stores
 pub fill-valid : (c : Config) (m : Machine) (st : Bool) (d : ℕ) (p : List ℕ) (r : Place) → All (λ i. i < 512) p → length p ≡ c .levels - d
