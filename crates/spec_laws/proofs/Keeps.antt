@@ -101,7 +101,7 @@ plain-in c m st a r mi b h = shadow-asked c m st (addressIndexes c a) mi b (inde
 -- ---- a store
 
 -- the tests that fail on two numbers: one of them differs
-differ : (t i u j : ℕ) → T (not (eqb t u && eqb i j)) → t ≡ u → i ≡ j → ⊥
+pub differ : (t i u j : ℕ) → T (not (eqb t u && eqb i j)) → t ≡ u → i ≡ j → ⊥
 differ t i u j h p q =
     not-both (eqb t u && eqb i j) (both (eqb t u) (eqb i j) (subst (λ x. T (eqb t x)) p (eqb-refl t)) (subst (λ x. T (eqb i x)) q (eqb-refl i))) h
 

@@ -20,6 +20,7 @@ pub mod Asks
 pub mod Trail
 pub mod Keeps
 pub mod SetBits
+pub mod Covered
 pub mod Price
 pub mod Forecast
 pub mod Quiet

@@ -13,7 +13,7 @@ use Rattle.spec.specs.Config.{Config}
 use Rattle.spec.specs.Prefix.{All, any, keep, same}
 use Rattle.spec.specs.Book.{Held, find, paths, shadowTables, fill}
 use Rattle.spec.specs.Count.{others}
-use Rattle.spec_laws.proofs.Lists.{all-map, all-keep, same-is, is-true}
+use Rattle.spec_laws.proofs.Lists.{all-kept, same-is}
 use Rattle.spec_laws.proofs.Indexes.{same-sym}
 use Rattle.spec_laws.proofs.Distinct.{without, kept-any}
 use Rattle.spec_laws.proofs.Members.{SamePaths, tables-same}
@@ -27,7 +27,7 @@ pub others-all : (P : Held → Type 0) (c : Config) (p : List ℕ) (hs : List He
 others-all P c p hs a = go (c .bits)
   where
     go : (b : Bool) → All P (cond b (keep (besides p) hs) hs)
-    go true = all-map (λ h. P h × T (besides p h)) P (keep (besides p) hs) (λ h k. k .0) (all-keep P (besides p) hs a)
+    go true = all-kept P (besides p) hs a
     go false = a
 
 -- each is found as before

@@ -25,7 +25,7 @@ use Rattle.spec.specs.Count.{Counted, serves, heldBy, isGranted, rightOf, other
 use Rattle.spec.specs.Refusal.{firstFailed, levelFits, tests, refusal}
 use Rattle.spec.specs.Run.{State, answered, step, after, opened}
 use Rattle.spec.specs.Prefix.{All}
-use Rattle.spec_laws.proofs.Lists.{all-map, all-keep, not-both, same-is, and-right, or-second}
+use Rattle.spec_laws.proofs.Lists.{all-map, all-keep, all-kept, not-both, same-is, and-right, or-second}
 use Rattle.spec_laws.proofs.Parts.{direct-result}
 use Rattle.spec_laws.proofs.Refill.{others-all}
 use Rattle.spec_laws.proofs.Counts.{request-count}
@@ -50,11 +50,7 @@ HeldFits c ms h = PathFits (c .levels) ms (h .path)
 
 -- fewer held paths
 pub kept-fits : (c : Config) (b : Book) (f : Held → Bool) → BookFits c b → BookFits c (holding b (keep f (b .held)))
-kept-fits c b f i = record {
-  marks = i .marks;
-  held = all-map (λ h. HeldFits c (b .marks) h × T (f h)) (HeldFits c (b .marks)) (keep f (b .held)) (λ h k. k .0)
-      (all-keep (HeldFits c (b .marks)) f (b .held) (i .held));
-}
+kept-fits c b f i = record { marks = i .marks; held = all-kept (HeldFits c (b .marks)) f (b .held) (i .held) }
 
 mark-fits : (c : Config) (n a : ℕ) → T (levelFits c n) → MarkFits (c .levels) (markAt c n (addressIndexes c a))
 mark-fits c n a h =
@@ -77,8 +73,7 @@ not-not false h = h
 clear-keeps : (c : Config) (b : Book) (m : Mark) → BookFits c b
     → BookFits c (record { marks = keep (λ y. not (sameMark m y)) (b .marks); held = dropPrefix (m .prefix) (b .held) })
 clear-keeps c b m i = record {
-  marks = all-map (λ y. MarkFits (c .levels) y × T (not (sameMark m y))) (MarkFits (c .levels)) (keep (λ y. not (sameMark m y)) (b .marks)) (λ y k. k .0)
-      (all-keep (MarkFits (c .levels)) (λ y. not (sameMark m y)) (b .marks) (i .marks));
+  marks = all-kept (MarkFits (c .levels)) (λ y. not (sameMark m y)) (b .marks) (i .marks);
   held = all-map (λ h. HeldFits c (b .marks) h × T (not (begins (m .prefix) (h .path)))) (HeldFits c (keep (λ y. not (sameMark m y)) (b .marks)))
       (dropPrefix (m .prefix) (b .held))
       (λ h k. clear-fits (c .levels) (b .marks) (h .path) (k .0) (λ y. not (sameMark m y)) (i .marks)
