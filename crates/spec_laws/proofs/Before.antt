@@ -75,7 +75,7 @@ machineBefore c (forecast xs) m = machineStep c (forecast xs) m
 
 -- ---- the machine
 
-off-owes : (c : Config) (w : World) (st : Bool) (r : Trace Fault Place) → c .bits ≡ false → owes c w st r ≡ none
+pub off-owes : (c : Config) (w : World) (st : Bool) (r : Trace Fault Place) → c .bits ≡ false → owes c w st r ≡ none
 unfolding owes
 off-owes c w st r off = ap (λ b. cond b (owed w st (r .reads) (r .uses)) none) off
 
@@ -121,7 +121,7 @@ off-machine c x m off = go x
 
 -- ---- the book
 
-late-none : (d : ℕ) (x : Result Fault Place) → lateExit d none x ≡ hostExit x
+pub late-none : (d : ℕ) (x : Result Fault Place) → lateExit d none x ≡ hostExit x
 late-none d (failed x) = refl
 late-none d (granted p) = refl
 

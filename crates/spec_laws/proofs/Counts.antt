@@ -7,7 +7,7 @@ use mathlib.Core.Bool.{Bool, true, false, not, _&&_, cond, and-false}
 use mathlib.Core.List.{List, [], _∷_}
 use mathlib.Core.Option.{Option, none, some}
 use lib.Dec.{T, leb, leb→le, nleb→lt}
-use lib.ListN.{length, length-drop}
+use lib.ListN.{length, drop, length-drop}
 use Rattle.spec.specs.declared.Fault.{Fault}
 use Rattle.spec.specs.Config.{Config}
 use Rattle.spec.specs.Entry.{pageOf}
@@ -43,6 +43,15 @@ levels-count w k cost c st n t v (i ∷ is) r h =
     let f = cost _ _ (l .found) in
     omega arith
 
+-- one of the guest words for each index
+pub levels-reads : (w : World) (c : Config) (st : Bool) (n t : ℕ) (v : Bool) (is : List ℕ) (r : Place)
+    → (trace w (levels c st n t v is)) .result ≡ granted r → length ((trace w (levels c st n t v is)) .reads) ≡ length is
+unfolding levels trace
+levels-reads w c st n t v [] r h = refl
+levels-reads w c st n t v (i ∷ is) r h =
+    let l = level-granted w c st n t v i is r h in
+    ap (λ (x : Trace Fault Place). length (x .reads)) (l .whole) ∙ ap suc (levels-reads w c st (pred n) (l .at .0) (l .at .1) is r (l .next))
+
 walk-count : (w : World) (k : ℕ) → EachCosts w k → (c : Config) (st : Bool) (root : ℕ) (is : List ℕ) (r : Place)
     → (trace w (walk c st root is)) .result ≡ granted r → (trace w (walk c st root is)) .count ≡ length is + k * suc (length is)
 unfolding walk
@@ -77,15 +86,17 @@ shadow-granted c m st a d r b h =
     let t = through (world c m) (shadowPart c st d (m .root) is) (λ q. directPart c st d q is) r (subst (λ p. (trace (world c m) p) .result ≡ granted r) e h) in
     record { at = t .mid; comes = t .first; next = t .next }
 
--- a granted direct part from level d
+-- a direct part from level d has d indexes
+pub lower-long : (c : Config) (d a : ℕ) → d ≤ c .levels → length (drop (c .levels - d) (addressIndexes c a)) ≡ d
+lower-long c d a b = length-drop (c .levels - d) (addressIndexes c a) ∙ ap (λ n. n - (c .levels - d)) (indexes-length (c .levels) (pageOf a)) ∙ omega arith
+
+-- and if it is granted
 direct-count : (c : Config) (m : Machine) (st : Bool) (a d : ℕ) (at r : Place) → d ≤ c .levels
     → (trace (world c m) (directPart c st d at (addressIndexes c a))) .result ≡ granted r
     → (trace (world c m) (directPart c st d at (addressIndexes c a))) .count ≡ d * suc (c .levels)
 direct-count c m st a d at r b h =
-    let is = addressIndexes c a in
     let e = levels-count (world c m) (c .levels) (mapped-cost c m) c st d (at .0) (at .1) _ r h in
-    let l : length is - (c .levels - d) ≡ d = ap (λ n. n - (c .levels - d)) (indexes-length (c .levels) (pageOf a)) ∙ omega arith in
-    e ∙ ap (λ n. n * suc (c .levels)) (length-drop (c .levels - d) is ∙ l)
+    e ∙ ap (λ n. n * suc (c .levels)) (lower-long c d a b)
 
 -- what a request owes is judged past its walk, which is granted too
 pub verdict-granted : (c : Config) (m : Machine) (st : Bool) (a : ℕ) (r : Place) → verdict c m st a ≡ granted r → (plain c m st a) .result ≡ granted r

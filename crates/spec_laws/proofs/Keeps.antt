@@ -38,7 +38,7 @@ again c m p = seen (world c m) (walk c false (m .root) p)
 abbrev pub booked : ℕ → Bool → Held → Seen Fault Place
 booked f w h = record { result = granted (f, w); reads = h .reads; uses = h .uses }
 
-abbrev as-seen : Result Fault Place → Trace Fault Place → Seen Fault Place
+abbrev pub as-seen : Result Fault Place → Trace Fault Place → Seen Fault Place
 as-seen x r = record { result = x; reads = r .reads; uses = r .uses }
 
 -- a granted walk, a store's too, is one that a load makes

@@ -21,6 +21,7 @@ pub mod Trail
 pub mod Keeps
 pub mod SetBits
 pub mod Covered
+pub mod Served
 pub mod Price
 pub mod Forecast
 pub mod Quiet
