@@ -79,11 +79,18 @@ shadow-fault w c st d root is x l b h =
     let e = parts-trace w c st d root is l b ∙ ap (λ y. onto y (s .count) (s .reads) (s .uses) (λ r. trace w (directPart c st d r is))) h in
     (ap (λ (t : Trace Fault Place). t .result) e, ap (λ (t : Trace Fault Place). t .count) e)
 
+-- the whole trace past a granted shadow part
+pub direct-trace : (w : World) (c : Config) (st : Bool) (d root : ℕ) (is : List ℕ) (r : Place) → length is ≡ c .levels → d ≤ c .levels
+    → let s = trace w (shadowPart c st d root is) in
+    s .result ≡ granted r → trace w (walk c st root is) ≡ more (s .count) (s .reads) (s .uses) (trace w (directPart c st d r is))
+direct-trace w c st d root is r l b h =
+    let s = trace w (shadowPart c st d root is) in
+    parts-trace w c st d root is l b ∙ ap (λ y. onto y (s .count) (s .reads) (s .uses) (λ q. trace w (directPart c st d q is))) h
+
 pub direct-result : (w : World) (c : Config) (st : Bool) (d root : ℕ) (is : List ℕ) (r : Place) → length is ≡ c .levels → d ≤ c .levels
     → (trace w (shadowPart c st d root is)) .result ≡ granted r
     → ((trace w (walk c st root is)) .result ≡ (trace w (directPart c st d r is)) .result)
     × ((trace w (walk c st root is)) .count ≡ (trace w (shadowPart c st d root is)) .count + (trace w (directPart c st d r is)) .count)
 direct-result w c st d root is r l b h =
-    let s = trace w (shadowPart c st d root is) in
-    let e = parts-trace w c st d root is l b ∙ ap (λ y. onto y (s .count) (s .reads) (s .uses) (λ q. trace w (directPart c st d q is))) h in
+    let e = direct-trace w c st d root is r l b h in
     (ap (λ (t : Trace Fault Place). t .result) e, ap (λ (t : Trace Fault Place). t .count) e)
