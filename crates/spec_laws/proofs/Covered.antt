@@ -8,18 +8,18 @@ use mathlib.Core.Bool.{Bool, true, false, not, _&&_, _||_, false≢true}
 use mathlib.Core.List.{List, [], _∷_, _++_}
 use mathlib.Core.Option.{Option, none, some}
 use lib.Dec.{T, eqb}
-use lib.ListN.{length, length-set}
+use lib.ListN.{length}
 use lib.Seq.{getD-set-other, take-all}
 use Rattle.spec.specs.declared.Fault.{Fault}
 use Rattle.spec.specs.declared.Fault.the-variants.{HostReadOnly}
 use Rattle.spec.specs.Config.{Config, guestBase, frameBits}
-use Rattle.spec.specs.Entry.{accessed, dirty, pageOf, wordOf}
+use Rattle.spec.specs.Entry.{accessed, pageOf, wordOf}
 use Rattle.spec.specs.Prefix.{All, begins}
-use Rattle.spec.specs.Walk.{Walk, done, _>>_, World, Trace, Result, granted, failed, trace}
-use Rattle.spec.specs.Plain.{Place, must, hosted, upper, shadowPart, directPart, walk}
+use Rattle.spec.specs.Walk.{done, _>>_, World, Trace, Result, granted, failed, trace}
+use Rattle.spec.specs.Plain.{Place, must, hosted, upper, walk}
 use Rattle.spec.specs.Machine.{Machine, Mapping, world, place, wordIn, stored, remapped, lookup, with, without}
 use Rattle.spec.specs.Bits.{lacks, dirtyAt, bitsSet}
-use Rattle.spec.specs.Book.{Held, Book, markAt, depth, holding, readsWord, usesMapping, dropMapping, dropWord}
+use Rattle.spec.specs.Book.{Held, Book, markAt, depth, readsWord, usesMapping, dropMapping, dropWord}
 use Rattle.spec.specs.Call.{Call, root, map, unmap, setMark, clearMark, load, store, device, forecast, addressIndexes, plain, verdict, deviceWalk, access, machineStep}
 use Rattle.spec.specs.Count.{Counted, isGranted, heldBy, rightOf, others, request, storing, bookStep, unshadowed}
 use Rattle.spec.specs.Refusal.{refusal}

@@ -5,12 +5,12 @@ use mathlib.Core.Path.{_≡_, refl, sym, ap, ap₂, _∙_, subst}
 use Prim.Native.Nat.{ℕ, zero, suc, _+_, _-_, _<_, _≤_}
 use native.Mathlib.Nat.{zero-add}
 use native.Mathlib.Omega.{arith}
-use mathlib.Core.Bool.{Bool, true, false, not, _&&_, _||_, cond, and-true, and-false, false≢true}
+use mathlib.Core.Bool.{Bool, true, false, not, _&&_, _||_, cond, and-true, and-false}
 use mathlib.Core.List.{List, [], _∷_, _++_, append-nil}
 use mathlib.Core.Option.{Option, none, some}
 use borrow.Author.Tests.{eqb-true, le-leb}
-use lib.Dec.{eqb, eqb·suc-zero, leb}
-use lib.ListN.{length, drop, length-drop}
+use lib.Dec.{eqb, eqb·suc-zero}
+use lib.ListN.{length, drop}
 use Rattle.spec.specs.declared.Fault.{Fault}
 use Rattle.spec.specs.Config.{Config}
 use Rattle.spec.specs.Entry.{accessed, dirty, pageOf}
@@ -21,7 +21,7 @@ use Rattle.spec.specs.Machine.{Machine, world}
 use Rattle.spec.specs.Bits.{hasBits, isLast, lacks, mayWrite, owed, owes, judged, dirtyAt, bitsSet}
 use Rattle.spec.specs.Book.{Held, Book, find}
 use Rattle.spec.specs.Call.{addressIndexes, plain, verdict}
-use Rattle.spec.specs.Count.{Counted, one, hostExit, isGranted, serves, lateExit, arrived, shadowed, unshadowed, request}
+use Rattle.spec.specs.Count.{one, hostExit, isGranted, serves, lateExit, shadowed, unshadowed, request}
 use Rattle.spec_laws.proofs.Lists.{by-cases, and-first, and-second}
 use Rattle.spec_laws.proofs.Indexes.{indexes-length}
 use Rattle.spec_laws.proofs.Local.{Seen}

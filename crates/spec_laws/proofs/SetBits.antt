@@ -2,10 +2,10 @@
 -- walk without those that it needs; where none lacks one, it changes nothing.
 -- Assumes nothing.
 use mathlib.Core.Path.{_≡_, refl, sym, ap, ap₂, _∙_, subst}
-use Prim.Native.Nat.{ℕ, suc, _+_, _*_, _-_, _<_, _≤_}
-use mathlib.Core.Bool.{Bool, true, false, not, _&&_, _||_, cond, or-false, false≢true}
+use Prim.Native.Nat.{ℕ, suc, _-_, _<_}
+use mathlib.Core.Bool.{Bool, true, false, not, _&&_, _||_, cond, or-false}
 use mathlib.Core.List.{List, [], _∷_}
-use mathlib.Core.Option.{Option, none, some}
+use mathlib.Core.Option.{none, some}
 use borrow.Author.Tests.{eqb-true, eqb-false, ltb-true, ltb-false, not-false}
 use lib.Dec.{eqb, ltb}
 use lib.ListN.{length, getD, set, length-set}
@@ -16,7 +16,7 @@ use Rattle.spec.specs.Entry.{accessed, dirty}
 use Rattle.spec.specs.Prefix.{All}
 use Rattle.spec.specs.Walk.{World, Trace}
 use Rattle.spec.specs.Plain.{Place}
-use Rattle.spec.specs.Machine.{Machine, Mapping, place, wordIn, stored, world}
+use Rattle.spec.specs.Machine.{Machine, place, wordIn, stored, world}
 use Rattle.spec.specs.Bits.{hasBits, withBits, isLast, lacks, mayWrite, owed, owes, dirtyAt, setBits, bitsSet}
 use Rattle.spec.specs.Book.{Held}
 use Rattle.spec_laws.proofs.Lists.{and-first, and-second, or-first, or-second}
