@@ -81,14 +81,14 @@ pub record MachineFits (c : Config) (m : Machine) : Type 0 where
   pub root : m .root < 2 ^ frameBits c
   pub long : length (m .area) ≡ (c .frames - guestBase c) * 512
 
-more-fits : (c : Config) (m n : Machine) → MoreBits c m n → MachineFits c m → MachineFits c n
+pub more-fits : (c : Config) (m n : Machine) → MoreBits c m n → MachineFits c m → MachineFits c n
 more-fits c m n a f = record {
   mapped = λ g. subst (λ xs. AnswerIn (InArea c) (lookup g xs)) (sym (a .mappings)) (f .mapped g);
   root = subst (λ r. r < 2 ^ frameBits c) (sym (a .root)) (f .root);
   long = a .long ∙ f .long;
 }
 
-abbrev WordIn : Config → ℕ × ℕ → Type 0
+abbrev pub WordIn : Config → ℕ × ℕ → Type 0
 WordIn c x = InArea c (x .0) × (x .1 < 512)
 
 placed : (c : Config) (m : Machine) (x : ℕ × ℕ) → MachineFits c m → WordIn c x → Placed c m x
@@ -173,7 +173,7 @@ module _ (c : Config) (m : Machine) (st : Bool) (a d : ℕ) (r : Place) (f : Mac
   }
 
 -- the machine on which a request leaves its word to be used, by its verdict
-abbrev left : Machine → Machine → Result Fault Place → Machine
+abbrev pub left : Machine → Machine → Result Fault Place → Machine
 left m n (failed x) = m
 left m n (granted p) = n
 

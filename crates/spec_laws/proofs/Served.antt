@@ -38,7 +38,7 @@ use Rattle.spec_laws.proofs.Covered.{Covered}
 
 module _ (w : World) (st : Bool) where
   -- has each entry bit 5?
-  abbrev Accessed : List (ℕ × ℕ) → Type 0
+  abbrev pub Accessed : List (ℕ × ℕ) → Type 0
   Accessed xs = All (λ x. accessed (w .wordAt (x .0) (x .1)) ≡ true) xs
 
   -- then it has all that it needs where another comes after it
