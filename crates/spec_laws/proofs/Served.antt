@@ -37,7 +37,7 @@ use Rattle.spec_laws.proofs.Covered.{Covered}
 -- ---- entries, and others after them
 
 module _ (w : World) (st : Bool) where
-  -- has each entry bit 5?
+  -- each entry has bit 5
   abbrev pub Accessed : List (ℕ × ℕ) → Type 0
   Accessed xs = All (λ x. accessed (w .wordAt (x .0) (x .1)) ≡ true) xs
 

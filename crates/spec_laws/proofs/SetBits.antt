@@ -95,7 +95,7 @@ bits-keep c st m r h v = more-keep c m (bitsSet c st m r) h (bits-more c st m r)
 
 -- ---- entries that lack none of their bits
 
--- has each bit 5, and where a store's walk ends the last bit 6?
+-- each has bit 5, and the last bit 6 where a store's walk ends at it
 pub lacks-five : (w : World) (st : Bool) (xs : List (ℕ × ℕ)) → lacks w st xs ≡ false → All (λ x. accessed (w .wordAt (x .0) (x .1)) ≡ true) xs
 unfolding lacks
 lacks-five w st [] h = tt
