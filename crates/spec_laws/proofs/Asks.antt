@@ -14,8 +14,8 @@ use Rattle.spec.specs.declared.Fault.{Fault}
 use Rattle.spec.specs.declared.Fault.the-variants.{Absent, Malformed, Protected, HostAbsent, HostReadOnly}
 use Rattle.spec.specs.Config.{Config, frameBits}
 use Rattle.spec.specs.Entry.{present, writable, frameOf, malformed}
-use Rattle.spec.specs.Walk.{Walk, done, fail, host, word, _>>=_, _>>_, World, Trace, Result, granted, failed, trace}
-use Rattle.spec.specs.Plain.{Place, must, mapped, hosted, entry, next, levels, walk}
+use Rattle.spec.specs.Walk.{Walk, done, fail, host, word, _>>=_, _>>_, World, Trace, granted, failed, trace}
+use Rattle.spec.specs.Plain.{Place, must, hosted, entry, next, levels, walk}
 use Rattle.spec.specs.Prefix.{All}
 use Rattle.spec_laws.proofs.Lists.{or-first}
 use Rattle.spec_laws.proofs.Granted.{no-grant, granted-is, failed-is}

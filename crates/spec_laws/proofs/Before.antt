@@ -144,28 +144,21 @@ off-arrived c m b st d is p held s r off i = record {
     right true = ap (λ x. not (x && eqb d 0) || st || dirtyAt (world c m) (s .reads)) off
     right false = refl
 
+off-shadowed : (c : Config) (m : Machine) (b : Book) (st : Bool) (d : ℕ) (is p : List ℕ) (held : Bool) (o : Option (ℕ × ℕ)) (s : Trace Fault Place) (x : Result Fault Place)
+    → o ≡ none → c .bits ≡ false → shadowed c (world c m) b st d is p held o s x ≡ shadowedBefore c m b st d is p held s x
+off-shadowed c m b st d is p held o s (failed x) e off = refl
+off-shadowed c m b st d is p held o s (granted r) e off =
+    ap (arrived c (world c m) b st d p held s r (trace (world c m) (directPart c st d r is))) e ∙ off-arrived c m b st d is p held s r off
+
 pub off-request : (c : Config) (m : Machine) (b : Book) (st : Bool) (a d : ℕ) → c .bits ≡ false → request c m b st a d ≡ requestBefore c m b st a d
 unfolding request requestBefore
 off-request c m b st a d off =
+    let is = addressIndexes c a in
+    let s : Trace Fault Place = trace (world c m) (shadowPart c st d (m .root) is) in
     ap₂ (cond (leb d (c .levels)))
-    (ap (λ o. shadowed c (world c m) b st d is p held o s (s .result)) (off-owes c (world c m) st (plain c m st a) off) ∙ part (s .result))
+    (off-shadowed c m b st d is (upper c d is) (serves st d (find (upper c d is) (b .held))) (owes c (world c m) st (plain c m st a)) s (s .result)
+    (off-owes c (world c m) st (plain c m st a) off) off)
     (ap (unshadowed b ((plain c m st a) .count)) (off-verdict c m st a off))
-  where
-    is : List ℕ
-    is = addressIndexes c a
-
-    p : List ℕ
-    p = upper c d is
-
-    held : Bool
-    held = serves st d (find p (b .held))
-
-    s : Trace Fault Place
-    s = trace (world c m) (shadowPart c st d (m .root) is)
-
-    part : (x : Result Fault Place) → shadowed c (world c m) b st d is p held none s x ≡ shadowedBefore c m b st d is p held s x
-    part (failed x) = refl
-    part (granted r) = off-arrived c m b st d is p held s r off
 
 pub off-book : (c : Config) (x : Call) (m : Machine) (b : Book) → c .bits ≡ false → bookStep c x m b ≡ bookBefore c x m b
 unfolding bookStep bookBefore

@@ -72,11 +72,18 @@ plain-count c m st a r h =
     let e = walk-count (world c m) (c .levels) (mapped-cost c m) c st (m .root) is r h in
     e ∙ ap (λ n. n + c .levels * suc n) (indexes-length (c .levels) (pageOf a))
 
+-- the shadow part of a request at depth d, and its direct part from r on
+abbrev pub shadowOf : Config → Machine → Bool → ℕ → ℕ → Trace Fault Place
+shadowOf c m st a d = trace (world c m) (shadowPart c st d (m .root) (addressIndexes c a))
+
+abbrev pub directOf : Config → Machine → Bool → ℕ → ℕ → Place → Trace Fault Place
+directOf c m st a d r = trace (world c m) (directPart c st d r (addressIndexes c a))
+
 -- where a granted request's shadow part arrived
 pub record Shadow (c : Config) (m : Machine) (st : Bool) (a d : ℕ) (r : Place) : Type 0 where
   pub at : Place
-  pub comes : (trace (world c m) (shadowPart c st d (m .root) (addressIndexes c a))) .result ≡ granted at
-  pub next : (trace (world c m) (directPart c st d at (addressIndexes c a))) .result ≡ granted r
+  pub comes : (shadowOf c m st a d) .result ≡ granted at
+  pub next : (directOf c m st a d at) .result ≡ granted r
 
 pub shadow-granted : (c : Config) (m : Machine) (st : Bool) (a d : ℕ) (r : Place) → d ≤ c .levels → (plain c m st a) .result ≡ granted r → Shadow c m st a d r
 unfolding plain
@@ -92,8 +99,7 @@ lower-long c d a b = length-drop (c .levels - d) (addressIndexes c a) ∙ ap (λ
 
 -- and if it is granted
 direct-count : (c : Config) (m : Machine) (st : Bool) (a d : ℕ) (at r : Place) → d ≤ c .levels
-    → (trace (world c m) (directPart c st d at (addressIndexes c a))) .result ≡ granted r
-    → (trace (world c m) (directPart c st d at (addressIndexes c a))) .count ≡ d * suc (c .levels)
+    → (directOf c m st a d at) .result ≡ granted r → (directOf c m st a d at) .count ≡ d * suc (c .levels)
 direct-count c m st a d at r b h =
     let e = levels-count (world c m) (c .levels) (mapped-cost c m) c st d (at .0) (at .1) _ r h in
     e ∙ ap (λ n. n * suc (c .levels)) (lower-long c d a b)

@@ -8,18 +8,18 @@ use mathlib.Core.Bool.{Bool, true, false, not, _&&_, _||_, false≢true}
 use mathlib.Core.List.{List, [], _∷_, _++_}
 use mathlib.Core.Option.{Option, none, some}
 use lib.Dec.{T, eqb}
-use lib.ListN.{length, length-set}
+use lib.ListN.{length}
 use lib.Seq.{getD-set-other, take-all}
 use Rattle.spec.specs.declared.Fault.{Fault}
 use Rattle.spec.specs.declared.Fault.the-variants.{HostReadOnly}
 use Rattle.spec.specs.Config.{Config, guestBase, frameBits}
-use Rattle.spec.specs.Entry.{accessed, dirty, pageOf, wordOf}
+use Rattle.spec.specs.Entry.{accessed, pageOf, wordOf}
 use Rattle.spec.specs.Prefix.{All, begins}
-use Rattle.spec.specs.Walk.{Walk, done, _>>_, World, Trace, Result, granted, failed, trace}
-use Rattle.spec.specs.Plain.{Place, must, hosted, upper, shadowPart, directPart, walk}
+use Rattle.spec.specs.Walk.{done, _>>_, World, Trace, Result, granted, failed, trace}
+use Rattle.spec.specs.Plain.{Place, must, hosted, upper, walk}
 use Rattle.spec.specs.Machine.{Machine, Mapping, world, place, wordIn, stored, remapped, lookup, with, without}
 use Rattle.spec.specs.Bits.{lacks, dirtyAt, bitsSet}
-use Rattle.spec.specs.Book.{Held, Book, markAt, depth, holding, readsWord, usesMapping, dropMapping, dropWord}
+use Rattle.spec.specs.Book.{Held, Book, markAt, depth, readsWord, usesMapping, dropMapping, dropWord}
 use Rattle.spec.specs.Call.{Call, root, map, unmap, setMark, clearMark, load, store, device, forecast, addressIndexes, plain, verdict, deviceWalk, access, machineStep}
 use Rattle.spec.specs.Count.{Counted, isGranted, heldBy, rightOf, others, request, storing, bookStep, unshadowed}
 use Rattle.spec.specs.Refusal.{refusal}
@@ -31,7 +31,7 @@ use Rattle.spec_laws.proofs.EntryBits.{Kept, kept-refl}
 use Rattle.spec_laws.proofs.Asks.{AnswerIn}
 use Rattle.spec_laws.proofs.Granted.{no-grant, granted-is, through, hosted-granted}
 use Rattle.spec_laws.proofs.Parts.{direct-trace}
-use Rattle.spec_laws.proofs.Counts.{verdict-granted}
+use Rattle.spec_laws.proofs.Counts.{shadowOf, directOf, verdict-granted}
 use Rattle.spec_laws.proofs.Refill.{others-all}
 use Rattle.spec_laws.proofs.Runs.{fill-all, request-book}
 use Rattle.spec_laws.proofs.Keeps.{again, Valid, InArea, MappedIn, shadow-asked, plain-in, places, differ, store-keeps, lookup-without, lookup-with, mapping-keeps, upper-small, upper-long, fill-valid}
@@ -81,14 +81,14 @@ pub record MachineFits (c : Config) (m : Machine) : Type 0 where
   pub root : m .root < 2 ^ frameBits c
   pub long : length (m .area) ≡ (c .frames - guestBase c) * 512
 
-more-fits : (c : Config) (m n : Machine) → MoreBits c m n → MachineFits c m → MachineFits c n
+pub more-fits : (c : Config) (m n : Machine) → MoreBits c m n → MachineFits c m → MachineFits c n
 more-fits c m n a f = record {
   mapped = λ g. subst (λ xs. AnswerIn (InArea c) (lookup g xs)) (sym (a .mappings)) (f .mapped g);
   root = subst (λ r. r < 2 ^ frameBits c) (sym (a .root)) (f .root);
   long = a .long ∙ f .long;
 }
 
-abbrev WordIn : Config → ℕ × ℕ → Type 0
+abbrev pub WordIn : Config → ℕ × ℕ → Type 0
 WordIn c x = InArea c (x .0) × (x .1 < 512)
 
 placed : (c : Config) (m : Machine) (x : ℕ × ℕ) → MachineFits c m → WordIn c x → Placed c m x
@@ -121,54 +121,48 @@ store-stands c m t i v h f bt bi s nr =
 
 -- whose shadow part came to r
 module _ (c : Config) (m : Machine) (st : Bool) (a d : ℕ) (r : Place) (f : MachineFits c m) (low : d ≤ c .levels)
-    (comes : (trace (world c m) (shadowPart c st d (m .root) (addressIndexes c a))) .result ≡ granted r) where
-  abbrev ixs : List ℕ
-  ixs = addressIndexes c a
-
-  abbrev here : World
-  here = world c m
-
+    (comes : (shadowOf c m st a d) .result ≡ granted r) where
   abbrev part : Trace Fault Place
-  part = trace here (shadowPart c st d (m .root) ixs)
+  part = shadowOf c m st a d
 
   -- the machine with the request's bits
   abbrev noted : Machine
   noted = bitsSet c st m (plain c m st a)
 
   abbrev new : Held
-  new = heldBy (upper c d ixs) part (rightOf c here st d part (r .1))
+  new = heldBy (upper c d (addressIndexes c a)) part (rightOf c (world c m) st d part (r .1))
 
   new-valid : Valid c m new
-  new-valid = fill-valid c m st d (upper c d ixs) r (upper-small c d a) (upper-long c d a) comes
+  new-valid = fill-valid c m st d (upper c d (addressIndexes c a)) r (upper-small c d a) (upper-long c d a) comes
 
   read-in : All (Placed c m) ((plain c m st a) .reads)
   unfolding plain
-  read-in = all-map (WordIn c) (Placed c m) ((plain c m st a) .reads) (λ x k. placed c m x f k) ((shadow-asked c m st ixs (f .mapped) (f .root) (indexes-all (c .levels) (pageOf a))) .reads)
+  read-in = all-map (WordIn c) (Placed c m) ((plain c m st a) .reads) (λ x k. placed c m x f k) ((shadow-asked c m st (addressIndexes c a) (f .mapped) (f .root) (indexes-all (c .levels) (pageOf a))) .reads)
 
-  parts-reads : (plain c m st a) .reads ≡ part .reads ++ (trace here (directPart c st d r ixs)) .reads
+  parts-reads : (plain c m st a) .reads ≡ part .reads ++ (directOf c m st a d r) .reads
   unfolding plain
-  parts-reads = ap (λ (x : Trace Fault Place). x .reads) (direct-trace here c st d (m .root) ixs r (indexes-length (c .levels) (pageOf a)) low comes)
+  parts-reads = ap (λ (x : Trace Fault Place). x .reads) (direct-trace (world c m) c st d (m .root) (addressIndexes c a) r (indexes-length (c .levels) (pageOf a)) low comes)
 
   -- a path of depth 0 stands for the whole walk
   whole-reads : d ≡ 0 → (plain c m st a) .reads ≡ part .reads
   unfolding plain
   whole-reads z =
-      ap (λ x. (trace here (walk c st (m .root) x)) .reads)
-      (sym (ap (λ k. upper c k ixs) z ∙ take-all (c .levels - 0) ixs (omega (arith, indexes-length (c .levels) (pageOf a)))))
+      ap (λ x. (trace (world c m) (walk c st (m .root) x)) .reads)
+      (sym (ap (λ k. upper c k (addressIndexes c a)) z ∙ take-all (c .levels - 0) (addressIndexes c a) (omega (arith, indexes-length (c .levels) (pageOf a)))))
 
   -- what lets stores pass at depth 0 with bits on: a store, which sets bit 6, or the bit set before
-  new-dirty : c .bits ≡ true → d ≡ 0 → rightOf c here st d part (r .1) ≡ true → dirtyAt (world c noted) (part .reads) ≡ true
+  new-dirty : c .bits ≡ true → d ≡ 0 → rightOf c (world c m) st d part (r .1) ≡ true → dirtyAt (world c noted) (part .reads) ≡ true
   unfolding world
-  new-dirty on z e = go st refl (sym (ap (λ k. not k || st || dirtyAt here (part .reads)) both) ∙ and-second (r .1) _ e)
+  new-dirty on z e = go st refl (sym (ap (λ k. not k || st || dirtyAt (world c m) (part .reads)) both) ∙ and-second (r .1) _ e)
     where
       both : (c .bits && eqb d 0) ≡ true
       both = ap (λ b. b && eqb d 0) on ∙ ap (λ k. eqb k 0) z
 
-      go : (k : Bool) → st ≡ k → (k || dirtyAt here (part .reads)) ≡ true → dirtyAt (world c noted) (part .reads) ≡ true
+      go : (k : Bool) → st ≡ k → (k || dirtyAt (world c m) (part .reads)) ≡ true → dirtyAt (world c noted) (part .reads) ≡ true
       go true q h =
           subst (λ xs. dirtyAt (world c noted) xs ≡ true) (whole-reads z)
           (lacks-six (world c noted) ((plain c m st a) .reads) (subst (λ k. lacks (world c noted) k ((plain c m st a) .reads) ≡ false) q (bits-lacks c st m (plain c m st a) on read-in)))
-      go false q h = dirty-kept here (world c noted) (part .reads) (all-any _ (part .reads) (λ x. (bits-more c st m (plain c m st a)) .words (x .0) (x .1))) h
+      go false q h = dirty-kept (world c m) (world c noted) (part .reads) (all-any _ (part .reads) (λ x. (bits-more c st m (plain c m st a)) .words (x .0) (x .1))) h
 
   new-covered : Covered c noted new
   unfolding world
@@ -179,7 +173,7 @@ module _ (c : Config) (m : Machine) (st : Bool) (a d : ℕ) (r : Place) (f : Mac
   }
 
 -- the machine on which a request leaves its word to be used, by its verdict
-abbrev left : Machine → Machine → Result Fault Place → Machine
+abbrev pub left : Machine → Machine → Result Fault Place → Machine
 left m n (failed x) = m
 left m n (granted p) = n
 
@@ -230,21 +224,11 @@ device-in c m a p mi h =
 
 -- ---- every call
 
--- the held paths of the state that a call leaves
-pub step-stands : (x : Call) (s : State) → MachineFits (s .config) (s .machine) → All (Stands (s .config) (s .machine)) (s .book .held)
-    → let t = (step x s) .1 in All (Stands (t .config) (t .machine)) (t .book .held)
-unfolding step machineStep bookStep access storing wordOf
-step-stands x s f old = go (refusal c x m b)
+pub call-stands : (c : Config) (m : Machine) (b : Book) (x : Call) → MachineFits c m → All (Stands c m) (b .held)
+    → All (Stands c ((machineStep c x m) .1)) ((bookStep c x m b) .book .held)
+unfolding machineStep bookStep access storing wordOf
+call-stands c m b x f old = by x
   where
-    c : Config
-    c = s .config
-
-    m : Machine
-    m = s .machine
-
-    b : Book
-    b = s .book
-
     remaps : (xs : List Mapping) (g : ℕ) → ((j : ℕ) → (j ≡ g → ⊥) → lookup j xs ≡ lookup j (m .mappings)) → All (Stands c (remapped m xs)) (dropMapping g (b .held))
     remaps xs g same =
         all-map (λ h. Stands c m h × T (not (usesMapping g h))) _ (dropMapping g (b .held)) (λ h k. mapping-stands c m xs g h same (k .0) (k .1))
@@ -285,9 +269,15 @@ step-stands x s f old = go (refusal c x m b)
     by (device a w v) = devices a w v (unshadowed b ((deviceWalk c m a) .count) ((deviceWalk c m a) .result)) ((deviceWalk c m a) .result) refl old
     by (forecast xs) = old
 
+-- the held paths of the state that a call leaves, refused or not
+pub step-stands : (x : Call) (s : State) → MachineFits (s .config) (s .machine) → All (Stands (s .config) (s .machine)) (s .book .held)
+    → let t = (step x s) .1 in All (Stands (t .config) (t .machine)) (t .book .held)
+unfolding step
+step-stands x s f old = go (refusal (s .config) x (s .machine) (s .book))
+  where
     go : (r : Option ℕ) → let t = (answered x s r) .1 in All (Stands (t .config) (t .machine)) (t .book .held)
     go (some n) = old
-    go none = by x
+    go none = call-stands (s .config) (s .machine) (s .book) x f old
 
 pub step-covered : (x : Call) (s : State) → let c = s .config in let m = s .machine in
     MappedIn c m → m .root < 2 ^ frameBits c → length (m .area) ≡ (c .frames - guestBase c) * 512 → All (Valid c m) (s .book .held) → All (Covered c m) (s .book .held)

@@ -1,7 +1,7 @@
 -- What a walk reads in a word, and what setting bits 5 and 6 of it changes: these two bits and nothing else.
 -- Assumes nothing.
 use mathlib.Core.Path.{_≡_, refl, sym, ap, ap₂, _∙_}
-use Prim.Native.Nat.{ℕ, zero, suc, _+_, _-_, _*_, _/_, _%_, _^_, _<_}
+use Prim.Native.Nat.{ℕ, zero, suc, _+_, _-_, _/_, _%_, _^_, _<_}
 use native.Mathlib.Omega.{arith}
 use mathlib.Core.Bool.{Bool, true, false, not, _&&_, _||_, cond}
 use borrow.Author.Tests.{eq-eqb, eqb-true, eqb-false}
@@ -78,41 +78,39 @@ bit-is : (k e : ℕ) → bitSet k e ≡ true → e / 2 ^ k % 2 ≡ 1
 unfolding bitSet
 bit-is k e h = eqb-true (e / 2 ^ k % 2) 1 h
 
-with-5 : (e : ℕ) → Kept e (withBit 5 e) × (accessed (withBit 5 e) ≡ true)
-unfolding withBit accessed dirty
-with-5 e = go (bitSet 5 e) refl
-  where
-    go : (b : Bool) → bitSet 5 e ≡ b → Kept e (cond b e (e + 2 ^ 5)) × (bitSet 5 (cond b e (e + 2 ^ 5)) ≡ true)
-    go true h = (kept-refl e, h)
-    go false h =
-        let z : e / 32 % 2 ≡ 0 = bit-clear 5 e h in
-        let on = bit-on 5 (e + 32) (omega (arith, z)) in (
-          record {
-            alike = record { low = omega (arith, z); high = omega (arith, z) };
-            keeps5 = λ k. on;
-            keeps6 = λ k.
-                let u : (e + 32) / 64 ≡ e / 64 = omega (arith, z) in
-                bit-on 6 (e + 32) (ap (λ (x : ℕ). x % 2) u ∙ bit-is 6 e k);
-          },
-          on,
-        )
+-- a word e whose bit k is clear, and with it
+record Added (k e : ℕ) : Type 0 where
+  alike : AlikeWord e (e + 2 ^ k)
+  sets : (e + 2 ^ k) / 2 ^ k % 2 ≡ 1
+  fifth : e / 32 % 2 ≡ 1 → (e + 2 ^ k) / 32 % 2 ≡ 1
+  sixth : e / 64 % 2 ≡ 1 → (e + 2 ^ k) / 64 % 2 ≡ 1
 
-with-6 : (e : ℕ) → Kept e (withBit 6 e) × (dirty (withBit 6 e) ≡ true)
+with-bit : (k e : ℕ) → (e / 2 ^ k % 2 ≡ 0 → Added k e) → Kept e (withBit k e) × (bitSet k (withBit k e) ≡ true)
 unfolding withBit accessed dirty
-with-6 e = go (bitSet 6 e) refl
+with-bit k e add = go (bitSet k e) refl
   where
-    go : (b : Bool) → bitSet 6 e ≡ b → Kept e (cond b e (e + 2 ^ 6)) × (bitSet 6 (cond b e (e + 2 ^ 6)) ≡ true)
+    go : (b : Bool) → bitSet k e ≡ b → Kept e (cond b e (e + 2 ^ k)) × (bitSet k (cond b e (e + 2 ^ k)) ≡ true)
     go true h = (kept-refl e, h)
     go false h =
-        let z : e / 64 % 2 ≡ 0 = bit-clear 6 e h in
-        let on = bit-on 6 (e + 64) (omega (arith, z)) in (
-          record {
-            alike = record { low = omega (arith, z); high = omega (arith, z) };
-            keeps5 = λ k. let y : e / 32 % 2 ≡ 1 = bit-is 5 e k in bit-on 5 (e + 64) (omega (arith, z, y));
-            keeps6 = λ k. on;
-          },
-          on,
-        )
+        let f = add (bit-clear k e h) in
+        let x = e + 2 ^ k in
+        (record { alike = f .alike; keeps5 = λ z. bit-on 5 x (f .fifth (bit-is 5 e z)); keeps6 = λ z. bit-on 6 x (f .sixth (bit-is 6 e z)) }, bit-on k x (f .sets))
+
+with-5 : (e : ℕ) → Kept e (withBit 5 e) × (bitSet 5 (withBit 5 e) ≡ true)
+with-5 e = with-bit 5 e (λ z. record {
+  alike = record { low = omega (arith, z); high = omega (arith, z) };
+  sets = omega (arith, z);
+  fifth = λ y. omega (arith, z, y);
+  sixth = λ y. let u : (e + 32) / 64 ≡ e / 64 = omega (arith, z) in ap (λ (x : ℕ). x % 2) u ∙ y;
+})
+
+with-6 : (e : ℕ) → Kept e (withBit 6 e) × (bitSet 6 (withBit 6 e) ≡ true)
+with-6 e = with-bit 6 e (λ z. record {
+  alike = record { low = omega (arith, z); high = omega (arith, z) };
+  sets = omega (arith, z);
+  fifth = λ y. omega (arith, z, y);
+  sixth = λ y. omega (arith, z, y);
+})
 
 -- ---- the bits that an entry needs; ends: a store's walk ends at it
 
@@ -121,6 +119,7 @@ with-kept false e = with-5 e .0
 with-kept true e = kept-trans e (withBit 5 e) (withBit 6 (withBit 5 e)) (with-5 e .0) (with-6 (withBit 5 e) .0)
 
 pub with-has : (ends : Bool) (e : ℕ) → hasBits ends (withBits ends e) ≡ true
+unfolding accessed dirty
 with-has false e = ap (λ b. b && true) (with-5 e .1)
 with-has true e = let t = with-6 (withBit 5 e) in ap₂ (λ a b. a && b) (t .0 .keeps5 (with-5 e .1)) (t .1)
 

@@ -22,6 +22,7 @@ pub mod Keeps
 pub mod SetBits
 pub mod Covered
 pub mod Served
+pub mod Missed
 pub mod Price
 pub mod Forecast
 pub mod Quiet

@@ -1,9 +1,9 @@
 -- The plain walk is its shadow part, and from there its direct part: the same questions, so the same trace.
 -- Assumes nothing.
-use mathlib.Core.Path.{_≡_, refl, sym, ap, ap₂, _∙_, subst}
-use Prim.Native.Nat.{ℕ, zero, suc, pred, _+_, _-_, _≤_}
+use mathlib.Core.Path.{_≡_, refl, sym, ap, _∙_}
+use Prim.Native.Nat.{ℕ, pred, _+_, _-_, _≤_}
 use native.Mathlib.Omega.{arith}
-use mathlib.Core.Bool.{Bool, true, false, _&&_}
+use mathlib.Core.Bool.{Bool, true, _&&_}
 use mathlib.Core.List.{List, [], _∷_, _++_}
 use lib.Dec.{eqb}
 use lib.ListN.{length, take, drop}
@@ -11,8 +11,8 @@ use lib.ListN.{take-append-drop}
 use lib.Seq.{length-take-le}
 use Rattle.spec.specs.declared.Fault.{Fault}
 use Rattle.spec.specs.Config.{Config}
-use Rattle.spec.specs.Walk.{Walk, done, fail, host, word, _>>=_, _>>_, World, Trace, Result, granted, failed, trace}
-use Rattle.spec.specs.Plain.{Place, hosted, entry, next, levels, walk, shadowPart, directPart, upper}
+use Rattle.spec.specs.Walk.{Walk, _>>=_, _>>_, World, Trace, granted, failed, trace}
+use Rattle.spec.specs.Plain.{Place, hosted, entry, next, levels, walk, shadowPart, directPart}
 use Rattle.spec_laws.proofs.Bind.{andThen, onto, more, trace-bind, bind-assoc, bind-cong}
 
 -- the level that is left after some indexes

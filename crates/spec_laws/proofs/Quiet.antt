@@ -12,7 +12,7 @@ use lib.Dec.{T, leb, leb→le, le→leb}
 use Rattle.spec.specs.declared.Fault.{Fault}
 use Rattle.spec.specs.Answer.{Line}
 use Rattle.spec.specs.Config.{Config, frameBits}
-use Rattle.spec.specs.Entry.{pageOf, wordOf}
+use Rattle.spec.specs.Entry.{wordOf}
 use Rattle.spec.specs.Prefix.{All, same, any, tablesOf, distinct}
 use Rattle.spec.specs.Walk.{Result, granted, failed}
 use Rattle.spec.specs.Plain.{Place, upper}

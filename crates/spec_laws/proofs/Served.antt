@@ -5,30 +5,30 @@ use mathlib.Core.Path.{_≡_, refl, sym, ap, ap₂, _∙_, subst}
 use Prim.Native.Nat.{ℕ, zero, suc, _+_, _-_, _<_, _≤_}
 use native.Mathlib.Nat.{zero-add}
 use native.Mathlib.Omega.{arith}
-use mathlib.Core.Bool.{Bool, true, false, not, _&&_, _||_, cond, and-true, and-false, false≢true}
+use mathlib.Core.Bool.{Bool, true, false, not, _&&_, _||_, cond, and-true, and-false}
 use mathlib.Core.List.{List, [], _∷_, _++_, append-nil}
 use mathlib.Core.Option.{Option, none, some}
 use borrow.Author.Tests.{eqb-true, le-leb}
-use lib.Dec.{eqb, eqb·suc-zero, leb}
-use lib.ListN.{length, drop, length-drop}
+use lib.Dec.{eqb, eqb·suc-zero}
+use lib.ListN.{length, drop}
 use Rattle.spec.specs.declared.Fault.{Fault}
 use Rattle.spec.specs.Config.{Config}
 use Rattle.spec.specs.Entry.{accessed, dirty, pageOf}
 use Rattle.spec.specs.Prefix.{All}
 use Rattle.spec.specs.Walk.{World, Trace, Result, granted, failed, trace}
-use Rattle.spec.specs.Plain.{Place, entry, levels, upper, shadowPart, directPart}
+use Rattle.spec.specs.Plain.{Place, entry, levels, upper}
 use Rattle.spec.specs.Machine.{Machine, world}
 use Rattle.spec.specs.Bits.{hasBits, isLast, lacks, mayWrite, owed, owes, judged, dirtyAt, bitsSet}
 use Rattle.spec.specs.Book.{Held, Book, find}
 use Rattle.spec.specs.Call.{addressIndexes, plain, verdict}
-use Rattle.spec.specs.Count.{Counted, one, hostExit, isGranted, serves, lateExit, arrived, shadowed, unshadowed, request}
-use Rattle.spec_laws.proofs.Lists.{and-first, and-second}
+use Rattle.spec.specs.Count.{one, hostExit, isGranted, serves, lateExit, shadowed, unshadowed, request}
+use Rattle.spec_laws.proofs.Lists.{by-cases, and-first, and-second}
 use Rattle.spec_laws.proofs.Indexes.{indexes-length}
 use Rattle.spec_laws.proofs.Local.{Seen}
 use Rattle.spec_laws.proofs.Bind.{more}
 use Rattle.spec_laws.proofs.Granted.{ran}
 use Rattle.spec_laws.proofs.Parts.{direct-trace}
-use Rattle.spec_laws.proofs.Counts.{levels-reads, lower-long}
+use Rattle.spec_laws.proofs.Counts.{shadowOf, directOf, levels-reads, lower-long}
 use Rattle.spec_laws.proofs.Before.{judged-none, off-owes, off-bits}
 use Rattle.spec_laws.proofs.Keeps.{again, booked, as-seen, sees, Valid, upper-long}
 use Rattle.spec_laws.proofs.SetBits.{lacks-none, lacks-owes, lacks-bits}
@@ -37,8 +37,8 @@ use Rattle.spec_laws.proofs.Covered.{Covered}
 -- ---- entries, and others after them
 
 module _ (w : World) (st : Bool) where
-  -- has each entry bit 5?
-  abbrev Accessed : List (ℕ × ℕ) → Type 0
+  -- each entry has bit 5
+  abbrev pub Accessed : List (ℕ × ℕ) → Type 0
   Accessed xs = All (λ x. accessed (w .wordAt (x .0) (x .1)) ≡ true) xs
 
   -- then it has all that it needs where another comes after it
@@ -78,23 +78,19 @@ module _ (w : World) (st : Bool) where
 -- ---- a request whose path h holds and serves; its shadow part comes to r
 
 module _ (c : Config) (m : Machine) (st : Bool) (a d : ℕ) (r : Place) (h : Held) (low : d ≤ c .levels)
-    (comes : (trace (world c m) (shadowPart c st d (m .root) (addressIndexes c a))) .result ≡ granted r)
-    (valid : Valid c m h) (covered : Covered c m h) (path : h .path ≡ upper c d (addressIndexes c a)) (ok : serves st d (some h) ≡ true) where
-  abbrev ixs : List ℕ
-  ixs = addressIndexes c a
-
+    (comes : (shadowOf c m st a d) .result ≡ granted r) (valid : Valid c m h) (covered : Covered c m h) (path : h .path ≡ upper c d (addressIndexes c a)) (ok : serves st d (some h) ≡ true) where
   abbrev here : World
   here = world c m
 
   abbrev part : Trace Fault Place
-  part = trace here (shadowPart c st d (m .root) ixs)
+  part = shadowOf c m st a d
 
   abbrev rest : Trace Fault Place
-  rest = trace here (directPart c st d r ixs)
+  rest = directOf c m st a d r
 
   -- the held path is the shadow part
   pub held-shadow : _≡_ {A = Seen Fault Place} (booked (valid .frame) (valid .wide) h) (as-seen (granted r) part)
-  held-shadow = sym (valid .comes) ∙ ap (again c m) path ∙ sees c m st (upper c d ixs) r comes
+  held-shadow = sym (valid .comes) ∙ ap (again c m) path ∙ sees c m st (upper c d (addressIndexes c a)) r comes
 
   held-reads : h .reads ≡ part .reads
   held-reads = ap (λ (x : Seen Fault Place). x .reads) held-shadow
@@ -120,7 +116,7 @@ module _ (c : Config) (m : Machine) (st : Bool) (a d : ℕ) (r : Place) (h : Hel
   -- at depth 0 the direct part reads nothing, below it an entry at least
   pub page-rest : d ≡ 0 → rest ≡ ran 0 [] [] r
   unfolding levels trace
-  page-rest z = go (drop (c .levels - d) ixs) (lower-long c d a low ∙ z)
+  page-rest z = go (drop (c .levels - d) (addressIndexes c a)) (lower-long c d a low ∙ z)
     where
       go : (is : List ℕ) → length is ≡ 0 → trace here (levels c st d (r .0) (r .1) is) ≡ ran 0 [] [] r
       go [] e = refl
@@ -128,7 +124,7 @@ module _ (c : Config) (m : Machine) (st : Bool) (a d : ℕ) (r : Place) (h : Hel
 
   first-read : 0 < d → (y : ℕ × ℕ) × (ys : List (ℕ × ℕ)) × (rest .reads ≡ y ∷ ys)
   unfolding levels entry trace
-  first-read pos = go (drop (c .levels - d) ixs) (lower-long c d a low)
+  first-read pos = go (drop (c .levels - d) (addressIndexes c a)) (lower-long c d a low)
     where
       go : (is : List ℕ) → length is ≡ d → (y : ℕ × ℕ) × (ys : List (ℕ × ℕ)) × ((trace here (levels c st d (r .0) (r .1) is)) .reads ≡ y ∷ ys)
       go [] e = absurd (omega arith)
@@ -136,7 +132,7 @@ module _ (c : Config) (m : Machine) (st : Bool) (a d : ℕ) (r : Place) (h : Hel
 
   whole : plain c m st a ≡ more (part .count) (part .reads) (part .uses) rest
   unfolding plain
-  whole = direct-trace here c st d (m .root) ixs r (indexes-length (c .levels) (pageOf a)) low comes
+  whole = direct-trace here c st d (m .root) (addressIndexes c a) r (indexes-length (c .levels) (pageOf a)) low comes
 
   -- where the direct part lacks no bit, the whole walk does not
   pub served-lacks : c .bits ≡ true → lacks here st (rest .reads) ≡ false → lacks here st ((plain c m st a) .reads) ≡ false
@@ -157,19 +153,11 @@ module _ (c : Config) (m : Machine) (st : Bool) (a d : ℕ) (r : Place) (h : Hel
 
   -- then it owes nothing,
   pub served-none : lacks here st (rest .reads) ≡ false → owes c here st (plain c m st a) ≡ none
-  served-none k = go (c .bits) refl
-    where
-      go : (b : Bool) → c .bits ≡ b → owes c here st (plain c m st a) ≡ none
-      go true on = lacks-owes c here st (plain c m st a) (served-lacks on k)
-      go false off = off-owes c here st (plain c m st a) off
+  served-none k = by-cases (c .bits) (λ on. lacks-owes c here st (plain c m st a) (served-lacks on k)) (off-owes c here st (plain c m st a))
 
   -- sets nothing,
   pub served-machine : lacks here st (rest .reads) ≡ false → bitsSet c st m (plain c m st a) ≡ m
-  served-machine k = go (c .bits) refl
-    where
-      go : (b : Bool) → c .bits ≡ b → bitsSet c st m (plain c m st a) ≡ m
-      go true on = lacks-bits c st m (plain c m st a) (served-lacks on k)
-      go false off = off-bits c st m (plain c m st a) off
+  served-machine k = by-cases (c .bits) (λ on. lacks-bits c st m (plain c m st a) (served-lacks on k)) (off-bits c st m (plain c m st a))
 
   -- and comes to what the direct part comes to, as where that fails
   pub served-owes : ((q : Place) → rest .result ≡ granted q → lacks here st (rest .reads) ≡ false) → judged (owes c here st (plain c m st a)) (rest .result) ≡ rest .result
@@ -201,7 +189,7 @@ module _ (c : Config) (m : Machine) (st : Bool) (a d : ℕ) (r : Place) (h : Hel
       go true on zero z = absurd (some-none o (sym (served-none (page-lacks z)) ∙ k))
       go true on (suc n) z =
           let f = first-read (omega arith) in
-          let l : suc (length (f .1)) ≡ d = sym (ap length (f .2)) ∙ levels-reads here c st d (r .0) (r .1) (drop (c .levels - d) ixs) q e ∙ lower-long c d a low in
+          let l : suc (length (f .1)) ≡ d = sym (ap length (f .2)) ∙ levels-reads here c st d (r .0) (r .1) (drop (c .levels - d) (addressIndexes c a)) q e ∙ lower-long c d a low in
           let owe : owed here st (part .reads ++ (f .0 ∷ f .1)) (part .uses ++ rest .uses) ≡ some o =
           sym (ap (λ b. cond b (owed here st ((plain c m st a) .reads) ((plain c m st a) .uses)) none) on
           ∙ ap (λ (x : Trace Fault Place). owed here st (x .reads) (x .uses)) whole
@@ -209,13 +197,13 @@ module _ (c : Config) (m : Machine) (st : Bool) (a d : ℕ) (r : Place) (h : Hel
           subst (λ x. o .0 ≤ x) l (owed-append here st (part .reads) (f .0) (f .1) (part .uses ++ rest .uses) o (part-accessed on) owe)
 
   -- N − d shadow entries and the words of the direct part, and one exit for H or W, which is in the direct part
-  pub served-request : (b : Book) → find (upper c d ixs) (b .held) ≡ some h
+  pub served-request : (b : Book) → find (upper c d (addressIndexes c a)) (b .held) ≡ some h
       → request c m b st a d ≡ record { references = (c .levels - d) + rest .count; exits = hostExit (verdict c m st a); book = b }
   unfolding request verdict
   served-request b f =
-      ap₂ (λ t k. cond t (shadowed c here b st d ixs (upper c d ixs) k o part (part .result)) (unshadowed b ((plain c m st a) .count) (verdict c m st a)))
+      ap₂ (λ t k. cond t (shadowed c here b st d (addressIndexes c a) (upper c d (addressIndexes c a)) k o part (part .result)) (unshadowed b ((plain c m st a) .count) (verdict c m st a)))
       (le-leb d (c .levels) low) (ap (serves st d) f ∙ ok)
-      ∙ ap (shadowed c here b st d ixs (upper c d ixs) true o part) comes
+      ∙ ap (shadowed c here b st d (addressIndexes c a) (upper c d (addressIndexes c a)) true o part) comes
       ∙ ap₂ (λ n e. record { references = n; exits = e; book = b }) (ap (λ t. cond t (part .count + rest .count) ((c .levels - d) + rest .count)) (counts d refl))
       (late (rest .result) refl o refl ∙ sym (ap (λ x. hostExit (judged o x)) rest-result))
     where

@@ -2,10 +2,10 @@
 -- walk without those that it needs; where none lacks one, it changes nothing.
 -- Assumes nothing.
 use mathlib.Core.Path.{_≡_, refl, sym, ap, ap₂, _∙_, subst}
-use Prim.Native.Nat.{ℕ, suc, _+_, _*_, _-_, _<_, _≤_}
-use mathlib.Core.Bool.{Bool, true, false, not, _&&_, _||_, cond, or-false, false≢true}
+use Prim.Native.Nat.{ℕ, suc, _-_, _<_}
+use mathlib.Core.Bool.{Bool, true, false, not, _&&_, _||_, cond, or-false}
 use mathlib.Core.List.{List, [], _∷_}
-use mathlib.Core.Option.{Option, none, some}
+use mathlib.Core.Option.{none, some}
 use borrow.Author.Tests.{eqb-true, eqb-false, ltb-true, ltb-false, not-false}
 use lib.Dec.{eqb, ltb}
 use lib.ListN.{length, getD, set, length-set}
@@ -16,7 +16,7 @@ use Rattle.spec.specs.Entry.{accessed, dirty}
 use Rattle.spec.specs.Prefix.{All}
 use Rattle.spec.specs.Walk.{World, Trace}
 use Rattle.spec.specs.Plain.{Place}
-use Rattle.spec.specs.Machine.{Machine, Mapping, place, wordIn, stored, world}
+use Rattle.spec.specs.Machine.{Machine, place, wordIn, stored, world}
 use Rattle.spec.specs.Bits.{hasBits, withBits, isLast, lacks, mayWrite, owed, owes, dirtyAt, setBits, bitsSet}
 use Rattle.spec.specs.Book.{Held}
 use Rattle.spec_laws.proofs.Lists.{and-first, and-second, or-first, or-second}
@@ -95,7 +95,7 @@ bits-keep c st m r h v = more-keep c m (bitsSet c st m r) h (bits-more c st m r)
 
 -- ---- entries that lack none of their bits
 
--- has each bit 5, and where a store's walk ends the last bit 6?
+-- each has bit 5, and the last bit 6 where a store's walk ends at it
 pub lacks-five : (w : World) (st : Bool) (xs : List (ℕ × ℕ)) → lacks w st xs ≡ false → All (λ x. accessed (w .wordAt (x .0) (x .1)) ≡ true) xs
 unfolding lacks
 lacks-five w st [] h = tt
