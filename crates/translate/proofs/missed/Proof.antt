@@ -1,79 +1,106 @@
--- The walk of the shadow part hands out the tables that a fill notes.
-use mathlib.Core.Path.{_≡_, sym, ap}
-use Prim.Native.Nat.{_-_}
-use native.Mathlib.Omega.{arith}
-use Rattle.spec.specs.Entry.{indexes}
-use Rattle.spec.specs.Plain.{walk}
-use Rattle.layout.specs.Layout.{config}
-use Rattle.walk.specs.declared.Trail.{Trail}
-use Rattle.walk.specs.Memory.{walkedOf, trailFrom}
-use Rattle.translate.specs.Translate.{missedOf}
-use Rattle.translate.proofs.Fits.{walk-in}
 use borrow.Author.Needs.{needs}
 use Rattle.translate.proofs.missed.Statement.{statement}
 use Rattle.translate.proofs.missed.Tie as tie
+use Rattle.translate.proofs.missed.Reads as reads
+use Rattle.translate.proofs.missed.Lts as lts
+use Rattle.translate.proofs.damaged.Reads as damaged-reads
+use Rattle.translate.proofs.direct.Reads as direct-reads
+use Rattle.translate.proofs.lax.Reads as lax-reads
+use Rattle.translate.proofs.path_of.Reads as path-of-reads
+use Rattle.translate.proofs.strict.Reads as strict-reads
+use Rattle.walk.proofs.walk_root.Reads as walk-root-reads
 
-came : (c : tie.After-walk-root) →
-    let args = c .before .before .before .before .before .before .args in
-    let path-of = c .before .before .before .before .path-of in
-    walkedOf (config (args .space .layout)) (args .space .top) (args .mem .now) 0 (walk (config (args .space .layout)) (args .request .store) (args .root .0) (indexes (args .space .layout .levels - args .request .depth) (path-of .result)))
-    ≡ c .walk-root .result .walked
-unfolding trailFrom
-came c = sym (ap (λ (t : Trail). t .walked) (c .walk-root .ensures))
+-- src/lib.rt:591:9
+path-of-requires : tie.Need-path-of-requires
+path-of-requires c κs = search needs
 
-filled-requires : tie.Need-filled-requires
-filled-requires c κs =
-    let args = c .before .before .before .before .before .before .before .before .before .before .before .before .args in
-    let pre = c .before .before .before .before .before .before .before .before .before .before .before .before .pre in
-    let path-of = c .before .before .before .before .before .before .before .before .before .before .path-of in
-    let walked = c .before .before .before .before .walked in
-    let at = rw (came (c .before .before .before .before .before .before), walked .given .1) at (walk-in (config (args .space .layout)) (args .space .top) (args .mem .now) (args .request .store) 0 (args .root .0) (indexes (args .space .layout .levels - args .request .depth) (path-of .result))) in
-    (pre .0, pre .1, omega (arith, at .1, pre .0))
+-- src/lib.rt:598:9
+sub-walk-root : tie.Need-sub-walk-root
+sub-walk-root c = search needs
 
+-- src/lib.rt:592:17
+walk-root-requires : tie.Need-walk-root-requires
+walk-root-requires c κs = search needs
+
+-- src/lib.rt:604:13
+enum-known-upper : tie.Need-enum-known-upper
+enum-known-upper c = search needs
+
+-- src/lib.rt:608:17
+direct-requires : tie.Need-direct-requires
+direct-requires c κs = ?
+
+-- src/lib.rt:610:17
+lax-requires : tie.Need-lax-requires
+lax-requires c κs = search needs
+
+-- src/lib.rt:610:17
+same-length : tie.Need-same-length
+same-length c = search needs
+
+-- src/lib.rt:610:17
+returns : tie.Need-returns
+returns c = ?
+
+-- src/lib.rt:621:13
+strict-requires : tie.Need-strict-requires
+strict-requires c κs = ?
+
+-- src/lib.rt:634:27
+enum-known-upper-2 : tie.Need-enum-known-upper-2
+enum-known-upper-2 c = search needs
+
+-- src/lib.rt:640:28
 enum-told : tie.Need-enum-told
 enum-told c = search needs
 
-returns : tie.Need-returns
-unfolding missedOf
-returns c =
-    let path-of = c .before .before .before .before .before .before .before .before .before .before .before .before .before .path-of in
-    let walk-root = c .before .before .before .before .before .before .before .before .before .walk-root in
-    let walked = c .before .before .before .before .before .before .before .walked in
-    let filled = c .before .before .filled in
-    rw (← path-of .ensures, ← walk-root .ensures, walked .given .1) (filled .ensures)
+-- src/lib.rt:640:28
+damaged-requires : tie.Need-damaged-requires
+damaged-requires c κs = search needs
 
+-- src/lib.rt:581:1
+same-length-2 : tie.Need-same-length-2
+same-length-2 c = search needs
+
+-- src/lib.rt:581:1
 returns-2 : tie.Need-returns-2
-unfolding missedOf
-returns-2 c =
-    let path-of = c .before .before .before .before .before .before .before .path-of in
-    let walk-root = c .before .before .before .walk-root in
-    let walked2 = c .before .walked2 in
-    rw (← path-of .ensures, ← walk-root .ensures, walked2 .given .1)
+returns-2 c = ?
 
+-- src/lib.rt:581:1
+same-length-3 : tie.Need-same-length-3
+same-length-3 c = search needs
+
+-- src/lib.rt:581:1
 returns-3 : tie.Need-returns-3
-unfolding missedOf
-returns-3 c =
-    let path-of = c .before .before .before .before .before .before .before .path-of in
-    let walk-root = c .before .before .before .walk-root in
-    let enum-told = c .before .enum-told in
-    let damaged = c .damaged in
-    rw (← path-of .ensures, ← walk-root .ensures, enum-told .given .1, damaged .ensures)
+returns-3 c = ?
+
+-- src/lib.rt:581:1
+same-length-4 : tie.Need-same-length-4
+same-length-4 c = search needs
+
+-- src/lib.rt:581:1
+returns-4 : tie.Need-returns-4
+returns-4 c = ?
 
 pub missed-spec : {M : Type 1} → statement M
 missed-spec =
     tie.close
     (tie.spec
-    (λ c κs. search needs)
-    (λ c. search needs)
-    (λ c κs. search needs)
-    (λ c. search needs)
-    filled-requires
-    (λ c. search needs)
-    enum-told
-    (λ c κs. search needs)
-    (λ c. search needs)
+    path-of-requires
+    sub-walk-root
+    walk-root-requires
+    enum-known-upper
+    direct-requires
+    lax-requires
+    same-length
     returns
-    (λ c. search needs)
+    strict-requires
+    enum-known-upper-2
+    enum-told
+    damaged-requires
+    same-length-2
     returns-2
-    (λ c. search needs)
-    returns-3)
+    same-length-3
+    returns-3
+    same-length-4
+    returns-4)
