@@ -60,13 +60,18 @@ sized l n f e =
       guest = ltb-true (l .hosts + l .shadows) (l .frames) (a .1);
     }
 
-pub sizes-say : (l : Layout) (len : ℕ) → l .levels ≡ levels → sizesFit l len ≡ true → Sized l
+-- the levels are a choice
+pub choices-levels : (l : Layout) → choicesFit l ≡ true → l .levels ≡ levels
+unfolding choicesFit
+choices-levels l e = eqb-true (l .levels) levels (both (eqb (l .levels) levels) (leb (l .bits) 1) e .0)
+
+pub sizes-say : (l : Layout) (len : ℕ) → choicesFit l ≡ true → sizesFit l len ≡ true → Sized l
 unfolding sizesFit
 sizes-say l len n e =
     let x = both (eqb len (l .frames * 512) && (ltb 0 (l .frames) && leb (l .frames) 65536)) (areasFit (config l)) e in
     let y = both (eqb len (l .frames * 512)) (ltb 0 (l .frames) && leb (l .frames) 65536) (x .0) in
     let z = both (ltb 0 (l .frames)) (leb (l .frames) 65536) (y .1) in
-    sized l n (leb-true (l .frames) 65536 (z .1)) (x .1)
+    sized l (choices-levels l n) (leb-true (l .frames) 65536 (z .1)) (x .1)
 
 -- a granted opening
 pub granted-tests : (words h s : ℕ) (b : Bool) → refusalOf words h s b ≡ 0 → (wordsFit words ≡ true) × (areasFit (configBy words h s b) ≡ true)
@@ -206,7 +211,7 @@ tested false true true false i p = refl
 tested false true false h i p = refl
 tested false false g h i p = refl
 
-pub fits-by : (r : Record) (len : ℕ) (b : Bool) → r .guest .marks .set < 2 ^ 64 → r .layout .levels ≤ 5
+pub fits-by : (r : Record) (len : ℕ) (b : Bool) → r .guest .marks .set < 2 ^ 64 → choicesFit (r .layout) ≡ true
     → b
     ≡ (choicesFit (r .layout) && sizesFit (r .layout) len && frameFits (configOf r) (r .guest .root .0)
     && keysFit (r .layout .levels) (keysOf (r .guest .marks)) && tablesFit (r .layout) (r .guest .held .0) (r .pools))
@@ -215,7 +220,7 @@ unfolding fitsOf recordFits sizesFit tablesFit
 fits-by r len b l d e =
     let c = configOf r in
     let w = words-whole (r .layout .frames) in
-    rw (w .0, w .1, eq-eqb (r .layout .frames) (r .layout .frames) refl, marks-fit c (r .guest .marks) l (omega arith))
+    rw (w .0, w .1, eq-eqb (r .layout .frames) (r .layout .frames) refl, marks-fit c (r .guest .marks) l (omega (arith, choices-levels (r .layout) d)))
     (e ∙ sym (tested (choicesFit (r .layout)) (eqb len (r .layout .frames * 512) && (ltb 0 (r .layout .frames) && leb (r .layout .frames) 65536) && areasFit c)
     (frameFits c (r .guest .root .0)) (keysFit (r .layout .levels) (keysOf (r .guest .marks))) (topFits c (heldTop (r .guest .held .0))) (poolsFit (r .layout) (r .pools))))
 
