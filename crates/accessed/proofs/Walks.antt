@@ -63,7 +63,7 @@ pub record Read (w : World) (is : List ℕ) (us : List ℕ) (r : Trace Fault Pla
 abbrev named : World → List (ℕ × ℕ) → List ℕ
 named w xs = map (λ x. frameOf (w .wordAt (x .0) (x .1))) xs
 
-levels-read : (w : World) (c : Config) (st : Bool) (n t : ℕ) (v : Bool) (is : List ℕ) (r : Place) → (trace w (levels c st n t v is)) .result ≡ granted r
+pub levels-read : (w : World) (c : Config) (st : Bool) (n t : ℕ) (v : Bool) (is : List ℕ) (r : Place) → (trace w (levels c st n t v is)) .result ≡ granted r
     → Read w is (named w ((trace w (levels c st n t v is)) .reads)) (trace w (levels c st n t v is))
 unfolding levels trace
 levels-read w c st n t v [] r h = record { indexed = refl; used = refl }
@@ -154,7 +154,7 @@ module _ (c : Config) (ht : ℕ) (m : List ℕ) (few : c .frames ≤ 65536) wher
       go (host.Absent n) h q = let z : _≡_ {A = ℕ} 0 1 = cc in absurd (omega arith)
       go host.Damaged h q = let z : _≡_ {A = ℕ} 0 1 = cc in absurd (omega arith)
 
-  levels-frames : (st : Bool) (n t : ℕ) (v : Bool) (is : List ℕ) (r : Place) → t < frameLimit → (trace (memoryWorld c ht m) (levels c st n t v is)) .result ≡ granted r
+  pub levels-frames : (st : Bool) (n t : ℕ) (v : Bool) (is : List ℕ) (r : Place) → t < frameLimit → (trace (memoryWorld c ht m) (levels c st n t v is)) .result ≡ granted r
       → All (λ f. f < frameLimit) (framesOf c ht m (levels c st n t v is))
   unfolding levels trace framesOf
   levels-frames st n t v [] r b h = tt
@@ -168,7 +168,7 @@ module _ (c : Config) (ht : ℕ) (m : List ℕ) (few : c .frames ≤ 65536) wher
   unfolding trailFrom
   trail-frames p n a = noted-frames (framesOf c ht m p) (replicate 8 0) 0 no-tables a
 
-  walk-frames : (st : Bool) (root : ℕ) (is : List ℕ) (r : Place) → (trace (memoryWorld c ht m) (walk c st root is)) .result ≡ granted r
+  pub walk-frames : (st : Bool) (root : ℕ) (is : List ℕ) (r : Place) → (trace (memoryWorld c ht m) (walk c st root is)) .result ≡ granted r
       → All (λ f. f < frameLimit) (framesOf c ht m (walk c st root is))
   unfolding walk framesOf
   walk-frames st root is r h =

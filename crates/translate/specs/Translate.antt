@@ -115,9 +115,12 @@ plainOf c ht m h root st a =
 
 -- what the bits of a walk say that came to r, at depth d; lack: one of its entries lacks a bit, o: what it owes. The exit of what is owed
 -- is the direct part's, if that reads the entry. Where the walk itself ends, by other hands' doing, its end is said
+abbrev pub owingBy : ℕ → Bool → Option (ℕ × ℕ) → Checked
+owingBy d lack none = checked.Clear lack
+owingBy d lack (some o) = checked.Stopped (fault.HostReadOnly (o .1)) (one (leb (o .0) d))
+
 abbrev pub checkedBy : ℕ → Bool → Option (ℕ × ℕ) → Walked → Checked
-checkedBy d lack none (walked.Arrived t w n) = checked.Clear lack
-checkedBy d lack (some o) (walked.Arrived t w n) = checked.Stopped (fault.HostReadOnly (o .1)) (one (leb (o .0) d))
+checkedBy d lack o (walked.Arrived t w n) = owingBy d lack o
 checkedBy d lack o (walked.Faulted x n) = checked.Stopped x (exitBy (walked.Faulted x n))
 checkedBy d lack o walked.Damaged = checked.Damaged
 
@@ -212,17 +215,20 @@ strictBy c m h gs st a d n t w b (walked.Arrived p v k) = grantBy c m h gs st a 
 strictBy c m h gs st a d n t w b (walked.Faulted x k) = yields (faulted c h d n x k (exitBy (walked.Faulted x k))) m
 strictBy c m h gs st a d n t w b walked.Damaged = damaged h m
 
+abbrev pub brokenBy : Walked → Bool
+brokenBy (walked.Arrived p w n) = false
+brokenBy (walked.Faulted x n) = false
+brokenBy walked.Damaged = true
+
 -- with bits off a fault of the direct part fills too
-abbrev pub laxBy : Config → List ℕ → Held → List ℕ → ℕ → ℕ → ℕ → Bool → Walked → After Translated
-laxBy c m h gs a d t w (walked.Arrived p v k) = filledOf c m h gs a d t w (1 + exitBy (walked.Arrived p v k)) (walked.Arrived p v k) false
-laxBy c m h gs a d t w (walked.Faulted x k) = filledOf c m h gs a d t w (1 + exitBy (walked.Faulted x k)) (walked.Faulted x k) false
-laxBy c m h gs a d t w walked.Damaged = damaged h m
+unfoldable pub laxOf : Config → List ℕ → Held → List ℕ → ℕ → ℕ → ℕ → Bool → Walked → After Translated
+laxOf c m h gs a d t w r = cond (brokenBy r) (damaged h m) (filledOf c m h gs a d t w (1 + exitBy r) r false)
 
 -- past a shadow part that read n words and came to t
 unfoldable pub arrivedOf : Config → ℕ → List ℕ → Held → ℕ → List ℕ → Bool → ℕ → ℕ → ℕ → ℕ → Bool → After Translated
 arrivedOf c ht m h root gs st a d n t w =
     let r = directOf c ht m st a d t w in
-    cond (c .bits) (strictBy c m h gs st a d n t w (checkedOf c ht m root st a d) r) (laxBy c m h gs a d t w r)
+    cond (c .bits) (strictBy c m h gs st a d n t w (checkedOf c ht m root st a d) r) (laxOf c m h gs a d t w r)
 
 abbrev pub missedBy : Config → ℕ → List ℕ → Held → ℕ → Bool → ℕ → ℕ → List ℕ → Walked → After Translated
 missedBy c ht m h root st a d gs (walked.Arrived t w n) = arrivedOf c ht m h root gs st a d n (t .0) w

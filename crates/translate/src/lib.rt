@@ -5,7 +5,7 @@ ghost use Prim.Native.Nat.{_-_, _<_, _≤_};
 ghost use Rattle.spec.specs.Entry.{indexes, pageOf, frameLimit};
 ghost use Rattle.words.specs.After.{yields};
 ghost use Rattle.layout.specs.Layout.{LayoutFits, config};
-ghost use Rattle.translate.specs.Translate.{exitBy, ReadsFrom, translation, whole, directOf, servedOf, plainOf, checkedOf, debtBy, entriesOf, settledBy, throughOf, unshadowedOf, servesOf, pathOf, foundOf, filledOf, passesOf, faulted, strictBy, laxBy, missedOf, unservedOf};
+ghost use Rattle.translate.specs.Translate.{exitBy, ReadsFrom, translation, whole, directOf, servedOf, plainOf, checkedOf, debtBy, entriesOf, settledBy, throughOf, unshadowedOf, servesOf, pathOf, foundOf, filledOf, passesOf, faulted, strictBy, brokenBy, laxOf, missedOf, unservedOf};
 ghost use Rattle.walk.specs.Memory.{trailOf};
 ghost use Rattle.accessed.specs.Entries.{entries, Frames};
 use accessed::Debt;
@@ -141,7 +141,13 @@ pub fn serve(
 }
 
 // The whole plain walk.
-fn whole(mem: &[u64], space: Space, store: bool, root: GuestPhysical, address: GuestVirtual) -> Trail
+fn whole(
+    mem: &[u64],
+    space: Space,
+    store: bool,
+    root: GuestPhysical,
+    address: GuestVirtual,
+) -> Trail
     requires { ⌜ LayoutFits (space .layout) ⌝ }
     ensures { λ r. ⌜ r ≡ trailOf (config (space .layout)) (space .top) (now (mem .entry)) 0 (whole (config (space .layout)) store (root .0) (address .0)) ⌝ }
 {
@@ -405,7 +411,7 @@ fn filled(
     walked: Walked,
     sets: bool,
 ) -> Translated
-    requires { ⌜ (LayoutFits layout) × (request .depth ≤ layout .levels) ⌝ }
+    requires { ⌜ (LayoutFits layout) × (request .depth ≤ layout .levels) × (page .0 < frameLimit) ⌝ }
     ensures { λ r. ⌜ yields r (now (mem .exit)) ≡ filledOf (config layout) (now (mem .entry)) held (now (guests .entry)) (request .address .0) (request .depth) (page .0) writable exits walked sets ⌝ }
 {
     let pool = held.pool;
@@ -449,6 +455,21 @@ fn filled(
     }
 }
 
+// Did the walk meet damage?
+fn broken(walked: Walked) -> bool
+    ensures { λ r. ⌜ r ≡ brokenBy walked ⌝ }
+{
+    match walked {
+        Walked::Arrived {
+            page,
+            writable,
+            reads,
+        } => false,
+        Walked::Faulted { fault, reads } => false,
+        Walked::Damaged => true,
+    }
+}
+
 // With bits off: filled, whatever the direct part came to.
 fn lax(
     mem: &mut [u64],
@@ -460,33 +481,28 @@ fn lax(
     writable: bool,
     walked: Walked,
 ) -> Translated
-    requires { ⌜ (LayoutFits layout) × (request .depth ≤ layout .levels) ⌝ }
-    ensures { λ r. ⌜ yields r (now (mem .exit)) ≡ laxBy (config layout) (now (mem .entry)) held (now (guests .entry)) (request .address .0) (request .depth) (page .0) writable walked ⌝ }
+    requires { ⌜ (LayoutFits layout) × (request .depth ≤ layout .levels) × (page .0 < frameLimit) ⌝ }
+    ensures { λ r. ⌜ yields r (now (mem .exit)) ≡ laxOf (config layout) (now (mem .entry)) held (now (guests .entry)) (request .address .0) (request .depth) (page .0) writable walked ⌝ }
 {
-    let exits = 1 + exit_of(walked);
-    match walked {
-        Walked::Arrived {
-            page: p,
-            writable: w,
-            reads,
-        } => filled(
-            mem, layout, held, guests, request, page, writable, exits, walked, false,
-        ),
-        Walked::Faulted { fault, reads } => filled(
-            mem, layout, held, guests, request, page, writable, exits, walked, false,
-        ),
-        Walked::Damaged => damaged(held),
+    if broken(walked) {
+        return damaged(held);
     }
+    filled(
+        mem,
+        layout,
+        held,
+        guests,
+        request,
+        page,
+        writable,
+        1 + exit_of(walked),
+        walked,
+        false,
+    )
 }
 
 // With bits on, does the path that a request fills let stores pass? Not where a load comes to an entry that is not dirty.
-fn passes(
-    mem: &[u64],
-    layout: Layout,
-    guests: &[u64; 8],
-    request: Request,
-    writable: bool,
-) -> bool
+fn passes(mem: &[u64], layout: Layout, guests: &[u64; 8], request: Request, writable: bool) -> bool
     requires { ⌜ (LayoutFits layout) × (request .depth ≤ layout .levels) × (Frames (now guests)) ⌝ }
     ensures { λ r. ⌜ r ≡ passesOf (config layout) (now (mem .entry)) (now (guests .entry)) (request .store) (request .address .0) (request .depth) writable ⌝ }
 {
@@ -545,7 +561,7 @@ fn strict(
     before: u64,
     walked: Walked,
 ) -> Translated
-    requires { ⌜ (LayoutFits (space .layout)) × (request .depth ≤ space .layout .levels) × (Frames (now guests)) × (before ≤ 65536) × (ReadsFrom (space .layout .levels - request .depth) walked) ⌝ }
+    requires { ⌜ (LayoutFits (space .layout)) × (request .depth ≤ space .layout .levels) × (page .0 < frameLimit) × (Frames (now guests)) × (before ≤ 65536) × (ReadsFrom (space .layout .levels - request .depth) walked) ⌝ }
     ensures { λ r. ⌜ yields r (now (mem .exit)) ≡ strictBy (config (space .layout)) (now (mem .entry)) held (now (guests .entry)) (request .store) (request .address .0) (request .depth) before (page .0) writable (checkedOf (config (space .layout)) (space .top) (now (mem .entry)) (root .0) (request .store) (request .address .0) (request .depth)) walked ⌝ }
 {
     let l = space.layout;

@@ -1,76 +1,86 @@
+-- At the depth of all levels the frame goes into the record; below it the fill's way decides. Assumes nothing.
+use borrow.Author.Tests.{le-leb, lt-leb}
+use Rattle.translate.specs.Translate.{filledOf}
 use borrow.Author.Needs.{needs}
 use Rattle.translate.proofs.filled.Statement.{statement}
 use Rattle.translate.proofs.filled.Tie as tie
-use Rattle.translate.proofs.filled.Reads as reads
-use Rattle.translate.proofs.filled.Lts as lts
-use Rattle.shadow.proofs.entry_for.Reads as entry-for-reads
-use Rattle.shadow.proofs.fill.Reads as fill-reads
-use Rattle.translate.proofs.damaged.Reads as damaged-reads
-use Rattle.translate.proofs.path_of.Reads as path-of-reads
 
--- src/lib.rt:414:9
 returns : tie.Need-returns
-returns c = ?
+unfolding filledOf
+returns c =
+    let if1 = c .if1 in
+    rw (le-leb _ _ (if1 .taken))
 
--- src/lib.rt:424:9
 entry-for-requires : tie.Need-entry-for-requires
-entry-for-requires c κs = ?
+unfolding filledOf
+entry-for-requires c κs =
+    let pre = c .before .before .before .before .before .before .before .pre in
+    pre .2
 
--- src/lib.rt:425:9
 path-of-requires : tie.Need-path-of-requires
 path-of-requires c κs = search needs
 
--- src/lib.rt:432:9
 sub-fill : tie.Need-sub-fill
 sub-fill c = search needs
 
--- src/lib.rt:426:9
 fill-requires : tie.Need-fill-requires
 fill-requires c κs = search needs
 
--- src/lib.rt:438:17
 enum-known-way : tie.Need-enum-known-way
 enum-known-way c = search needs
 
--- src/lib.rt:447:21
 enum-told : tie.Need-enum-told
 enum-told c = search needs
 
--- src/lib.rt:447:21
 damaged-requires : tie.Need-damaged-requires
 damaged-requires c κs = search needs
 
--- src/lib.rt:448:25
 enum-told-2 : tie.Need-enum-told-2
 enum-told-2 c = search needs
 
--- src/lib.rt:448:25
 damaged-requires-2 : tie.Need-damaged-requires-2
 damaged-requires-2 c κs = search needs
 
--- src/lib.rt:396:1
 same-length : tie.Need-same-length
 same-length c = search needs
 
--- src/lib.rt:396:1
 returns-2 : tie.Need-returns-2
-returns-2 c = ?
+unfolding filledOf
+returns-2 c =
+    let way = c .before .way in
+    let fill = c .before .before .before .before .before .before .fill in
+    let path-of = c .before .before .before .before .before .before .before .before .before .before .path-of in
+    let entry-for = c .before .before .before .before .before .before .before .before .before .before .before .entry-for in
+    let if1 = c .before .before .before .before .before .before .before .before .before .before .before .before .before .if1 in
+    rw (lt-leb _ _ (if1 .left), ← path-of .ensures, ← entry-for .ensures, ← fill .ensures, way .given .1)
 
--- src/lib.rt:396:1
 same-length-2 : tie.Need-same-length-2
 same-length-2 c = search needs
 
--- src/lib.rt:396:1
 returns-3 : tie.Need-returns-3
-returns-3 c = ?
+unfolding filledOf
+returns-3 c =
+    let damaged = c .damaged in
+    let enum-told = c .before .enum-told in
+    let fill = c .before .before .before .before .before .before .fill in
+    let path-of = c .before .before .before .before .before .before .before .before .before .before .path-of in
+    let entry-for = c .before .before .before .before .before .before .before .before .before .before .before .entry-for in
+    let if1 = c .before .before .before .before .before .before .before .before .before .before .before .before .before .if1 in
+    rw (lt-leb _ _ (if1 .left), ← path-of .ensures, ← entry-for .ensures, ← fill .ensures, enum-told .given .1, damaged .ensures)
 
--- src/lib.rt:396:1
 same-length-3 : tie.Need-same-length-3
 same-length-3 c = search needs
 
--- src/lib.rt:396:1
 returns-4 : tie.Need-returns-4
-returns-4 c = ?
+unfolding filledOf
+returns-4 c =
+    let damaged2 = c .damaged2 in
+    let enum-told2 = c .before .enum-told2 in
+    let fill = c .before .before .before .before .before .before .fill in
+    let path-of = c .before .before .before .before .before .before .before .before .before .before .path-of in
+    let entry-for = c .before .before .before .before .before .before .before .before .before .before .before .entry-for in
+    let if1 = c .before .before .before .before .before .before .before .before .before .before .before .before .before .if1 in
+    rw (lt-leb _ _ (if1 .left), ← path-of .ensures, ← entry-for .ensures, ← fill .ensures, enum-told2 .given .1, damaged2 .ensures)
 
 pub filled-spec : {M : Type 1} → statement M
 filled-spec =

@@ -1,36 +1,39 @@
+-- What is owed is asked only where a bit lacks. Assumes nothing.
+use borrow.Author.Tests.{not-true, not-false}
+use Rattle.translate.specs.Translate.{entriesOf}
 use borrow.Author.Needs.{needs}
 use Rattle.translate.proofs.judge.Statement.{statement}
 use Rattle.translate.proofs.judge.Tie as tie
-use Rattle.translate.proofs.judge.Reads as reads
-use Rattle.translate.proofs.judge.Lts as lts
-use Rattle.accessed.proofs.lacks.Reads as lacks-reads
-use Rattle.accessed.proofs.owed.Reads as owed-reads
-use Rattle.entry.proofs.GuestVirtual.page.Reads as page-reads
-use Rattle.translate.proofs.owes.Reads as owes-reads
 
--- src/lib.rt:207:9
 page-requires : tie.Need-page-requires
 page-requires c κs = search needs
 
--- src/lib.rt:208:9
 lacks-requires : tie.Need-lacks-requires
 lacks-requires c κs = search needs
 
--- src/lib.rt:209:9
 returns : tie.Need-returns
-returns c = ?
+unfolding entriesOf
+returns c =
+    let if1 = c .if1 in
+    let lacks = c .before .lacks in
+    let page = c .before .before .page in
+    rw (← page .ensures, ← lacks .ensures, not-true (lacks .result) (if1 .taken))
 
--- src/lib.rt:211:9
 owed-requires : tie.Need-owed-requires
 owed-requires c κs = search needs
 
--- src/lib.rt:212:5
 owes-requires : tie.Need-owes-requires
 owes-requires c κs = search needs
 
--- src/lib.rt:196:1
 returns-2 : tie.Need-returns-2
-returns-2 c = ?
+unfolding entriesOf
+returns-2 c =
+    let owes = c .owes in
+    let owed = c .before .owed in
+    let if1 = c .before .before .if1 in
+    let lacks = c .before .before .before .lacks in
+    let page = c .before .before .before .before .page in
+    rw (← page .ensures, ← lacks .ensures, not-false (lacks .result) (if1 .left), ← owed .ensures) (owes .ensures)
 
 pub judge-spec : {M : Type 1} → statement M
 judge-spec =

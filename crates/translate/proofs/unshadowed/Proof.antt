@@ -1,66 +1,91 @@
+-- With bits off the plain walk; with bits on its end is judged. Assumes nothing.
+use mathlib.Core.Path.{_≡_, sym, ap, _∙_}
+use native.Mathlib.Omega.{arith}
+use Rattle.layout.specs.Layout.{config}
+use Rattle.walk.specs.declared.Trail.{Trail}
+use Rattle.walk.specs.Memory.{walkedOf, trailFrom}
+use Rattle.translate.specs.Translate.{whole as wholeWalk, settledBy, checkedOf}
+use Rattle.translate.proofs.Bits.{root-frames, whole-checked, chosen-off, chosen-on, unshadowed-off, unshadowed-on}
 use borrow.Author.Needs.{needs}
 use Rattle.translate.proofs.unshadowed.Statement.{statement}
 use Rattle.translate.proofs.unshadowed.Tie as tie
-use Rattle.translate.proofs.unshadowed.Reads as reads
-use Rattle.translate.proofs.unshadowed.Lts as lts
-use Rattle.translate.proofs.damaged.Reads as damaged-reads
-use Rattle.translate.proofs.judge.Reads as judge-reads
-use Rattle.translate.proofs.plain.Reads as plain-reads
-use Rattle.translate.proofs.settled.Reads as settled-reads
-use Rattle.translate.proofs.stopped.Reads as stopped-reads
-use Rattle.translate.proofs.whole.Reads as whole-reads
 
--- src/lib.rt:330:9
 plain-requires : tie.Need-plain-requires
 plain-requires c κs = search needs
 
--- src/lib.rt:330:9
 returns : tie.Need-returns
-returns c = ?
+returns c =
+    let plain = c .plain in
+    let if1 = c .before .if1 in
+    let args = c .before .before .before .before .args in
+    plain .ensures ∙ sym (unshadowed-off (config (args .space .layout)) (args .space .top) (args .mem .now) (args .held) (args .root .0) (args .request .store) (args .request .address .0) (args .request .depth) (chosen-off _ (if1 .taken)))
 
--- src/lib.rt:332:17
 whole-requires : tie.Need-whole-requires
 whole-requires c κs = search needs
 
--- src/lib.rt:336:13
 enum-known-walked : tie.Need-enum-known-walked
 enum-known-walked c = search needs
 
--- src/lib.rt:343:13
 judge-requires : tie.Need-judge-requires
-judge-requires c κs = ?
+unfolding trailFrom
+judge-requires c κs =
+    let walked = c .before .before .before .walked in
+    let whole = c .before .before .before .before .before .whole in
+    let args = c .before .before .before .before .before .before .before .before .before .args in
+    let pre = c .before .before .before .before .before .before .before .before .before .pre in
+    let came : walkedOf (config (args .space .layout)) (args .space .top) (args .mem .now) 0 (wholeWalk (config (args .space .layout)) (args .request .store) (args .root .0) (args .request .address .0)) ≡ whole .result .walked = sym (ap (λ (t : Trail). t .walked) (whole .ensures)) in
+    (pre, rw (whole .ensures) (root-frames (config (args .space .layout)) (args .space .top) (args .mem .now) (args .root .0) (args .request .store) _ _ _ _ (pre .3) (came ∙ walked .given .1)))
 
--- src/lib.rt:339:14
 settled-requires : tie.Need-settled-requires
 settled-requires c κs = search needs
 
--- src/lib.rt:345:27
 enum-known-walked-2 : tie.Need-enum-known-walked-2
 enum-known-walked-2 c = search needs
 
--- src/lib.rt:345:45
 stopped-requires : tie.Need-stopped-requires
 stopped-requires c κs = search needs
 
--- src/lib.rt:346:28
 enum-told : tie.Need-enum-told
 enum-told c = search needs
 
--- src/lib.rt:346:28
 damaged-requires : tie.Need-damaged-requires
 damaged-requires c κs = search needs
 
--- src/lib.rt:319:1
 returns-2 : tie.Need-returns-2
-returns-2 c = ?
+unfolding trailFrom
+returns-2 c =
+    let settled = c .settled in
+    let judge = c .before .judge in
+    let walked = c .before .before .before .before .before .walked in
+    let whole = c .before .before .before .before .before .before .before .whole in
+    let if1 = c .before .before .before .before .before .before .before .before .if1 in
+    let args = c .before .before .before .before .before .before .before .before .before .before .before .args in
+    let pre = c .before .before .before .before .before .before .before .before .before .before .before .pre in
+    let came : walkedOf (config (args .space .layout)) (args .space .top) (args .mem .now) 0 (wholeWalk (config (args .space .layout)) (args .request .store) (args .root .0) (args .request .address .0)) ≡ whole .result .walked = sym (ap (λ (t : Trail). t .walked) (whole .ensures)) in
+    let bits : judge .result ≡ (checkedOf (config (args .space .layout)) (args .space .top) (args .mem .now) (args .root .0) (args .request .store) (args .request .address .0) (args .request .depth)) = judge .ensures ∙ rw (whole .ensures) (whole-checked (config (args .space .layout)) (args .space .top) (args .mem .now) (args .root .0) (args .request .store) (args .request .address .0) _ _ _ (pre .3) (omega (arith, pre .0)) (came ∙ walked .given .1) (args .request .depth)) in
+    settled .ensures ∙ ap (settledBy (args .held) _ _) bits ∙ sym (unshadowed-on (config (args .space .layout)) (args .space .top) (args .mem .now) (args .held) (args .root .0) (args .request .store) (args .request .address .0) (args .request .depth) _ (chosen-on _ (if1 .left)) (came ∙ walked .given .1))
 
--- src/lib.rt:319:1
 returns-3 : tie.Need-returns-3
-returns-3 c = ?
+unfolding trailFrom
+returns-3 c =
+    let stopped = c .stopped in
+    let walked2 = c .before .before .walked2 in
+    let whole = c .before .before .before .before .whole in
+    let if1 = c .before .before .before .before .before .if1 in
+    let args = c .before .before .before .before .before .before .before .before .args in
+    let came : walkedOf (config (args .space .layout)) (args .space .top) (args .mem .now) 0 (wholeWalk (config (args .space .layout)) (args .request .store) (args .root .0) (args .request .address .0)) ≡ whole .result .walked = sym (ap (λ (t : Trail). t .walked) (whole .ensures)) in
+    stopped .ensures ∙ sym (unshadowed-on (config (args .space .layout)) (args .space .top) (args .mem .now) (args .held) (args .root .0) (args .request .store) (args .request .address .0) (args .request .depth) _ (chosen-on _ (if1 .left)) (came ∙ walked2 .given .1))
 
--- src/lib.rt:319:1
 returns-4 : tie.Need-returns-4
-returns-4 c = ?
+unfolding trailFrom
+returns-4 c =
+    let damaged = c .damaged in
+    let enum-told = c .before .enum-told in
+    let whole = c .before .before .before .whole in
+    let if1 = c .before .before .before .before .if1 in
+    let args = c .before .before .before .before .before .before .before .args in
+    let came : walkedOf (config (args .space .layout)) (args .space .top) (args .mem .now) 0 (wholeWalk (config (args .space .layout)) (args .request .store) (args .root .0) (args .request .address .0)) ≡ whole .result .walked = sym (ap (λ (t : Trail). t .walked) (whole .ensures)) in
+    damaged .ensures ∙ sym (unshadowed-on (config (args .space .layout)) (args .space .top) (args .mem .now) (args .held) (args .root .0) (args .request .store) (args .request .address .0) (args .request .depth) _ (chosen-on _ (if1 .left)) (came ∙ enum-told .given .1))
 
 pub unshadowed-spec : {M : Type 1} → statement M
 unshadowed-spec =
