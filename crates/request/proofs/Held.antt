@@ -18,8 +18,9 @@ use Rattle.walk.specs.declared.Walked.{Walked}
 use Rattle.walk.specs.declared.Walked.the-variants as walked
 use Rattle.translate.specs.declared.Held.{Held}
 use Rattle.translate.specs.declared.Translated.{Translated}
-use Rattle.translate.specs.Translate.{HeldFits, translation, damaged, exitBy, directOf, servedOf, servesOf, foundOf, missedOf, foundBy, plainOf, translateOf, unservedOf}
+use Rattle.translate.specs.Translate.{HeldFits, translation, exitBy, directOf, servedOf, damaged, throughOf, unshadowedOf, servesOf, foundOf, missedOf, foundBy, translateOf, unservedOf}
 use Rattle.translate.proofs.Fits.{ArrivedIn, FoundIs, found-is}
+use Rattle.translate.proofs.Bits.{through-off}
 use Rattle.translate.proofs.Leaves.{Leaves, translate-leaves}
 use Rattle.request.specs.Access.{ReachesFrame, servingBy, pathHeldOf}
 
@@ -32,14 +33,13 @@ reaches c walked.Damaged few g = tt
 module _ (c : Config) (ht : ℕ) (m : List ℕ) (h : Held) (root : ℕ) (st : Bool) (a d : ℕ) where
   -- what a request comes to through the path that leads to t
   abbrev pub through : HostPhysical → Bool → After Translated
-  through t w = let r = directOf c ht m st a d (t .0) w in yields (translation h (exitBy r) r) m
+  through t w = yields (throughOf c ht m h root st a d (t .0) w) m
 
   at-depth : d ≤ c .levels → translateOf c ht m h root st a d ≡ foundBy c ht m h root st a d (foundOf c m h a d)
   unfolding translateOf
-  at-depth l = ap (λ b. cond b (yields (plainOf c ht m h root st a) m) (foundBy c ht m h root st a d (foundOf c m h a d))) (le-ltb (c .levels) d l)
+  at-depth l = ap (λ b. cond b (yields (unshadowedOf c ht m h root st a d) m) (foundBy c ht m h root st a d (foundOf c m h a d))) (le-ltb (c .levels) d l)
 
   serves : (t : HostPhysical) (w : Bool) (x : HostWalk) → servingBy st d x ≡ host.Found t w → foundBy c ht m h root st a d x ≡ through t w
-  unfolding servedOf
   serves t w (host.Absent n) e = let z : _≡_ {A = ℕ} 0 1 = cc in absurd (omega arith)
   serves t w host.Damaged e = let z : _≡_ {A = ℕ} 0 1 = cc in absurd (omega arith)
   serves t w (host.Found u v) e = go (servesOf st d v) refl
@@ -49,9 +49,8 @@ module _ (c : Config) (ht : ℕ) (m : List ℕ) (h : Held) (root : ℕ) (st : Bo
           let f : host.Found u v ≡ host.Found t w = sym (ap (λ b. cond b (host.Found u v) (host.Absent 0)) q) ∙ e in
           let p : u ≡ t = cc in
           let r : v ≡ w = cc in
-          ap (λ b. cond b (yields (servedOf c ht m h st a d (u .0) v 0) m) (missedOf c ht m h root st a d)) q
-          ∙ ap₂ (λ x y. yields (servedOf c ht m h st a d (x .0) y 0) m) p r
-          ∙ ap (λ x. yields (translation h x (directOf c ht m st a d (t .0) w)) m) (zero-add (exitBy (directOf c ht m st a d (t .0) w)))
+          ap (λ b. cond b (yields (throughOf c ht m h root st a d (u .0) v) m) (missedOf c ht m h root st a d)) q
+          ∙ ap₂ (λ x y. yields (throughOf c ht m h root st a d (x .0) y) m) p r
       go false q =
           let f : host.Absent 0 ≡ host.Found t w = sym (ap (λ b. cond b (host.Found u v) (host.Absent 0)) q) ∙ e in
           let z : _≡_ {A = ℕ} 0 1 = cc in absurd (omega arith)
@@ -59,6 +58,14 @@ module _ (c : Config) (ht : ℕ) (m : List ℕ) (h : Held) (root : ℕ) (st : Bo
   pub path-serves : (t : HostPhysical) (w : Bool) → d ≤ c .levels → pathHeldOf c m h st a d ≡ host.Found t w → translateOf c ht m h root st a d ≡ through t w
   unfolding pathHeldOf
   path-serves t w l e = at-depth l ∙ serves t w (foundOf c m h a d) e
+
+  -- with bits off what the direct part comes to is what the request comes to
+  pub path-plainly : (t : HostPhysical) (w : Bool) → c .bits ≡ false → d ≤ c .levels → pathHeldOf c m h st a d ≡ host.Found t w
+      → let r = directOf c ht m st a d (t .0) w in translateOf c ht m h root st a d ≡ yields (translation h (exitBy r) r false) m
+  unfolding servedOf
+  path-plainly t w off l e =
+      let r = directOf c ht m st a d (t .0) w in
+      path-serves t w l e ∙ ap (λ x. yields x m) (through-off c ht m h root st a d (t .0) w off) ∙ ap (λ x. yields (translation h x r false) m) (zero-add (exitBy r))
 
   misses : (n : ℕ) (x : HostWalk) → servingBy st d x ≡ host.Absent n → foundBy c ht m h root st a d x ≡ missedOf c ht m h root st a d
   misses n (host.Absent k) e = refl
@@ -69,20 +76,20 @@ module _ (c : Config) (ht : ℕ) (m : List ℕ) (h : Held) (root : ℕ) (st : Bo
       go true q =
           let f : host.Found u v ≡ host.Absent n = sym (ap (λ b. cond b (host.Found u v) (host.Absent 0)) q) ∙ e in
           let z : _≡_ {A = ℕ} 0 1 = cc in absurd (omega arith)
-      go false q = ap (λ b. cond b (yields (servedOf c ht m h st a d (u .0) v 0) m) (missedOf c ht m h root st a d)) q
+      go false q = ap (λ b. cond b (yields (throughOf c ht m h root st a d (u .0) v) m) (missedOf c ht m h root st a d)) q
 
   -- no path serves: none does, or the depth is more than all levels
   pub path-missed : (n : ℕ) → d ≤ c .levels → pathHeldOf c m h st a d ≡ host.Absent n → translateOf c ht m h root st a d ≡ unservedOf c ht m h root st a d
   unfolding pathHeldOf unservedOf
   path-missed n l e =
       at-depth l ∙ misses n (foundOf c m h a d) e
-      ∙ sym (ap (λ b. cond b (yields (plainOf c ht m h root st a) m) (missedOf c ht m h root st a d)) (le-ltb (c .levels) d l))
+      ∙ sym (ap (λ b. cond b (yields (unshadowedOf c ht m h root st a d) m) (missedOf c ht m h root st a d)) (le-ltb (c .levels) d l))
 
   pub path-none : c .levels < d → translateOf c ht m h root st a d ≡ unservedOf c ht m h root st a d
   unfolding translateOf unservedOf
   path-none l =
-      ap (λ b. cond b (yields (plainOf c ht m h root st a) m) (foundBy c ht m h root st a d (foundOf c m h a d))) (lt-ltb (c .levels) d l)
-      ∙ sym (ap (λ b. cond b (yields (plainOf c ht m h root st a) m) (missedOf c ht m h root st a d)) (lt-ltb (c .levels) d l))
+      ap (λ b. cond b (yields (unshadowedOf c ht m h root st a d) m) (foundBy c ht m h root st a d (foundOf c m h a d))) (lt-ltb (c .levels) d l)
+      ∙ sym (ap (λ b. cond b (yields (unshadowedOf c ht m h root st a d) m) (missedOf c ht m h root st a d)) (lt-ltb (c .levels) d l))
 
   breaks : (x : HostWalk) → servingBy st d x ≡ host.Damaged → foundBy c ht m h root st a d x ≡ damaged h m
   breaks (host.Absent k) e = let z : _≡_ {A = ℕ} 0 1 = cc in absurd (omega arith)

@@ -7,7 +7,7 @@ ghost use Rattle.words.specs.After.{yields};
 ghost use Rattle.words.specs.Words.{wordIn};
 ghost use Rattle.layout.specs.Layout.{LayoutFits, config};
 ghost use Rattle.translate.specs.Translate.{HeldFits, translation};
-ghost use Rattle.request.specs.Access.{Inside, ReachesFrame, putWordOf, pathHeldOf, loadBy, loadOf, writtenBy, storeBy, storeOf, deviceOf};
+ghost use Rattle.request.specs.Access.{Inside, ReachesFrame, bitsOf, settledOf, droppedOf, bytesIn, pathHeldOf, loadFrom, loadOf, finishBy, storeFrom, storeOf, deviceOf};
 use entry::GuestPhysical;
 use entry::GuestVirtual;
 use entry::HostPhysical;
@@ -64,32 +64,37 @@ fn with_bytes(mem: &[u64], page: HostPhysical, address: u64, width: u64, value: 
     words::with_part(word, 8 * width, 8 * (address % 8), value)
 }
 
-// The word of a page around an address gets the value, and the held paths whose shadow part read it are dropped. The drops are found
-// before the word is written, so that damage met on the way has changed no guest word.
-fn put_word(
+// The bytes of a page at that address get the low bytes of the value.
+fn put_bytes(mem: &mut [u64], page: HostPhysical, address: u64, width: u64, value: u64)
+    requires { ⌜ (page .0 < frameLimit) × (Inside address width) ⌝ }
+    ensures { λ r. ⌜ now (mem .exit) ≡ bytesIn (now (mem .entry)) (page .0) address width value ⌝ }
+{
+    let word = with_bytes(mem, page, address, width, value);
+    words::set_in(mem, page.0, word_of(address), word);
+}
+
+// Before the word of a page around an address is stored to: the held paths whose shadow part read it are dropped. The word is written
+// afterwards, so that damage met here has changed no guest word.
+fn drop_readers(
     mem: &mut [u64],
     layout: Layout,
     pool: Pool,
     page: HostPhysical,
     address: u64,
-    value: u64,
 ) -> Put
     requires { ⌜ (LayoutFits layout) × (pool .fresh ≤ layout .shadows) × (page .0 < frameLimit) ⌝ }
-    ensures { λ r. ⌜ yields r (now (mem .exit)) ≡ putWordOf (config layout) (now (mem .entry)) pool (page .0) (wordOf address) value ⌝ }
+    ensures { λ r. ⌜ yields r (now (mem .exit)) ≡ droppedOf (config layout) (now (mem .entry)) pool (page .0) (wordOf address) ⌝ }
 {
-    let i = word_of(address);
     if !shadow::watched(mem, layout, pool.fresh, page) {
-        words::set_in(mem, page.0, i, value);
         return Put {
             pool: pool,
             exits: 0,
             ok: true,
         };
     }
-    let left = drops::drop_word(mem, layout, pool, page, i);
+    let left = drops::drop_word(mem, layout, pool, page, word_of(address));
     let after = left.pool;
     if left.ok {
-        words::set_in(mem, page.0, i, value);
         return Put {
             pool: after,
             exits: 1,
@@ -100,6 +105,46 @@ fn put_word(
         pool: pool,
         exits: 0,
         ok: false,
+    }
+}
+
+// ---- the bits
+
+// The accessed and dirty bits of a request's whole walk are set.
+fn set_own(mem: &mut [u64], space: Space, root: GuestPhysical, store: bool, address: GuestVirtual)
+    requires { ⌜ LayoutFits (space .layout) ⌝ }
+    ensures { λ r. ⌜ now (mem .exit) ≡ bitsOf (config (space .layout)) (space .top) (now (mem .entry)) (root .0) store (address .0) ⌝ }
+{
+    let trail = translate::whole(mem, space, store, root, address);
+    let walked = trail.walked;
+    match walked {
+        Walked::Arrived {
+            page,
+            writable,
+            reads,
+        } => {
+            let number = address.page();
+            accessed::set_bits(mem, store, number, space.layout.levels, &trail.tables);
+        }
+        Walked::Faulted { fault, reads } => {}
+        Walked::Damaged => {}
+    }
+}
+
+// They are set if they are to be.
+fn settle(
+    mem: &mut [u64],
+    space: Space,
+    root: GuestPhysical,
+    store: bool,
+    address: GuestVirtual,
+    sets: bool,
+)
+    requires { ⌜ LayoutFits (space .layout) ⌝ }
+    ensures { λ r. ⌜ now (mem .exit) ≡ settledOf (config (space .layout)) (space .top) (root .0) store (address .0) sets (now (mem .entry)) ⌝ }
+{
+    if sets {
+        set_own(mem, space, root, store, address);
     }
 }
 
@@ -142,32 +187,38 @@ fn path_held(
     }
 }
 
-// What a load says that came so far; before: what was held when it came.
+// What a load says that came so far: its bits are set, then its bytes are read. before: what was held when it came.
 fn loaded(
-    mem: &[u64],
+    mem: &mut [u64],
+    space: Space,
+    root: GuestPhysical,
     before: Held,
     held: Held,
     walked: Walked,
     exits: u64,
-    address: u64,
+    sets: bool,
+    address: GuestVirtual,
     width: u64,
 ) -> Served
-    requires { ⌜ (ReachesFrame walked) × (Inside address width) ⌝ }
-    ensures { λ r. ⌜ yields r (now (mem .entry)) ≡ loadBy before address width (yields (translation held exits walked) (now (mem .entry))) walked ⌝ }
+    requires { ⌜ (LayoutFits (space .layout)) × (ReachesFrame walked) × (Inside (address .0) width) ⌝ }
+    ensures { λ r. ⌜ yields r (now (mem .exit)) ≡ loadFrom (config (space .layout)) (space .top) (root .0) before (address .0) width (yields (translation held exits walked sets) (now (mem .entry))) ⌝ }
 {
     match walked {
         Walked::Arrived {
             page,
             writable,
             reads,
-        } => Served {
-            held: held,
-            answer: Answer::Value {
-                word: read_bytes(mem, page, address, width),
-                references: reads,
-                exits: exits,
-            },
-        },
+        } => {
+            settle(mem, space, root, false, address, sets);
+            Served {
+                held: held,
+                answer: Answer::Value {
+                    word: read_bytes(mem, page, address.0, width),
+                    references: reads,
+                    exits: exits,
+                },
+            }
+        }
         Walked::Faulted { fault, reads } => Served {
             held: held,
             answer: Answer::Faulted {
@@ -201,9 +252,37 @@ pub fn load(
     if depth <= space.layout.levels {
         match path_held(mem, space.layout, held, false, address, depth) {
             HostWalk::Found { page, writable } => {
-                let walked = translate::direct(mem, space, request, page, writable);
-                let exits = translate::exit_of(walked);
-                return loaded(mem, held, held, walked, exits, address.0, width);
+                if space.layout.bits == 0 {
+                    let walked = translate::direct(mem, space, request, page, writable);
+                    let exits = translate::exit_of(walked);
+                    return loaded(
+                        mem,
+                        space,
+                        root,
+                        held,
+                        held,
+                        walked,
+                        exits,
+                        false,
+                        address,
+                        width,
+                    );
+                }
+                let t = translate::through(mem, space, root, held, request, page, writable);
+                let walked = t.walked;
+                let after = t.held;
+                return loaded(
+                    mem,
+                    space,
+                    root,
+                    held,
+                    after,
+                    walked,
+                    t.exits,
+                    t.sets,
+                    address,
+                    width,
+                );
             }
             HostWalk::Absent { reads } => {}
             HostWalk::Damaged => {
@@ -214,57 +293,67 @@ pub fn load(
     let t = translate::unserved(mem, space, root, held, request);
     let walked = t.walked;
     let after = t.held;
-    loaded(mem, held, after, walked, t.exits, address.0, width)
+    loaded(
+        mem,
+        space,
+        root,
+        held,
+        after,
+        walked,
+        t.exits,
+        t.sets,
+        address,
+        width,
+    )
 }
 
-// A store that was granted: the word around its bytes is written, after so many references and exits; before: what was held when it
-// came.
-fn written(
+// The bytes of a granted store are written, and what it says; put: what its drops left.
+fn finish(
     mem: &mut [u64],
-    layout: Layout,
-    before: Held,
     held: Held,
+    put: Put,
     page: HostPhysical,
     address: u64,
-    word: u64,
+    width: u64,
+    value: u64,
     references: u64,
     exits: u64,
 ) -> Served
-    requires { ⌜ (LayoutFits layout) × (held .pool .fresh ≤ layout .shadows) × (page .0 < frameLimit) × (exits ≤ 65536) ⌝ }
-    ensures { λ r. ⌜ yields r (now (mem .exit)) ≡ writtenBy before held references exits (putWordOf (config layout) (now (mem .entry)) (held .pool) (page .0) (wordOf address) word) ⌝ }
+    requires { ⌜ (page .0 < frameLimit) × (Inside address width) × (exits ≤ 65536) × (put .exits ≤ 65536) ⌝ }
+    ensures { λ r. ⌜ yields r (now (mem .exit)) ≡ finishBy held references exits (page .0) address width value put (now (mem .entry)) ⌝ }
 {
-    let put = put_word(mem, layout, held.pool, page, address, word);
+    put_bytes(mem, page, address, width, value);
     let pool = put.pool;
     let frame = held.frame;
-    if put.ok {
-        return Served {
-            held: Held {
-                pool: pool,
-                frame: frame,
-            },
-            answer: Answer::Done {
-                references: references,
-                exits: exits + put.exits,
-            },
-        };
+    Served {
+        held: Held {
+            pool: pool,
+            frame: frame,
+        },
+        answer: Answer::Done {
+            references: references,
+            exits: exits + put.exits,
+        },
     }
-    refused(before, 11)
 }
 
-// What a store does that came so far; before: what was held when it came.
+// What a store does that came so far: the paths that read its word are dropped, its bits are set, then its bytes. before: what was held
+// when it came.
 fn stored(
     mem: &mut [u64],
-    layout: Layout,
+    space: Space,
+    root: GuestPhysical,
     before: Held,
     held: Held,
     walked: Walked,
     exits: u64,
-    address: u64,
+    sets: bool,
+    address: GuestVirtual,
     width: u64,
     value: u64,
 ) -> Served
-    requires { ⌜ (LayoutFits layout) × (held .pool .fresh ≤ layout .shadows) × (ReachesFrame walked) × (Inside address width) × (exits ≤ 65536) ⌝ }
-    ensures { λ r. ⌜ yields r (now (mem .exit)) ≡ storeBy (config layout) before address width value (yields (translation held exits walked) (now (mem .entry))) walked ⌝ }
+    requires { ⌜ (LayoutFits (space .layout)) × (held .pool .fresh ≤ space .layout .shadows) × (ReachesFrame walked) × (Inside (address .0) width) × (exits ≤ 65536) ⌝ }
+    ensures { λ r. ⌜ yields r (now (mem .exit)) ≡ storeFrom (config (space .layout)) (space .top) (root .0) before (address .0) width value (yields (translation held exits walked sets) (now (mem .entry))) ⌝ }
 {
     match walked {
         Walked::Arrived {
@@ -272,8 +361,12 @@ fn stored(
             writable,
             reads,
         } => {
-            let word = with_bytes(mem, page, address, width, value);
-            written(mem, layout, before, held, page, address, word, reads, exits)
+            let put = drop_readers(mem, space.layout, held.pool, page, address.0);
+            if !put.ok {
+                return refused(before, 11);
+            }
+            settle(mem, space, root, true, address, sets);
+            finish(mem, held, put, page, address.0, width, value, reads, exits)
         }
         Walked::Faulted { fault, reads } => Served {
             held: held,
@@ -309,16 +402,36 @@ pub fn store(
     if depth <= space.layout.levels {
         match path_held(mem, space.layout, held, true, address, depth) {
             HostWalk::Found { page, writable } => {
-                let walked = translate::direct(mem, space, request, page, writable);
-                let exits = translate::exit_of(walked);
+                if space.layout.bits == 0 {
+                    let walked = translate::direct(mem, space, request, page, writable);
+                    let exits = translate::exit_of(walked);
+                    return stored(
+                        mem,
+                        space,
+                        root,
+                        held,
+                        held,
+                        walked,
+                        exits,
+                        false,
+                        address,
+                        width,
+                        value,
+                    );
+                }
+                let t = translate::through(mem, space, root, held, request, page, writable);
+                let walked = t.walked;
+                let after = t.held;
                 return stored(
                     mem,
-                    space.layout,
+                    space,
+                    root,
                     held,
-                    held,
+                    after,
                     walked,
-                    exits,
-                    address.0,
+                    t.exits,
+                    t.sets,
+                    address,
                     width,
                     value,
                 );
@@ -334,18 +447,20 @@ pub fn store(
     let after = t.held;
     stored(
         mem,
-        space.layout,
+        space,
+        root,
         held,
         after,
         walked,
         t.exits,
-        address.0,
+        t.sets,
+        address,
         width,
         value,
     )
 }
 
-// A device's store at a guest-physical address: its host walk, then the bytes as for a store: 11.
+// A device's store at a guest-physical address: its host walk, then the bytes as for a store; no bits: 11.
 pub fn device_store(
     mem: &mut [u64],
     space: Space,
@@ -364,8 +479,11 @@ pub fn device_store(
             writable,
             reads,
         } => {
-            let word = with_bytes(mem, page, address, width, value);
-            written(mem, space.layout, held, held, page, address, word, reads, 0)
+            let put = drop_readers(mem, space.layout, held.pool, page, address);
+            if !put.ok {
+                return refused(held, 11);
+            }
+            finish(mem, held, put, page, address, width, value, reads, 0)
         }
         Walked::Faulted { fault, reads } => Served {
             held: held,

@@ -141,7 +141,7 @@ pub fn serve(
 }
 
 // The whole plain walk.
-fn whole(
+pub fn whole(
     mem: &[u64],
     space: Space,
     store: bool,
