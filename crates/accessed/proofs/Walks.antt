@@ -4,7 +4,7 @@ use mathlib.Core.Path.{_≡_, refl, sym, ap, ap₂, _∙_, subst}
 use Prim.Native.Nat.{ℕ, zero, suc, pred, _+_, _<_, _≤_}
 use native.Mathlib.Nat.{zero-add}
 use native.Mathlib.Omega.{arith}
-use mathlib.Core.Bool.{Bool, true, false, not, _&&_, _||_}
+use mathlib.Core.Bool.{Bool, true, false}
 use mathlib.Core.List.{List, [], _∷_, map}
 use mathlib.Core.Option.{Option, none, some}
 use lib.Dec.{eqb, ltb}
@@ -18,10 +18,8 @@ use Rattle.spec.specs.Entry.{frameOf, frameLimit}
 use Rattle.spec.specs.Prefix.{All}
 use Rattle.spec.specs.Walk.{Walk, World, Trace, Result, granted, failed, trace}
 use Rattle.spec.specs.Plain.{Place, hosted, levels, walk}
-use Rattle.spec.specs.Bits.{isLast, hasBits, lacks}
 use Rattle.spec_laws.proofs.Granted.{through, then-trace, hosted-granted, level-granted}
 use Rattle.entry.specs.declared.HostPhysical.{HostPhysical}
-use Rattle.words.specs.Words.{wordIn}
 use Rattle.layout.specs.declared.HostWalk.{HostWalk}
 use Rattle.layout.specs.declared.HostWalk.the-variants as host
 use Rattle.layout.specs.Layout.{page}
@@ -32,7 +30,7 @@ use Rattle.walk.specs.declared.Walked.{Walked}
 use Rattle.walk.specs.declared.Walked.the-variants as walked
 use Rattle.walk.specs.Memory.{placeOf, memoryWorld, absentBy, walkedBy, walkedOf, noted, framesOf, trailFrom, trailOf}
 use Rattle.walk.proofs.Trails.{noted-at}
-use Rattle.accessed.specs.Entries.{entries, Frames, wordsOf, namesOf}
+use Rattle.accessed.specs.Entries.{entries, Frames}
 
 -- a walk over memory arrives just where it is granted
 pub arrived-granted : (c : Config) (ht : ℕ) (m : List ℕ) (n : ℕ) (p : Walk Fault Place) (t : ℕ) (w : Bool) (k : ℕ)
@@ -178,11 +176,3 @@ module _ (c : Config) (ht : ℕ) (m : List ℕ) (few : c .frames ≤ 65536) wher
       let a = hosted-granted w root (t .mid) (t .first) in
       subst (λ (x : Trace Fault Place). All (λ f. f < frameLimit) (map (λ y. y .0) (x .reads))) (sym (then-trace w (hosted root) f (w .hostCost root) [] (root ∷ []) (t .mid) (a .1)))
       (levels-frames st (c .levels) (t .mid .0) true is r (found-small root (t .mid .0) (t .mid .1) (a .0)) (t .next))
-
--- ---- what the code is promised and what it yields, on a walk that arrived
-
--- whether an entry lacks a bit is asked of its word alone
-pub lacks-words : (w v : World) (st : Bool) (xs : List (ℕ × ℕ)) → ((t i : ℕ) → w .wordAt t i ≡ v .wordAt t i) → lacks w st xs ≡ lacks v st xs
-unfolding lacks
-lacks-words w v st [] e = refl
-lacks-words w v st (x ∷ xs) e = ap₂ (λ y b. not (hasBits (st && isLast xs) y) || b) (e (x .0) (x .1)) (lacks-words w v st xs e)

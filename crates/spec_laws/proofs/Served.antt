@@ -56,7 +56,7 @@ module _ (w : World) (st : Bool) where
   lacks-append [] y ys a = refl
   lacks-append (x ∷ xs) y ys a = ap (λ b. not b || lacks w st (xs ++ (y ∷ ys))) (above-has x xs y ys (a .0)) ∙ lacks-append xs y ys (a .1)
 
-  owed-level : (xs : List (ℕ × ℕ)) (gs : List ℕ) (o : ℕ × ℕ) → owed w st xs gs ≡ some o → o .0 ≤ length xs
+  pub owed-level : (xs : List (ℕ × ℕ)) (gs : List ℕ) (o : ℕ × ℕ) → owed w st xs gs ≡ some o → o .0 ≤ length xs
   unfolding owed
   owed-level [] gs o e = let z : _≡_ {A = ℕ} 0 1 = cc in absurd (omega arith)
   owed-level (x ∷ xs) [] o e = let z : _≡_ {A = ℕ} 0 1 = cc in absurd (omega arith)
@@ -177,7 +177,7 @@ module _ (c : Config) (m : Machine) (st : Bool) (a d : ℕ) (r : Place) (h : Hel
   -- ---- what it costs, whatever its direct part lacks
 
   -- it owes no bit but of the direct part's entries
-  owed-low : (q : Place) (o : ℕ × ℕ) → rest .result ≡ granted q → owes c here st (plain c m st a) ≡ some o → o .0 ≤ d
+  pub owed-low : (q : Place) (o : ℕ × ℕ) → rest .result ≡ granted q → owes c here st (plain c m st a) ≡ some o → o .0 ≤ d
   unfolding owes
   owed-low q o e k = go (c .bits) refl d refl
     where

@@ -21,6 +21,7 @@ use Rattle.spec.specs.Bits.{hasBits, withBits, isLast, lacks, mayWrite, owed, o
 use Rattle.spec.specs.Book.{Held}
 use Rattle.spec_laws.proofs.Lists.{and-first, and-second, or-first, or-second}
 use Rattle.spec_laws.proofs.EntryBits.{Kept, kept-refl, kept-trans, with-kept, with-has, bits-same}
+use Rattle.spec_laws.proofs.Local.{SameMapping, SameWord}
 use Rattle.spec_laws.proofs.Ignored.{AlikeWorld}
 use Rattle.spec_laws.proofs.Keeps.{Valid, alike-world, alike-keeps}
 
@@ -68,7 +69,7 @@ set-kept l i k ends = go (eqb k i) refl (ltb i (length l)) refl
 abbrev once : Config → Machine → ℕ × ℕ → Bool → Machine
 once c m x ends = stored c m (x .0) (x .1) (withBits ends (wordIn c m (x .0) (x .1)))
 
-once-more : (c : Config) (m : Machine) (x : ℕ × ℕ) (ends : Bool) → MoreBits c m (once c m x ends)
+pub once-more : (c : Config) (m : Machine) (x : ℕ × ℕ) (ends : Bool) → MoreBits c m (once c m x ends)
 once-more c m x ends = record {
   mappings = refl;
   root = refl;
@@ -195,3 +196,22 @@ pub bits-lacks : (c : Config) (st : Bool) (m : Machine) (r : Trace Fault Place) 
 unfolding bitsSet
 bits-lacks c st m r on a =
     ap (λ b. lacks (world c (cond b (setBits c st m (r .reads)) m)) st (r .reads)) on ∙ set-lacks c st m (r .reads) a
+
+-- ---- where the words and the mappings asked for are the same, so are the answers
+
+pub lacks-on : (w v : World) (st : Bool) (xs : List (ℕ × ℕ)) → All (SameWord w v) xs → lacks v st xs ≡ lacks w st xs
+unfolding lacks
+lacks-on w v st [] a = refl
+lacks-on w v st (x ∷ xs) a = ap₂ (λ y b. not (hasBits (st && isLast xs) y) || b) (a .0) (lacks-on w v st xs (a .1))
+
+pub owed-on : (w v : World) (st : Bool) (xs : List (ℕ × ℕ)) (gs : List ℕ) → All (SameWord w v) xs → All (SameMapping w v) gs → owed v st xs gs ≡ owed w st xs gs
+unfolding owed
+owed-on w v st [] gs a b = refl
+owed-on w v st (x ∷ xs) [] a b = refl
+owed-on w v st (x ∷ xs) (g ∷ gs) a b =
+    ap₂ (λ y h. cond (hasBits (st && isLast xs) y || mayWrite h) (owed v st xs gs) (some (suc (length xs), g))) (a .0) (b .0)
+    ∙ ap (λ o. cond (hasBits (st && isLast xs) (w .wordAt (x .0) (x .1)) || mayWrite (w .hostAt g)) o (some (suc (length xs), g))) (owed-on w v st xs gs (a .1) (b .1))
+
+pub dirty-on : (w v : World) (xs : List (ℕ × ℕ)) → All (SameWord w v) xs → dirtyAt v xs ≡ dirtyAt w xs
+dirty-on w v [] a = refl
+dirty-on w v (x ∷ xs) a = ap₂ (λ y b. cond (isLast xs) (dirty y) b) (a .0) (dirty-on w v xs (a .1))

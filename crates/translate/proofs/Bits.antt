@@ -16,13 +16,15 @@ use Rattle.spec.specs.Count.{one}
 use lib.Dec.{eqb, leb}
 use borrow.Author.Tests.{eq-eqb, ne-eqb}
 use Rattle.spec_laws.proofs.Indexes.{indexes-length}
-use Rattle.spec_laws.proofs.SetBits.{lacks-owed}
+use Rattle.spec_laws.proofs.Lists.{all-any}
+use Rattle.spec_laws.proofs.Local.{SameWord}
+use Rattle.spec_laws.proofs.SetBits.{lacks-owed, lacks-on}
 use Rattle.layout.specs.Layout.{page}
 use Rattle.walk.specs.declared.Walked.{Walked}
 use Rattle.walk.specs.declared.Walked.the-variants as walked
 use Rattle.walk.specs.Memory.{memoryWorld, walkedOf, trailOf}
 use Rattle.accessed.specs.Entries.{entries, Frames, wordsOf, namesOf, owedBy, owedOf}
-use Rattle.accessed.proofs.Walks.{arrived-granted, Read, levels-read, walk-read, trail-entries, trail-frames, levels-frames, walk-frames, lacks-words}
+use Rattle.accessed.proofs.Walks.{arrived-granted, Read, levels-read, walk-read, trail-entries, trail-frames, levels-frames, walk-frames}
 use Rattle.translate.specs.declared.Checked.{Checked}
 use Rattle.translate.specs.declared.Checked.the-variants as checked
 use Rattle.translate.specs.Translate.{ExitsOnce, exitBy, pathIndexes, damaged, whole, direct, directOf, servedOf, plainOf, owingBy, checkedBy, checkedOf, debtBy, entriesOf, judgedBy, throughOf, unshadowedOf, filledOf, strictBy, brokenBy, laxOf, arrivedOf, missedBy, missedOf}
@@ -37,7 +39,7 @@ module _ (c : Config) (ht : ℕ) (m : List ℕ) where
   -- a word is the same in both worlds
   words-lack : (st : Bool) (xs : List (ℕ × ℕ)) → lacks (wordsOf m) st xs ≡ lacks w st xs
   unfolding memoryWorld
-  words-lack st xs = lacks-words (wordsOf m) w st xs (λ t i. refl)
+  words-lack st xs = lacks-on w (wordsOf m) st xs (all-any (SameWord w (wordsOf m)) xs (λ x. refl))
 
   -- the tables of a walk from the root that arrived
   pub root-frames : (root : ℕ) (st : Bool) (is : List ℕ) (t : ℕ) (v : Bool) (n : ℕ) → c .frames ≤ 65536
