@@ -5,11 +5,13 @@
 //! marks are of both halves, and some differ in their half alone. One call in ten is
 //! a forecast, more than half of the loads and stores are narrow, and a few have a
 //! wrong width, but not in jobs. Runs of another sort mostly set and clear marks, and
-//! quiet ones mostly load and store where it is granted.
+//! quiet ones mostly load and store where it is granted. Those with accessed and dirty
+//! bits have more read-only tables, and entries that have some bits and lack others.
 
-use crate::answer::Call;
+use crate::answer::{Call, Choices};
 use crate::job::{raw_record, write_record, Record, JOB_FRAMES, JOB_LEVELS};
 use crate::numbers::*;
+use crate::unit::Unit;
 use std::collections::{BTreeMap, BTreeSet};
 
 /// A small generator (xorshift with a multiplication), the same on every machine.
@@ -82,43 +84,60 @@ impl Sizes {
     }
 }
 
-/// A run: the memory at opening and the later calls.
+/// A run: the memory at opening, what the opening chooses, and the later calls.
 #[derive(Clone, Debug)]
 pub struct Run {
     pub sizes: Sizes,
+    pub choices: Choices,
     pub words: Vec<u64>,
     pub calls: Vec<Call>,
 }
 
+impl Run {
+    /// The unit that the run's opening gives, or the number that it is refused with.
+    pub fn open(&self) -> Result<Unit, u32> {
+        let Sizes { levels, h, s, .. } = self.sizes;
+        Unit::open_with(levels, self.words.clone(), h, s, self.choices)
+    }
+}
+
+const OFF: Choices = Choices { bits: false };
+const BITS: Choices = Choices { bits: true };
+
 /// A run of so many calls. The first ones map the guest's frames and load the root.
 /// The sizes must be those of a granted opening, with four or five levels.
 pub fn run(seed: u64, sizes: Sizes, calls: usize) -> Run {
-    run_by(Guest::next_call, seed, sizes, calls)
+    run_by(Guest::next_call, seed, sizes, OFF, calls)
+}
+
+/// A run with accessed and dirty bits.
+pub fn bits_run(seed: u64, sizes: Sizes, calls: usize) -> Run {
+    run_by(Guest::next_bits_call, seed, sizes, BITS, calls)
 }
 
 /// A run in which most calls set or clear a mark.
 pub fn mark_run(seed: u64, sizes: Sizes, calls: usize) -> Run {
-    run_by(Guest::next_mark_call, seed, sizes, calls)
+    run_by(Guest::next_mark_call, seed, sizes, OFF, calls)
 }
 
 /// A run in which most calls are loads and stores of pages that grant them.
 pub fn quiet_run(seed: u64, sizes: Sizes, calls: usize) -> Run {
-    run_by(Guest::next_quiet_call, seed, sizes, calls)
+    run_by(Guest::next_quiet_call, seed, sizes, OFF, calls)
 }
 
 /// A run of the calls that a job's records can make.
 pub fn job_run(seed: u64, sizes: Sizes, calls: usize) -> Run {
-    run_by(Guest::next_job_call, seed, sizes, calls)
+    run_by(Guest::next_job_call, seed, sizes, OFF, calls)
 }
 
-fn run_by(next: fn(&mut Guest) -> Call, seed: u64, sizes: Sizes, calls: usize) -> Run {
-    let mut guest = Guest::new(Random::new(seed), sizes);
+fn run_by(next: fn(&mut Guest) -> Call, seed: u64, sizes: Sizes, choices: Choices, calls: usize) -> Run {
+    let mut guest = Guest::new(Random::new(seed), sizes, choices);
     let mut list = guest.setup(calls);
     while list.len() < calls {
         list.push(next(&mut guest));
     }
     list.truncate(calls);
-    Run { sizes, words: guest.memory(), calls: list }
+    Run { sizes, choices, words: guest.memory(), calls: list }
 }
 
 /// The top bit of an index: the top level's tells the half.
@@ -131,6 +150,7 @@ type Places = BTreeMap<(u64, u64), u64>;
 struct Guest {
     random: Random,
     sizes: Sizes,
+    choices: Choices,
     /// The mapping as planned: guest frame, host frame, write right.
     plan: Vec<(u64, u64, bool)>,
     /// The first of the 512 guest frames that most names are among.
@@ -148,19 +168,27 @@ struct Guest {
     /// the guest's, and a device's.
     guest_entries: Vec<(u64, u64)>,
     device_entries: Vec<(u64, u64)>,
+    /// The addresses of words that their own walks read at opening as entries.
+    own_entries: Vec<u64>,
     /// Pages of which the plan grants loads, and those of which it grants stores too.
     load_pages: Vec<u64>,
     store_pages: Vec<u64>,
     last_page: u64,
+    /// Two pages whose walks find the same entry of level 1, and the greatest level of a
+    /// mark at the second that does not hold for the first.
+    twins: Vec<(u64, u64, u64)>,
     marks: Vec<(u64, u64)>,
     undo: Vec<Call>,
+    /// Calls that come next, the last one first.
+    soon: Vec<Call>,
 }
 
 impl Guest {
-    fn new(random: Random, sizes: Sizes) -> Guest {
+    fn new(random: Random, sizes: Sizes, choices: Choices) -> Guest {
         let mut guest = Guest {
             random,
             sizes,
+            choices,
             plan: Vec::new(),
             base: 0,
             names: Vec::new(),
@@ -170,18 +198,27 @@ impl Guest {
             pages: Vec::new(),
             guest_entries: Vec::new(),
             device_entries: Vec::new(),
+            own_entries: Vec::new(),
             load_pages: Vec::new(),
             store_pages: Vec::new(),
             last_page: 0,
+            twins: Vec::new(),
             marks: Vec::new(),
             undo: Vec::new(),
+            soon: Vec::new(),
         };
         guest.choose_names();
         guest.choose_indexes();
         guest.choose_entries();
         guest.choose_pages();
+        if choices.bits {
+            guest.choose_self_map();
+        }
         guest.find_entries();
         guest.find_granted_pages();
+        if choices.bits {
+            guest.find_twins();
+        }
         guest
     }
 
@@ -229,7 +266,7 @@ impl Guest {
 
     fn add_to_plan(&mut self, name: u64, host: u64) {
         if self.plan.iter().all(|(other, _, _)| *other != name) {
-            let writable = !self.random.one_in(5);
+            let writable = !self.random.one_in(if self.choices.bits { 4 } else { 5 });
             self.plan.push((name, host, writable));
         }
     }
@@ -317,7 +354,7 @@ impl Guest {
         }
         if self.random.one_in(3) {
             let index = self.random.pick(&self.indexes);
-            let entry = self.names[0] << 12 | 3;
+            let entry = self.plain_entry(self.names[0]);
             self.entries.insert((self.sizes.first_guest_frame(), index), entry);
         }
     }
@@ -328,7 +365,7 @@ impl Guest {
         let frame = self.sizes.first_guest_frame() + number;
         for index in self.indexes.clone() {
             let name = self.random.pick(names);
-            let entry = if self.random.one_in(level) { self.entry(name) } else { name << 12 | 3 };
+            let entry = if self.random.one_in(level) { self.entry(name) } else { self.plain_entry(name) };
             self.entries.insert((frame, index), entry);
         }
     }
@@ -345,10 +382,26 @@ impl Guest {
         self.plan.iter().map(|(guest, _, _)| *guest).collect()
     }
 
+    /// A present and writable entry that names the frame. With bits on it may have some.
+    fn plain_entry(&mut self, name: u64) -> u64 {
+        let entry = name << 12 | 3;
+        if self.choices.bits {
+            self.with_other_bits(entry)
+        } else {
+            entry
+        }
+    }
+
+    /// The entry with other accessed and dirty bits, often none.
+    fn with_other_bits(&mut self, entry: u64) -> u64 {
+        let both = ACCESSED | DIRTY;
+        entry & !both | self.random.pick(&[0, 0, 0, ACCESSED, ACCESSED, DIRTY, both, both])
+    }
+
     /// An entry that names the frame: mostly present and writable, seldom
     /// malformed, often with bits set that a walk ignores.
     fn entry(&mut self, name: u64) -> u64 {
-        let mut entry = name << 12 | 3;
+        let mut entry = self.plain_entry(name);
         if self.random.one_in(20) {
             entry &= !1;
         }
@@ -386,6 +439,30 @@ impl Guest {
         self.last_page = self.pages[0];
     }
 
+    /// The root's table has an entry that names it, mostly by another name and with the
+    /// other right. Two more pages have that entry at two levels and at all.
+    fn choose_self_map(&mut self) {
+        if self.random.one_in(3) {
+            return;
+        }
+        let levels = self.sizes.levels as usize;
+        let host = self.sizes.first_guest_frame();
+        let (own, _, writable) = self.plan[0];
+        let mut name = self.base + 500;
+        if self.random.one_in(3) || self.plan.iter().any(|(other, _, _)| *other == name) {
+            name = own;
+        } else {
+            self.plan.push((name, host, !writable));
+        }
+        let index = self.random.pick(&self.indexes);
+        let entry = self.plain_entry(name);
+        self.entries.insert((host, index), entry);
+        let mut list = vec![index; levels];
+        self.pages.push(page_from(&list, self.sizes.levels));
+        list[2..].fill_with(|| self.random.pick(&self.indexes));
+        self.pages.push(page_from(&list, self.sizes.levels));
+    }
+
     /// A table is a page of the guest if some walk finds it as one. The pages beside
     /// those that calls go to are tried: they have the same table of level 1, so that
     /// paths of both may be held.
@@ -396,8 +473,11 @@ impl Guest {
             words.map(move |((_, index), entry)| (first + 8 * index, *entry))
         };
         for page in self.pages_beside() {
-            if let (_, Some(host)) = self.planned_walk(page) {
-                self.guest_entries.extend(read_in(host, address_of(page, self.sizes.levels)));
+            if let (own, Some(host)) = self.planned_walk(page) {
+                let first = address_of(page, self.sizes.levels);
+                self.guest_entries.extend(read_in(host, first));
+                let own = own.keys().filter(|(frame, _)| *frame == host);
+                self.own_entries.extend(own.map(|(_, index)| first + 8 * index));
             }
         }
         for (guest, host, _) in &self.plan {
@@ -417,6 +497,35 @@ impl Guest {
             self.load_pages.extend(rights.map(|_| page));
             self.store_pages.extend(rights.filter(|writable| *writable).map(|_| page));
         }
+    }
+
+    fn find_twins(&mut self) {
+        let levels = self.sizes.levels;
+        for page in self.store_pages.clone() {
+            let entry = self.planned_entry(page);
+            for place in 0..levels as usize - 1 {
+                for index in &self.indexes {
+                    let mut list = indexes(page, levels);
+                    list[place] = *index;
+                    let other = page_from(&list, levels);
+                    if other != page && self.planned_entry(other) == entry {
+                        self.twins.push((page, other, levels as u64 - 1 - place as u64));
+                    }
+                }
+            }
+        }
+    }
+
+    /// The place of the entry of level 1 that the page's walk reads by the plan.
+    fn planned_entry(&self, page: u64) -> Option<(u64, u64)> {
+        let levels = self.sizes.levels;
+        let host = |name: u64| self.plan.iter().find(|(guest, _, _)| *guest == name).map(|planned| planned.1);
+        let mut place = (host(self.names[0])?, index(page, levels));
+        for level in (1..levels).rev() {
+            let entry = Entry(*self.entries.get(&place)?);
+            place = (host(entry.frame())?, index(page, level));
+        }
+        self.entries.contains_key(&place).then_some(place)
     }
 
     /// Whether the plan grants a store of the page; none if it does not grant a load.
@@ -484,23 +593,180 @@ impl Guest {
         if self.random.one_in(50) {
             return self.call_of_wrong_width();
         }
-        match self.next_job_call() {
+        let call = self.next_job_call();
+        self.in_part(call)
+    }
+
+    /// A load or store of some bytes, stores also of an entry in place of the word.
+    fn in_part(&mut self, call: Call) -> Call {
+        let of_word = match call {
+            Call::Store { address, value, .. } => {
+                let (address, value) = or_entry(&mut self.random, (address, value), &self.guest_entries);
+                Call::store_word(address, value)
+            }
+            Call::DeviceStore { address, value, .. } => {
+                let (address, value) = or_entry(&mut self.random, (address, value), &self.device_entries);
+                Call::device_store_word(address, value)
+            }
+            other => other,
+        };
+        self.narrowed(of_word)
+    }
+
+    /// A load or store of some bytes of the word.
+    fn narrowed(&mut self, call: Call) -> Call {
+        match call {
             Call::Load { address, .. } => {
                 let (address, width) = self.part_at(address);
                 Call::Load { address, width }
             }
             Call::Store { address, value, .. } => {
-                let (word, value) = or_entry(&mut self.random, (address, value), &self.guest_entries);
-                let (address, width) = self.part_at(word);
+                let (address, width) = self.part_at(address);
                 Call::Store { address, width, value: self.part_of(value, address, width) }
             }
             Call::DeviceStore { address, value, .. } => {
-                let (word, value) = or_entry(&mut self.random, (address, value), &self.device_entries);
-                let (address, width) = self.part_at(word);
+                let (address, width) = self.part_at(address);
                 Call::DeviceStore { address, width, value: self.part_of(value, address, width) }
             }
             other => other,
         }
+    }
+
+    /// Mostly loads and stores of pages that the plan grants. Tables are mapped with the
+    /// other right, entries are stored with other bits, and words that their own walks
+    /// read are loaded and stored. A few are forecasts or others that are refused.
+    fn next_bits_call(&mut self) -> Call {
+        if let Some(call) = self.soon.pop() {
+            return call;
+        }
+        match self.random.below(128) {
+            0 if !self.twins.is_empty() => {
+                self.soon = self.calls_by_two_paths();
+                self.soon.reverse();
+                self.next_bits_call()
+            }
+            0 | 1 => self.forecast(),
+            2 | 3 => self.call_of_wrong_width(),
+            4 => self.deep_mark(),
+            5..=7 => self.odd_call(),
+            8..=13 => self.other_right(),
+            14..=23 => self.other_bits(),
+            24..=29 => match self.undo.pop() {
+                Some(call) => call,
+                None => self.repair(),
+            },
+            30..=40 => {
+                let call = self.request_to_own_entry();
+                self.narrowed(call)
+            }
+            41..=92 => {
+                let call = self.request_of_bits();
+                self.narrowed(call)
+            }
+            _ => {
+                let call = self.next_job_call();
+                self.in_part(call)
+            }
+        }
+    }
+
+    /// A load or store of a page that grants it, often after another one there. Most
+    /// stores leave what stood there at opening, but for the two bits.
+    fn request_of_bits(&mut self) -> Call {
+        let store = self.random.one_in(2);
+        match self.random.below(8) {
+            0..=2 => {}
+            _ => {
+                self.granted_address(store);
+            }
+        }
+        let address = address_of(self.last_page, self.sizes.levels) + 8 * self.word_place();
+        if !store {
+            return Call::load_word(address);
+        }
+        let value = self.value();
+        match self.word_at_opening(address) {
+            Some(word) if !self.random.one_in(8) => Call::store_word(address, self.with_other_bits(word)),
+            _ => Call::store_word(address, value),
+        }
+    }
+
+    /// A page that has its entry of level 1 by two paths: a load fills the first path
+    /// while bit 6 is clear, a store by the second sets the bit, and the page is loaded
+    /// or stored to by the first again. The second path has a depth of its own or none.
+    fn calls_by_two_paths(&mut self) -> Vec<Call> {
+        let (page, other, most) = self.random.pick(&self.twins);
+        let levels = self.sizes.levels;
+        let [first, second] = [page, other].map(|page| address_of(page, levels) + 8 * self.word_place());
+        let level = 1 + self.random.below(most);
+        let (marks, loads) = (!self.random.one_in(3), self.random.one_in(2));
+        let mut calls = self.clean_entry(page);
+        if marks {
+            calls.push(Call::SetMark { address: second, level });
+        }
+        let word = self.word_at_opening(second).unwrap_or(0);
+        calls.extend([Call::load_word(first), Call::store_word(second, word)]);
+        if loads {
+            calls.push(Call::load_word(first));
+        }
+        let word = self.word_at_opening(first).unwrap_or(0);
+        calls.extend([Call::store_word(first, word), Call::store_word(first, word)]);
+        if marks {
+            calls.push(Call::ClearMark { address: second, level });
+        }
+        calls
+    }
+
+    /// A device store that clears the bits of the page's entry of level 1.
+    fn clean_entry(&self, page: u64) -> Vec<Call> {
+        let Some(place) = self.planned_entry(page) else { return Vec::new() };
+        let entry = self.entries[&place] & !(ACCESSED | DIRTY);
+        let names = self.plan.iter().filter(|(_, host, writable)| *host == place.0 && *writable);
+        let stores = names
+            .map(|(guest, _, _)| Call::device_store_word(device_address_of(*guest) + 8 * place.1, entry));
+        stores.take(1).collect()
+    }
+
+    /// Of a word that its own walk reads, if there is one. A store leaves the entry as it
+    /// was at opening, but for its bits.
+    fn request_to_own_entry(&mut self) -> Call {
+        if self.own_entries.is_empty() {
+            return self.request_of_bits();
+        }
+        let address = self.random.pick(&self.own_entries);
+        self.last_page = frame_of(address) % FRAME_WORDS.pow(self.sizes.levels);
+        match self.word_at_opening(address) {
+            Some(entry) if self.random.one_in(2) => Call::store_word(address, self.with_other_bits(entry)),
+            _ => Call::load_word(address),
+        }
+    }
+
+    /// A device store of an entry as it was at opening, but for its bits. A few are not
+    /// present, not writable or malformed, till the next such store.
+    fn other_bits(&mut self) -> Call {
+        if self.device_entries.is_empty() {
+            return self.repair();
+        }
+        let (address, entry) = self.random.pick(&self.device_entries);
+        let spoiled = if self.random.one_in(6) { self.random.pick(&[1, 2, 1 << 7, 1 << 48]) } else { 0 };
+        let call = Call::device_store_word(address, self.with_other_bits(entry) ^ spoiled);
+        if self.random.one_in(3) {
+            self.narrowed(call)
+        } else {
+            call
+        }
+    }
+
+    /// A planned frame, mostly one of the first ones, which are tables, mapped with the
+    /// other right. Mostly it is soon mapped as planned again.
+    fn other_right(&mut self) -> Call {
+        let many = if self.random.one_in(4) { self.plan.len() } else { self.plan.len().min(8) };
+        let planned = self.random.pick(&self.plan[..many]);
+        let (guest, host, writable) = planned;
+        if !self.random.one_in(4) {
+            self.undo.push(planned_map(&planned));
+        }
+        Call::Map { guest, host, writable: !writable }
     }
 
     /// An address in the same word, and a width: mostly one that it is a multiple of.
@@ -756,13 +1022,24 @@ impl Guest {
             _ => levels + self.random.below(2),
         };
         if level >= levels {
-            // It keeps no index: any address clears it.
-            let address = self.page_address();
-            self.undo.push(Call::ClearMark { address, level });
+            self.clear_soon(level);
         } else {
             self.marks.push((address, level));
         }
         Call::SetMark { address, level }
+    }
+
+    /// A mark that keeps no index: any address clears it.
+    fn clear_soon(&mut self, level: u64) {
+        let address = self.page_address();
+        self.undo.push(Call::ClearMark { address, level });
+    }
+
+    /// A mark of level N or N + 1.
+    fn deep_mark(&mut self) -> Call {
+        let level = self.sizes.levels as u64 + self.random.below(2);
+        self.clear_soon(level);
+        Call::SetMark { address: self.page_address(), level }
     }
 
     fn clear_mark(&mut self) -> Call {
@@ -803,6 +1080,7 @@ impl Guest {
         match self.random.below(64) {
             0 | 1 => 0,
             2 => 255 + self.random.below(3),
+            3 if self.choices.bits => 257,
             3..=5 => 13 + self.random.below(48),
             _ => 1 + self.random.below(12),
         }
