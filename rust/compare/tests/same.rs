@@ -225,17 +225,17 @@ fn small_memories() {
 
 #[test]
 fn hundreds_of_frames() {
-    all_same(20_000, 400, true, |random| Sizes::large(random, 4));
+    all_same(20_000, 600, true, |random| Sizes::large(random, 4));
 }
 
 #[test]
 fn few_shadow_tables() {
-    all_same(30_000, 400, true, |random| Sizes { levels: 4, frames: 80, h: 12, s: 4 + random.below(4) });
+    all_same(30_000, 600, true, |random| Sizes { levels: 4, frames: 80, h: 12, s: 4 + random.below(4) });
 }
 
 #[test]
 fn few_host_tables() {
-    all_same(40_000, 400, false, |random| Sizes { levels: 4, frames: 60, h: 4 + random.below(3), s: 24 });
+    all_same(40_000, 600, false, |random| Sizes { levels: 4, frames: 60, h: 4 + random.below(3), s: 24 });
 }
 
 /// The mark of level 5 stands behind as many others as it can.

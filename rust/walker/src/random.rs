@@ -518,14 +518,19 @@ impl Guest {
 
     /// The place of the entry of level 1 that the page's walk reads by the plan.
     fn planned_entry(&self, page: u64) -> Option<(u64, u64)> {
-        let levels = self.sizes.levels;
-        let host = |name: u64| self.plan.iter().find(|(guest, _, _)| *guest == name).map(|planned| planned.1);
-        let mut place = (host(self.names[0])?, index(page, levels));
-        for level in (1..levels).rev() {
-            let entry = Entry(*self.entries.get(&place)?);
-            place = (host(entry.frame())?, index(page, level));
+        self.planned_entries(page).get(self.sizes.levels as usize - 1).copied()
+    }
+
+    /// The places of the entries that the page's walk reads by the plan, the top one first.
+    fn planned_entries(&self, page: u64) -> Vec<(u64, u64)> {
+        let mut places = Vec::new();
+        let mut found = self.planned_host(self.names[0]);
+        for index in indexes(page, self.sizes.levels) {
+            let place = found.map(|frame| (frame, index)).filter(|place| self.entries.contains_key(place));
+            found = place.and_then(|place| self.planned_host(Entry(self.entries[&place]).frame()));
+            places.extend(place);
         }
-        self.entries.contains_key(&place).then_some(place)
+        places
     }
 
     /// Whether the plan grants a store of the page; none if it does not grant a load.
@@ -548,16 +553,15 @@ impl Guest {
     /// The entries that the page's walk reads by the plan, whatever they allow, and the
     /// host frame that it finds.
     fn planned_walk(&self, page: u64) -> (Places, Option<u64>) {
-        let host = |name: u64| self.plan.iter().find(|(guest, _, _)| *guest == name).map(|planned| planned.1);
-        let mut read = Places::new();
-        let mut found = host(self.names[0]);
-        for index in indexes(page, self.sizes.levels) {
-            let place = found.map(|frame| (frame, index));
-            let entry = place.and_then(|place| self.entries.get_key_value(&place));
-            read.extend(entry);
-            found = entry.and_then(|(_, entry)| host(Entry(*entry).frame()));
-        }
-        (read, found)
+        let places = self.planned_entries(page);
+        let last = places.get(self.sizes.levels as usize - 1);
+        let found = last.and_then(|place| self.planned_host(Entry(self.entries[place]).frame()));
+        (places.into_iter().map(|place| (place, self.entries[&place])).collect(), found)
+    }
+
+    /// Where the plan maps a guest frame to.
+    fn planned_host(&self, name: u64) -> Option<u64> {
+        self.plan.iter().find(|(guest, _, _)| *guest == name).map(|planned| planned.1)
     }
 
     // The calls.
@@ -645,8 +649,13 @@ impl Guest {
                 self.soon.reverse();
                 self.next_bits_call()
             }
-            0 | 1 => self.forecast(),
-            2 | 3 => self.call_of_wrong_width(),
+            1 if !self.load_pages.is_empty() => {
+                self.soon = self.calls_by_a_spoiled_entry();
+                self.soon.reverse();
+                self.next_bits_call()
+            }
+            0..=2 => self.forecast(),
+            3 => self.call_of_wrong_width(),
             4 => self.deep_mark(),
             5..=7 => self.odd_call(),
             8..=13 => self.other_right(),
@@ -700,7 +709,10 @@ impl Guest {
         let [first, second] = [page, other].map(|page| address_of(page, levels) + 8 * self.word_place());
         let level = 1 + self.random.below(most);
         let (marks, loads) = (!self.random.one_in(3), self.random.one_in(2));
-        let mut calls = self.clean_entry(page);
+        let mut calls = Vec::new();
+        if let Some(place) = self.planned_entry(page) {
+            calls.extend(self.store_of_entry(place, self.entries[&place] & !(ACCESSED | DIRTY)));
+        }
         if marks {
             calls.push(Call::SetMark { address: second, level });
         }
@@ -717,14 +729,30 @@ impl Guest {
         calls
     }
 
-    /// A device store that clears the bits of the page's entry of level 1.
-    fn clean_entry(&self, page: u64) -> Vec<Call> {
-        let Some(place) = self.planned_entry(page) else { return Vec::new() };
-        let entry = self.entries[&place] & !(ACCESSED | DIRTY);
-        let names = self.plan.iter().filter(|(_, host, writable)| *host == place.0 && *writable);
-        let stores = names
-            .map(|(guest, _, _)| Call::device_store_word(device_address_of(*guest) + 8 * place.1, entry));
-        stores.take(1).collect()
+    /// A page is loaded, so that its path is held where it is granted; an entry of its
+    /// walk is not present, malformed or of another frame for the next two requests.
+    fn calls_by_a_spoiled_entry(&mut self) -> Vec<Call> {
+        let page = self.random.pick(&self.load_pages);
+        let address = address_of(page, self.sizes.levels) + 8 * self.word_place();
+        let place = self.random.pick(&self.planned_entries(page));
+        let entry = self.entries[&place];
+        let spoiled = entry ^ self.random.pick(&[1, 1 << 7, 1 << 48, 32 << 12, 1 << 40]);
+        let mut calls = vec![Call::load_word(address)];
+        calls.extend(self.store_of_entry(place, spoiled));
+        let (first, second) = (self.random.one_in(2), self.random.one_in(2));
+        let value = self.value();
+        for store in [first, second] {
+            calls.push(if store { Call::store_word(address, value) } else { Call::load_word(address) });
+        }
+        let repaired = self.with_other_bits(entry);
+        calls.extend(self.store_of_entry(place, repaired));
+        calls
+    }
+
+    /// A device's, if the table's frame is planned to be writable.
+    fn store_of_entry(&self, place: (u64, u64), entry: u64) -> Option<Call> {
+        let mut names = self.plan.iter().filter(|(_, host, writable)| *host == place.0 && *writable);
+        names.next().map(|name| Call::device_store_word(device_address_of(name.0) + 8 * place.1, entry))
     }
 
     /// Of a word that its own walk reads, if there is one. A store leaves the entry as it
@@ -733,7 +761,9 @@ impl Guest {
         if self.own_entries.is_empty() {
             return self.request_of_bits();
         }
-        let address = self.random.pick(&self.own_entries);
+        // Mostly one of a few, so that a load follows a store that cleared a bit.
+        let many = if self.random.one_in(3) { self.own_entries.len() } else { self.own_entries.len().min(3) };
+        let address = self.random.pick(&self.own_entries[..many]);
         self.last_page = frame_of(address) % FRAME_WORDS.pow(self.sizes.levels);
         match self.word_at_opening(address) {
             Some(entry) if self.random.one_in(2) => Call::store_word(address, self.with_other_bits(entry)),
@@ -748,7 +778,7 @@ impl Guest {
             return self.repair();
         }
         let (address, entry) = self.random.pick(&self.device_entries);
-        let spoiled = if self.random.one_in(6) { self.random.pick(&[1, 2, 1 << 7, 1 << 48]) } else { 0 };
+        let spoiled = if self.random.one_in(8) { self.random.pick(&[1, 2, 1 << 7, 1 << 48]) } else { 0 };
         let call = Call::device_store_word(address, self.with_other_bits(entry) ^ spoiled);
         if self.random.one_in(3) {
             self.narrowed(call)
