@@ -86,8 +86,8 @@ pub struct Record {
     pub place: [u64; 64],
 }
 
-/// What an opening chooses beside its sizes: [`Record::open_with`]. By default nothing is chosen. Further choices may be added,
-/// so that `Choices { bits: true, ..Choices::default() }` keeps meaning what it means.
+/// What an opening chooses beside its sizes: [`Record::open_with`]. By default nothing is chosen. Later versions have further
+/// choices: `Choices { bits: true, ..Choices::default() }` leaves those as they are by default.
 #[derive(Clone, Copy, Debug, Default, PartialEq, Eq)]
 pub struct Choices {
     /// Accessed and dirty bits in the guest's entries. A load or store that is granted sets bit 5 in each entry of its walk, and
