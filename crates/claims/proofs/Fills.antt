@@ -198,7 +198,7 @@ module _ (s : State) (r : Record) (m : List ℕ) (inv : Inv s r m) (st : Bool) (
     passes-is on =
         ap (λ xs. wide && (not (eqb deep 0) || st || dirtyAt (wordsOf m) xs))
         (trail-entries c ht m 0 (walk c st (r .guest .root .0) path) path _ reads-few (walk-read (memoryWorld c ht m) c st (r .guest .root .0) path (t, wide) over-memory) ∙ ap (λ (x : Trace Fault Place). x .reads) part-trace)
-        ∙ ap (λ b. wide && (not (eqb deep 0) || st || b)) (dirty-on w (memoryWorld c ht m) (part .reads) part-words)
+        ∙ ap (λ b. wide && (not (eqb deep 0) || st || b)) (dirty-on w (wordsOf m) (part .reads) part-words)
         ∙ sym (ap (λ b. wide && (not (b && eqb deep 0) || st || dirtyAt w (part .reads))) on)
 
     -- with bits off the path has the walk's right

@@ -2,6 +2,8 @@ pub mod Invariant
 pub mod Moves
 pub mod Paths
 pub mod Found
+pub mod Bits
+pub mod Fills
 pub mod Translates
 pub mod Puts
 pub mod Requests
