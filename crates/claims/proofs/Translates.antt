@@ -79,11 +79,11 @@ pub record Translates (s : State) (r : Record) (m : List ℕ) (st : Bool) (a : �
 
 -- ---- results
 
-abbrev rightIn : Result Fault Place → Bool
+abbrev pub rightIn : Result Fault Place → Bool
 rightIn (granted p) = p .1
 rightIn (failed x) = false
 
-came-is : (x : Result Fault Place) (n : ℕ) → plainWalked x n ≡ cameTo (rightIn x) x n
+pub came-is : (x : Result Fault Place) (n : ℕ) → plainWalked x n ≡ cameTo (rightIn x) x n
 came-is (granted p) n = refl
 came-is (failed x) n = refl
 
@@ -157,7 +157,7 @@ module _ (s : State) (r : Record) (m : List ℕ) (inv : Inv s r m) (covered : Al
     asks : Guest c (InGuestArea c) (direct c st a deep t right) (λ q. InGuestArea c (q .0))
     asks = levels-asks c (InGuestArea c) st _ t right (indexes deep (pageOf a)) here (indexes-all deep (pageOf a))
 
-    direct-is : directOf c ht m st a deep t right ≡ cameTo (rightIn (rest .result)) (rest .result) ((c .levels - deep) + rest .count)
+    pub direct-is : directOf c ht m st a deep t right ≡ cameTo (rightIn (rest .result)) (rest .result) ((c .levels - deep) + rest .count)
     unfolding directOf
     direct-is =
         ap (λ l. walkedOf c ht m (c .levels - deep) (levels c st l t right (indexes deep (pageOf a)))) (zero-add deep)
@@ -361,6 +361,12 @@ module _ (s : State) (r : Record) (m : List ℕ) (inv : Inv s r m) (covered : Al
         go false off = off-path off
         go true on = on-path on (rested .result) refl (lacks w st (rested .reads)) refl
 
+  -- the walk of the shadow part over memory
+  pub walked-is : walkedOf c ht m 0 (walk c st rt path) ≡ plainWalked (part .result) (part .count)
+  walked-is =
+      ap (λ x. walkedOf c ht m 0 (walk c st x path)) (inv .root)
+      ∙ root-walked c mach ht m (found.memory-stands s r m inv) st (mach .root) path (found.root-small s r m inv) (indexes-all (c .levels - deep) (pageOf a / 2 ^ (9 * deep)))
+
   -- ---- a path that does not serve
   module _ (low : deep ≤ c .levels) (unserved : serves st deep (find path (s .book .held)) ≡ false) where
     missing : serves st deep (find (upper c deep (addressIndexes c a)) (s .book .held)) ≡ false
@@ -368,12 +374,6 @@ module _ (s : State) (r : Record) (m : List ℕ) (inv : Inv s r m) (covered : Al
 
     part-upper : trace w (walk c st (mach .root) (upper c deep (addressIndexes c a))) ≡ part
     part-upper = ap (λ p. trace w (walk c st (mach .root) p)) (path-upper c deep a low)
-
-    -- the walk of the shadow part over memory
-    pub walked-is : walkedOf c ht m 0 (walk c st rt path) ≡ plainWalked (part .result) (part .count)
-    walked-is =
-        ap (λ x. walkedOf c ht m 0 (walk c st x path)) (inv .root)
-        ∙ root-walked c mach ht m (found.memory-stands s r m inv) st (mach .root) path (found.root-small s r m inv) (indexes-all (c .levels - deep) (pageOf a / 2 ^ (9 * deep)))
 
     abbrev missed : After Translated
     missed = missedOf c ht m hold rt st a deep
