@@ -1,18 +1,17 @@
 -- Demand 3: every run of the unit is the run of the machine without shadow and its book.
 -- Assumes nothing.
 use mathlib.Core.Path.{_≡_, refl, sym, ap, ap₂, _∙_, subst}
-use Prim.Native.Nat.{ℕ, _-_, _*_, _^_, _<_}
+use Prim.Native.Nat.{ℕ, _-_, _*_}
 use native.Mathlib.Omega.{arith}
 use mathlib.Core.Bool.{Bool}
 use mathlib.Core.List.{List, [], _∷_}
 use mathlib.Core.Option.{Option, none, some}
 use lib.ListN.{length, length-drop}
-use Rattle.spec.specs.Config.{Config, guestBase, frameBits}
+use Rattle.spec.specs.Config.{Config, guestBase}
 use Rattle.spec.specs.Prefix.{All}
 use Rattle.spec.specs.Call.{Call, root, map, unmap, setMark, clearMark, load, store, device, forecast}
 use Rattle.spec.specs.Refusal.{refusal}
 use Rattle.spec.specs.Run.{State, answered, step, run, after, opened}
-use Rattle.spec_laws.proofs.Keeps.{Valid, MappedIn}
 use Rattle.spec_laws.proofs.Covered.{Covered, step-covered}
 use Rattle.record.specs.declared.Record.{Record}
 use Rattle.record.specs.Record.{configOf, configBy}
@@ -46,33 +45,36 @@ follows (store a w v) s r m i o = store-follows s r m i o a w v
 follows (device a w v) s r m i o = device-follows s r m i o a w v
 follows (forecast xs) s r m i o = forecast-follows s r m i xs
 
--- and keeps them set
-covers : (x : Call) (s : State) (r : Record) (m : List ℕ) → s .config ≡ configOf r → Inv s r m → Set s r
-    → All (Covered ((step x s) .1 .config) ((step x s) .1 .machine)) ((step x s) .1 .book .held)
-covers x s r m e i o =
-    let f = found.rules s r m i in
-    step-covered x s (subst (λ c. MappedIn c (s .machine)) (sym e) (found.memory-stands s r m i .inside))
-    (subst (λ c. s .machine .root < 2 ^ frameBits c) (sym e) (found.root-small s r m i))
-    (subst (λ c. length (s .machine .area) ≡ (c .frames - guestBase c) * 512) (sym e)
-    (ap length (sym (i .area)) ∙ length-drop (512 * guestBase (configOf r)) m ∙ omega (arith, f .long, f .sizes .guest)))
-    (subst (λ c. All (Valid c (s .machine)) (s .book .held)) (sym e) (i .valid)) (subst (λ c. All (Covered c (s .machine)) (s .book .held)) (sym e) o)
-
 -- a state that carries the record's configuration
 pub at-self : (c : Config) (s : State) → s .config ≡ c → at c s ≡ s
 at-self c s e = λ i. record { config = sym e i; machine = s .machine; book = s .book }
+
+-- and what it leaves stands for the state after it
+pub next : (x : Call) (s : State) (r : Record) (m : List ℕ) → s .config ≡ configOf r → Inv s r m → Set s r
+    → let t = (step x s) .1 in
+    let u = callOf x r m in
+    (t .config ≡ configOf (u .result .unit)) × Inv t (u .result .unit) (u .memory) × Set t (u .result .unit)
+next x s r m e i o =
+    let c = configOf r in
+    let u = callOf x r m in
+    let f = follows x s r m i o in
+    let fits = found.rules s r m i in
+    let long : length (s .machine .area) ≡ (c .frames - guestBase c) * 512 = ap length (sym (i .area)) ∙ length-drop (512 * guestBase c) m ∙ omega (arith, fits .long, fits .sizes .guest) in
+    let set = step-covered x (at c s) (found.memory-stands s r m i .inside) (found.root-small s r m i) long (i .valid) o in
+    let covered : Set ((step x (at c s)) .1) (u .result .unit) = subst (λ k. All (Covered k ((step x (at c s)) .1 .machine)) ((step x (at c s)) .1 .book .held)) (sym (f .config)) set in
+    subst (λ (t : State). (t .config ≡ configOf (u .result .unit)) × Inv t (u .result .unit) (u .memory) × Set t (u .result .unit))
+    (ap (λ z. (step x z) .1) (at-self c s e)) (sym (f .config), f .next, covered)
 
 -- a list of calls, from any state that the record and the memory stand for
 pub runs-follow : (xs : List Call) (s : State) (r : Record) (m : List ℕ) → s .config ≡ configOf r → Inv s r m → Set s r → unitRun xs r m ≡ machineRun (run xs s)
 unfolding unitRun run
 runs-follow [] s r m e i o = refl
 runs-follow (x ∷ xs) s r m e i o =
-    let f = follows x s r m i o in
     let u = callOf x r m in
-    let now : step x (at (configOf r) s) ≡ step x s = ap (step x) (at-self (configOf r) s e) in
-    ap₂ (λ o os. o ∷ os)
-    (ap₂ (λ l g. (l, g)) (f .says ∙ ap (λ o. o .0) now) (f .next .area ∙ ap (λ o. o .1 .machine .area) now))
-    (runs-follow xs ((step x s) .1) (u .result .unit) (u .memory) (sym (f .config ∙ ap (λ o. o .1 .config) now)) (subst (λ o. Inv (o .1) (u .result .unit) (u .memory)) now (f .next))
-    (subst (λ c. All (Covered c ((step x s) .1 .machine)) ((step x s) .1 .book .held)) (sym (f .config ∙ ap (λ o. o .1 .config) now)) (covers x s r m e i o)))
+    let k = next x s r m e i o in
+    ap₂ (λ y ys. y ∷ ys)
+    (ap₂ (λ l g. (l, g)) (follows x s r m i o .says ∙ ap (λ z. (step x z) .0) (at-self (configOf r) s e)) (k .1 .area))
+    (runs-follow xs ((step x s) .1) (u .result .unit) (u .memory) (k .0) (k .1) (k .2))
 
 -- and the invariant at its end
 pub after-follow : (xs : List Call) (s : State) (r : Record) (m : List ℕ) (d : After Reply) → s .config ≡ configOf r → Inv s r m → Set s r → r ≡ d .result .unit → m ≡ d .memory
@@ -80,11 +82,9 @@ pub after-follow : (xs : List Call) (s : State) (r : Record) (m : List ℕ) (d :
 unfolding unitAfter after
 after-follow [] s r m d k i o p q = (k ∙ ap configOf p, subst (λ x. Inv s x (d .memory)) p (subst (Inv s r) q i), subst (Set s) p o)
 after-follow (x ∷ xs) s r m d k i o p q =
-    let f = follows x s r m i o in
     let u = callOf x r m in
-    let now : step x (at (configOf r) s) ≡ step x s = ap (step x) (at-self (configOf r) s k) in
-    after-follow xs ((step x s) .1) (u .result .unit) (u .memory) u (sym (f .config ∙ ap (λ o. o .1 .config) now)) (subst (λ o. Inv (o .1) (u .result .unit) (u .memory)) now (f .next))
-    (subst (λ c. All (Covered c ((step x s) .1 .machine)) ((step x s) .1 .book .held)) (sym (f .config ∙ ap (λ o. o .1 .config) now)) (covers x s r m k i o)) refl refl
+    let n = next x s r m k i o in
+    after-follow xs ((step x s) .1) (u .result .unit) (u .memory) u (n .0) (n .1) (n .2) refl refl
 
 pub opened-config : (m : List ℕ) (h s : ℕ) (bits : Bool) → configOf (grantedOf m h s bits .result) ≡ configBy (length m) h s bits
 unfolding grantedOf firstOf
