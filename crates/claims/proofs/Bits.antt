@@ -74,6 +74,10 @@ module _ (c : Config) (mach : Machine) (ht : ℕ) (m : List ℕ) (st : Stands c 
     unfolding plain
     whole-walked = root-walked c mach ht m st b (mach .root) (addressIndexes c a) small (indexes-all (c .levels) (pageOf a))
 
+    pub whole-owed : owed v b ((trace v (whole c b (mach .root) a)) .reads) ((trace v (whole c b (mach .root) a)) .uses) ≡ owed w b ((plain c mach b a) .reads) ((plain c mach b a) .uses)
+    unfolding plain
+    whole-owed = walk-owed (whole c b (mach .root) a) _ asks b
+
     -- what its bits say where it is granted
     pub whole-checked : (d : ℕ) (r : Place) → (plain c mach b a) .result ≡ granted r
         → checkedOf c ht m (mach .root) b a d ≡ owingBy d (lacks w b ((plain c mach b a) .reads)) (owed w b ((plain c mach b a) .reads) ((plain c mach b a) .uses))
