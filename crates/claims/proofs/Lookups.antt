@@ -52,9 +52,9 @@ looks-up s r m inv a =
       few = lookup-few c t (s .book) small (inv .sorted) (inv .marks) a;
     }
 
--- Document 02, 3). After a granted opening on any memory, with bits or without, and any list of calls, for every address: the search is the specification's
--- among the record's marks in the order of their places, these are the book's, its depth is the book's, and it read all of them or, with
--- one of level N + 1, at most N + 1
+-- Document 02, 3). After a granted opening on any memory, with bits or without, and any list of calls, for every address: the search is the
+-- specification's among the record's marks in the order of their places, these are the book's, its depth is the book's, and it read all of
+-- them or, with one of level N + 1, at most N + 1
 pub run-lookup : (m : List ℕ) (h s : ℕ) (bits : Bool) (xs : List Call) → refusalOf (length m) h s bits ≡ 0 → (a : ℕ)
     → let r = runOf m h s bits xs .result .unit in
     let c = configBy (length m) h s bits in

@@ -38,7 +38,7 @@ pub granted-call : (m : List ℕ) (h s : ℕ) (bits : Bool) → refusalOf (lengt
 unfolding openCall
 granted-call m h s bits e = rw (granted-open m h s bits e)
 
--- whatever the memory and the numbers
+-- whatever the memory, the numbers and the choice of bits
 pub open-says : (m : List ℕ) (h s : ℕ) (bits : Bool) → line (openCall m h s bits .result .answer) ≡ (opening (configBy (length m) h s bits) m) .0
 open-says m h s bits = go (ℕ-discrete (refusalOf (length m) h s bits) 0)
   where
