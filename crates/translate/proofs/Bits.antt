@@ -2,15 +2,16 @@
 -- Assumes nothing.
 use mathlib.Core.Path.{_≡_, refl, sym, ap, ap₂, _∙_}
 use Prim.Native.Nat.{ℕ, _+_, _-_, _<_, _≤_}
+use native.Mathlib.Nat.{zero-add}
 use native.Mathlib.Omega.{arith}
-use mathlib.Core.Bool.{Bool, true, false, not, cond}
+use mathlib.Core.Bool.{Bool, true, false, not, _&&_, cond}
 use mathlib.Core.List.{List, _∷_, map}
 use mathlib.Core.Option.{Option, none, some}
 use Rattle.spec.specs.declared.Fault.{Fault}
 use Rattle.spec.specs.Config.{Config}
 use Rattle.spec.specs.Entry.{indexes, pageOf, frameOf, frameLimit}
 use Rattle.spec.specs.Walk.{Walk, World, Trace, granted, trace}
-use Rattle.spec.specs.Plain.{Place, walk}
+use Rattle.spec.specs.Plain.{Place, levels, walk}
 use Rattle.spec.specs.Bits.{lacks, owed}
 use Rattle.spec.specs.Count.{one}
 use lib.Dec.{eqb, leb}
@@ -19,16 +20,19 @@ use Rattle.spec_laws.proofs.Indexes.{indexes-length}
 use Rattle.spec_laws.proofs.Lists.{all-any}
 use Rattle.spec_laws.proofs.Local.{SameWord}
 use Rattle.spec_laws.proofs.SetBits.{lacks-owed, lacks-on}
+use Rattle.entry.specs.declared.HostPhysical.{HostPhysical}
 use Rattle.layout.specs.Layout.{page}
 use Rattle.walk.specs.declared.Walked.{Walked}
 use Rattle.walk.specs.declared.Walked.the-variants as walked
 use Rattle.walk.specs.Memory.{memoryWorld, walkedOf, trailOf}
+use Rattle.walk.proofs.Laws.{loop-end}
 use Rattle.accessed.specs.Entries.{entries, Frames, wordsOf, namesOf, owedBy, owedOf}
 use Rattle.accessed.proofs.Walks.{arrived-granted, Read, levels-read, walk-read, trail-entries, trail-frames, levels-frames, walk-frames}
 use Rattle.translate.specs.declared.Checked.{Checked}
 use Rattle.translate.specs.declared.Checked.the-variants as checked
-use Rattle.translate.specs.Translate.{ExitsOnce, exitBy, pathIndexes, damaged, whole, direct, directOf, servedOf, plainOf, owingBy, checkedBy, checkedOf, debtBy, entriesOf, judgedBy, throughOf, unshadowedOf, filledOf, strictBy, brokenBy, laxOf, arrivedOf, missedBy, missedOf}
+use Rattle.translate.specs.Translate.{ExitsOnce, translation, exitBy, pathIndexes, damaged, whole, direct, directOf, servedOf, plainOf, owingBy, checkedBy, checkedOf, debtBy, entriesOf, judgedBy, throughOf, lackingBy, partOf, unshadowedOf, filledOf, strictBy, brokenBy, laxOf, arrivedOf, missedBy, missedOf}
 use Rattle.translate.specs.declared.Held.{Held}
+use Rattle.translate.specs.declared.Part.{Part}
 use Rattle.walk.specs.declared.Trail.{Trail}
 use Rattle.translate.proofs.Fits.{exit-small}
 
@@ -121,11 +125,44 @@ checked-once c ht m root st a d =
 
 -- ---- by the choice
 
+lacking-none : (r : Walked) → lackingBy false r ≡ false
+lacking-none (walked.Arrived p w n) = refl
+lacking-none (walked.Faulted x n) = refl
+lacking-none walked.Damaged = refl
+
+and-false : (b : Bool) → (b && false) ≡ false
+and-false true = refl
+and-false false = refl
+
 pub chosen-off : (b : ℕ) → b ≡ 0 → not (eqb b 0) ≡ false
 chosen-off b e = ap not (eq-eqb b 0 e)
 
 pub chosen-on : (b : ℕ) → (b ≡ 0 → ⊥) → not (eqb b 0) ≡ true
 chosen-on b n = ap not (ne-eqb b 0 n)
+
+module _ (c : Config) (ht : ℕ) (m : List ℕ) (st : Bool) (a d t : ℕ) (v : Bool) where
+  abbrev pub lack : Bool
+  lack = lacks (memoryWorld c ht m) st ((trace (memoryWorld c ht m) (direct c st a d t v)) .reads)
+
+  -- the part by what was found: no entry at depth 0, no bit with bits off, and else by the end and what it lacks
+  pub part-by : (l : Bool) (r : Walked) → directOf c ht m st a d t v ≡ r → lackingBy (c .bits && lack) r ≡ l → partOf c ht m st a d t v ≡ record { walked = r; lack = l }
+  unfolding partOf
+  part-by l r e k = ap₂ (λ (x : Walked) (y : Bool). record { walked = x; lack = y }) e (ap (lackingBy (c .bits && lack)) e ∙ k)
+
+  pub part-off : (r : Walked) → c .bits ≡ false → directOf c ht m st a d t v ≡ r → partOf c ht m st a d t v ≡ record { walked = r; lack = false }
+  part-off r off e = part-by false r e (ap (λ b. lackingBy (b && lack) r) off ∙ lacking-none r)
+
+  pub part-on : (l : Bool) (p : HostPhysical) (x : Bool) (n : ℕ) → c .bits ≡ true → lack ≡ l → directOf c ht m st a d t v ≡ walked.Arrived p x n
+      → partOf c ht m st a d t v ≡ record { walked = walked.Arrived p x n; lack = l }
+  part-on l p x n on k e = part-by l (walked.Arrived p x n) e (ap (λ b. b && lack) on ∙ k)
+
+  pub part-none : d ≡ 0 → partOf c ht m st a d t v ≡ record { walked = walked.Arrived (page t) v (c .levels); lack = false }
+  unfolding directOf indexes levels lacks trace
+  part-none z =
+      let came : directOf c ht m st a d t v ≡ walked.Arrived (page t) v (c .levels - d) = loop-end c ht m (c .levels - d) st 0 d t (pageOf a) v z in
+      let all : c .levels - d ≡ c .levels = omega arith in
+      let nothing : lack ≡ false = ap (λ j. lacks (memoryWorld c ht m) st ((trace (memoryWorld c ht m) (direct c st a j t v)) .reads)) z in
+      part-by false (walked.Arrived (page t) v (c .levels)) (came ∙ ap (walked.Arrived (page t) v) all) (ap (λ b. c .bits && b) nothing ∙ and-false (c .bits))
 
 module _ (c : Config) (ht : ℕ) (m : List ℕ) (h : Held) (root : ℕ) (st : Bool) (a d : ℕ) where
   pub unshadowed-off : c .bits ≡ false → unshadowedOf c ht m h root st a d ≡ plainOf c ht m h root st a
@@ -140,22 +177,31 @@ module _ (c : Config) (ht : ℕ) (m : List ℕ) (h : Held) (root : ℕ) (st : Bo
       ∙ ap (judgedBy h true (checkedOf c ht m root st a d)) k
 
   module _ (t : ℕ) (v : Bool) where
-    abbrev lack : Bool
-    lack = lacks (memoryWorld c ht m) st ((trace (memoryWorld c ht m) (direct c st a d t v)) .reads)
-
     pub through-off : c .bits ≡ false → throughOf c ht m h root st a d t v ≡ servedOf c ht m h st a d t v 0
     unfolding throughOf
-    through-off e = ap (λ b. cond b (judgedBy h lack (checkedOf c ht m root st a d) (directOf c ht m st a d t v)) (servedOf c ht m h st a d t v 0)) e
+    through-off e = ap (λ b. cond b (judgedBy h (lack c ht m st a d t v) (checkedOf c ht m root st a d) (directOf c ht m st a d t v)) (servedOf c ht m h st a d t v 0)) e
 
-    pub through-on : (l : Bool) (r : Walked) → c .bits ≡ true → lack ≡ l → directOf c ht m st a d t v ≡ r → throughOf c ht m h root st a d t v ≡ judgedBy h l (checkedOf c ht m root st a d) r
+    pub through-on : (l : Bool) (r : Walked) → c .bits ≡ true → (lack c ht m st a d t v) ≡ l → directOf c ht m st a d t v ≡ r → throughOf c ht m h root st a d t v ≡ judgedBy h l (checkedOf c ht m root st a d) r
     unfolding throughOf
     through-on l r e x k =
-        ap (λ b. cond b (judgedBy h lack (checkedOf c ht m root st a d) (directOf c ht m st a d t v)) (servedOf c ht m h st a d t v 0)) e
+        ap (λ b. cond b (judgedBy h (lack c ht m st a d t v) (checkedOf c ht m root st a d) (directOf c ht m st a d t v)) (servedOf c ht m h st a d t v 0)) e
         ∙ ap₂ (λ b y. judgedBy h b (checkedOf c ht m root st a d) y) x k
 
-    -- an end before the word is said as it is, whatever lacks
-    pub through-end : (r : Walked) → c .bits ≡ true → directOf c ht m st a d t v ≡ r → throughOf c ht m h root st a d t v ≡ judgedBy h lack (checkedOf c ht m root st a d) r
-    through-end r e k = through-on lack r e refl k
+    -- judged where a bit lacks, and otherwise served as ever
+    pub through-part : throughOf c ht m h root st a d t v
+        ≡ cond (partOf c ht m st a d t v .lack) (judgedBy h true (checkedOf c ht m root st a d) (directOf c ht m st a d t v)) (servedOf c ht m h st a d t v 0)
+    unfolding throughOf partOf servedOf
+    through-part = by (c .bits) (lack c ht m st a d t v) (directOf c ht m st a d t v)
+      where
+        by : (b l : Bool) (r : Walked) → cond b (judgedBy h l (checkedOf c ht m root st a d) r) (translation h (0 + exitBy r) r false)
+            ≡ cond (lackingBy (b && l) r) (judgedBy h true (checkedOf c ht m root st a d) r) (translation h (0 + exitBy r) r false)
+        by false l (walked.Arrived p x n) = refl
+        by false l (walked.Faulted x n) = refl
+        by false l walked.Damaged = refl
+        by true true (walked.Arrived p x n) = refl
+        by true false (walked.Arrived p x n) = refl
+        by true l (walked.Faulted x n) = ap (λ e. translation h e (walked.Faulted x n) false) (sym (zero-add (exitBy (walked.Faulted x n))))
+        by true l walked.Damaged = refl
 
     module _ (gs : List ℕ) (n : ℕ) where
       pub arrived-off : c .bits ≡ false → arrivedOf c ht m h root gs st a d n t v ≡ laxOf c m h gs a d t v (directOf c ht m st a d t v)

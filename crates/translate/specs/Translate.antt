@@ -35,6 +35,7 @@ use Rattle.shadow.specs.Fill.{fillOf}
 use Rattle.translate.specs.declared.Checked.{Checked}
 use Rattle.translate.specs.declared.Checked.the-variants as checked
 use Rattle.translate.specs.declared.Held.{Held}
+use Rattle.translate.specs.declared.Part.{Part}
 use Rattle.translate.specs.declared.Translated.{Translated}
 
 -- H and W cost an exit, the other faults none
@@ -160,6 +161,18 @@ throughOf c ht m h root st a d t w =
     cond (c .bits)
     (judgedBy h (lacks k st ((trace k (direct c st a d t w)) .reads)) (checkedOf c ht m root st a d) (directOf c ht m st a d t w))
     (servedOf c ht m h st a d t w 0)
+
+-- the direct part of a held path, and whether a bit of it lacks: with bits on, where it arrived
+abbrev pub lackingBy : Bool → Walked → Bool
+lackingBy lack (walked.Arrived t w n) = lack
+lackingBy lack (walked.Faulted x n) = false
+lackingBy lack walked.Damaged = false
+
+unfoldable pub partOf : Config → ℕ → List ℕ → Bool → ℕ → ℕ → ℕ → Bool → Part
+partOf c ht m st a d t w =
+    let k = memoryWorld c ht m in
+    let r = directOf c ht m st a d t w in
+    record { walked = r; lack = lackingBy (c .bits && lacks k st ((trace k (direct c st a d t w)) .reads)) r }
 
 -- a request at depth N + 1
 unfoldable pub unshadowedOf : Config → ℕ → List ℕ → Held → ℕ → Bool → ℕ → ℕ → Translated

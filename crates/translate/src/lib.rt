@@ -1,11 +1,11 @@
 // From an address and its depth to a host frame or a fault: a held path is found, or the guest tables are walked and the path filled.
 ghost use mathlib.Core.Path.{_≡_};
-ghost use mathlib.Core.Bool.{false};
+ghost use mathlib.Core.Bool.{true, false};
 ghost use Prim.Native.Nat.{_-_, _<_, _≤_};
 ghost use Rattle.spec.specs.Entry.{indexes, pageOf, frameLimit};
 ghost use Rattle.words.specs.After.{yields};
 ghost use Rattle.layout.specs.Layout.{LayoutFits, config};
-ghost use Rattle.translate.specs.Translate.{exitBy, ReadsFrom, translation, whole, directOf, servedOf, plainOf, checkedOf, debtBy, entriesOf, settledBy, throughOf, unshadowedOf, servesOf, pathOf, foundOf, filledOf, passesOf, faulted, strictBy, brokenBy, laxOf, missedOf, unservedOf};
+ghost use Rattle.translate.specs.Translate.{exitBy, ReadsFrom, translation, whole, directOf, servedOf, plainOf, checkedOf, debtBy, entriesOf, settledBy, judgedBy, partOf, unshadowedOf, servesOf, pathOf, foundOf, filledOf, passesOf, faulted, strictBy, brokenBy, laxOf, missedOf, unservedOf};
 ghost use Rattle.walk.specs.Memory.{trailOf};
 ghost use Rattle.accessed.specs.Entries.{entries, Frames};
 use accessed::Debt;
@@ -42,6 +42,12 @@ pub struct Translated {
     pub exits: u64,
     pub walked: Walked,
     pub sets: bool,
+}
+
+// What the direct part of a held path came to, and whether one of its entries lacks a bit.
+pub struct Part {
+    pub walked: Walked,
+    pub lack: bool,
 }
 
 // What the accessed and dirty bits of a walk say: that they are set or may be, or what the request meets instead, with its exit.
@@ -276,21 +282,27 @@ fn stopped(held: Held, walked: Walked) -> Translated
     }
 }
 
-// A request that a held path serves, which leads to that page or table.
-pub fn through(
+// The direct part of a request that a held path serves, which leads to that page or table. With bits on its entries are looked at once
+// more, and those that the path covers have theirs.
+pub fn direct_part(
     mem: &[u64],
     space: Space,
-    root: GuestPhysical,
-    held: Held,
     request: Request,
     page: HostPhysical,
     writable: bool,
-) -> Translated
+) -> Part
     requires { ⌜ (LayoutFits (space .layout)) × (request .depth ≤ space .layout .levels) × (page .0 < frameLimit) ⌝ }
-    ensures { λ r. ⌜ r ≡ throughOf (config (space .layout)) (space .top) (now (mem .entry)) held (root .0) (request .store) (request .address .0) (request .depth) (page .0) writable ⌝ }
+    ensures { λ r. ⌜ r ≡ partOf (config (space .layout)) (space .top) (now (mem .entry)) (request .store) (request .address .0) (request .depth) (page .0) writable ⌝ }
 {
-    if space.layout.bits == 0 {
-        return serve(mem, space, held, request, page, writable, 0);
+    if request.depth == 0 {
+        return Part {
+            walked: Walked::Arrived {
+                page: page,
+                writable: writable,
+                reads: space.layout.levels,
+            },
+            lack: false,
+        };
     }
     let number = request.address.page();
     let trail = walk::walk_tables(
@@ -305,17 +317,50 @@ pub fn through(
         space.layout.levels - request.depth,
     );
     let walked = trail.walked;
+    if space.layout.bits == 0 {
+        return Part {
+            walked: walked,
+            lack: false,
+        };
+    }
     match walked {
         Walked::Arrived {
             page,
             writable,
             reads,
-        } => {
-            if accessed::lacks(mem, request.store, number, request.depth, &trail.tables) {
-                return settled(held, walked, reads, check(mem, space, root, request));
-            }
-            stopped(held, walked)
-        }
+        } => Part {
+            walked: walked,
+            lack: accessed::lacks(mem, request.store, number, request.depth, &trail.tables),
+        },
+        Walked::Faulted { fault, reads } => Part {
+            walked: walked,
+            lack: false,
+        },
+        Walked::Damaged => Part {
+            walked: walked,
+            lack: false,
+        },
+    }
+}
+
+// A request whose walk came so far, by the bits of its whole walk.
+pub fn judged(
+    mem: &[u64],
+    space: Space,
+    root: GuestPhysical,
+    held: Held,
+    request: Request,
+    walked: Walked,
+) -> Translated
+    requires { ⌜ LayoutFits (space .layout) ⌝ }
+    ensures { λ r. ⌜ r ≡ judgedBy held true (checkedOf (config (space .layout)) (space .top) (now (mem .entry)) (root .0) (request .store) (request .address .0) (request .depth)) walked ⌝ }
+{
+    match walked {
+        Walked::Arrived {
+            page,
+            writable,
+            reads,
+        } => settled(held, walked, reads, check(mem, space, root, request)),
         Walked::Faulted { fault, reads } => stopped(held, walked),
         Walked::Damaged => damaged(held),
     }
