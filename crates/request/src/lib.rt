@@ -1,5 +1,6 @@
 // Load, store and device store: from an address and its depth to the bytes read or written, and the held paths that a store drops.
 ghost use mathlib.Core.Path.{_≡_};
+ghost use mathlib.Core.Bool.{false};
 ghost use Prim.Native.Nat.{_<_, _≤_};
 ghost use Rattle.spec.specs.Bytes.{bytesAt, withBytes};
 ghost use Rattle.spec.specs.Entry.{wordOf, frameLimit};
@@ -7,7 +8,7 @@ ghost use Rattle.words.specs.After.{yields};
 ghost use Rattle.words.specs.Words.{wordIn};
 ghost use Rattle.layout.specs.Layout.{LayoutFits, config};
 ghost use Rattle.translate.specs.Translate.{HeldFits, translation};
-ghost use Rattle.request.specs.Access.{Inside, ReachesFrame, bitsOf, settledOf, droppedOf, bytesIn, pathHeldOf, loadFrom, loadOf, finishBy, storeFrom, storeOf, deviceOf};
+ghost use Rattle.request.specs.Access.{Inside, ReachesFrame, setBy, bitsOf, settledOf, droppedOf, bytesIn, pathHeldOf, loadBy, loadFrom, loadOf, finishBy, writtenBy, storeBy, storeFrom, storeOf, deviceOf};
 use entry::GuestPhysical;
 use entry::GuestVirtual;
 use entry::HostPhysical;
@@ -18,6 +19,7 @@ use pool::Pool;
 use spec::Answer;
 use translate::Held;
 use translate::Request;
+use translate::Translated;
 use walk::Walked;
 
 // What a request leaves: what is held then, and its answer.
@@ -131,20 +133,32 @@ fn set_own(mem: &mut [u64], space: Space, root: GuestPhysical, store: bool, addr
     }
 }
 
-// They are set if they are to be.
+// They are set if they are to be and the request came to its word.
 fn settle(
     mem: &mut [u64],
     space: Space,
     root: GuestPhysical,
     store: bool,
     address: GuestVirtual,
+    walked: Walked,
     sets: bool,
 )
     requires { ⌜ LayoutFits (space .layout) ⌝ }
-    ensures { λ r. ⌜ now (mem .exit) ≡ settledOf (config (space .layout)) (space .top) (root .0) store (address .0) sets (now (mem .entry)) ⌝ }
+    ensures { λ r. ⌜ now (mem .exit) ≡ setBy walked (settledOf (config (space .layout)) (space .top) (root .0) store (address .0) sets (now (mem .entry))) (now (mem .entry)) ⌝ }
 {
-    if sets {
-        set_own(mem, space, root, store, address);
+    if !sets {
+        return;
+    }
+    match walked {
+        Walked::Arrived {
+            page,
+            writable,
+            reads,
+        } => {
+            set_own(mem, space, root, store, address);
+        }
+        Walked::Faulted { fault, reads } => {}
+        Walked::Damaged => {}
     }
 }
 
@@ -187,38 +201,32 @@ fn path_held(
     }
 }
 
-// What a load says that came so far: its bits are set, then its bytes are read. before: what was held when it came.
+// What a load says that came so far, with no bit to set; before: what was held when it came.
 fn loaded(
-    mem: &mut [u64],
-    space: Space,
-    root: GuestPhysical,
+    mem: &[u64],
     before: Held,
     held: Held,
     walked: Walked,
     exits: u64,
-    sets: bool,
-    address: GuestVirtual,
+    address: u64,
     width: u64,
 ) -> Served
-    requires { ⌜ (LayoutFits (space .layout)) × (ReachesFrame walked) × (Inside (address .0) width) ⌝ }
-    ensures { λ r. ⌜ yields r (now (mem .exit)) ≡ loadFrom (config (space .layout)) (space .top) (root .0) before (address .0) width (yields (translation held exits walked sets) (now (mem .entry))) ⌝ }
+    requires { ⌜ (ReachesFrame walked) × (Inside address width) ⌝ }
+    ensures { λ r. ⌜ yields r (now (mem .entry)) ≡ loadBy before address width (λ m. m) (yields (translation held exits walked false) (now (mem .entry))) walked ⌝ }
 {
     match walked {
         Walked::Arrived {
             page,
             writable,
             reads,
-        } => {
-            settle(mem, space, root, false, address, sets);
-            Served {
-                held: held,
-                answer: Answer::Value {
-                    word: read_bytes(mem, page, address.0, width),
-                    references: reads,
-                    exits: exits,
-                },
-            }
-        }
+        } => Served {
+            held: held,
+            answer: Answer::Value {
+                word: read_bytes(mem, page, address, width),
+                references: reads,
+                exits: exits,
+            },
+        },
         Walked::Faulted { fault, reads } => Served {
             held: held,
             answer: Answer::Faulted {
@@ -229,6 +237,25 @@ fn loaded(
         },
         Walked::Damaged => refused(before, 11),
     }
+}
+
+// The same of one that may have bits to set, before its bytes are read.
+fn loaded_by_bits(
+    mem: &mut [u64],
+    space: Space,
+    root: GuestPhysical,
+    before: Held,
+    t: Translated,
+    address: GuestVirtual,
+    width: u64,
+) -> Served
+    requires { ⌜ (LayoutFits (space .layout)) × (ReachesFrame (t .walked)) × (Inside (address .0) width) ⌝ }
+    ensures { λ r. ⌜ yields r (now (mem .exit)) ≡ loadFrom (config (space .layout)) (space .top) (root .0) before (address .0) width (yields t (now (mem .entry))) ⌝ }
+{
+    let walked = t.walked;
+    let held = t.held;
+    settle(mem, space, root, false, address, walked, t.sets);
+    loaded(mem, before, held, walked, t.exits, address.0, width)
 }
 
 // A load: 11.
@@ -252,37 +279,14 @@ pub fn load(
     if depth <= space.layout.levels {
         match path_held(mem, space.layout, held, false, address, depth) {
             HostWalk::Found { page, writable } => {
-                if space.layout.bits == 0 {
-                    let walked = translate::direct(mem, space, request, page, writable);
+                let part = translate::direct_part(mem, space, request, page, writable);
+                let walked = part.walked;
+                if !part.lack {
                     let exits = translate::exit_of(walked);
-                    return loaded(
-                        mem,
-                        space,
-                        root,
-                        held,
-                        held,
-                        walked,
-                        exits,
-                        false,
-                        address,
-                        width,
-                    );
+                    return loaded(mem, held, held, walked, exits, address.0, width);
                 }
-                let t = translate::through(mem, space, root, held, request, page, writable);
-                let walked = t.walked;
-                let after = t.held;
-                return loaded(
-                    mem,
-                    space,
-                    root,
-                    held,
-                    after,
-                    walked,
-                    t.exits,
-                    t.sets,
-                    address,
-                    width,
-                );
+                let t = translate::judged(mem, space, root, held, request, walked);
+                return loaded_by_bits(mem, space, root, held, t, address, width);
             }
             HostWalk::Absent { reads } => {}
             HostWalk::Damaged => {
@@ -291,20 +295,7 @@ pub fn load(
         }
     }
     let t = translate::unserved(mem, space, root, held, request);
-    let walked = t.walked;
-    let after = t.held;
-    loaded(
-        mem,
-        space,
-        root,
-        held,
-        after,
-        walked,
-        t.exits,
-        t.sets,
-        address,
-        width,
-    )
+    loaded_by_bits(mem, space, root, held, t, address, width)
 }
 
 // The bytes of a granted store are written, and what it says; put: what its drops left.
@@ -337,24 +328,81 @@ fn finish(
     }
 }
 
-// What a store does that came so far: the paths that read its word are dropped, its bits are set, then its bytes. before: what was held
-// when it came.
+// A granted store with no bit to set: the paths that read its word are dropped, then its bytes are written. before: what was held when
+// it came.
+fn written(
+    mem: &mut [u64],
+    layout: Layout,
+    before: Held,
+    held: Held,
+    page: HostPhysical,
+    address: u64,
+    width: u64,
+    value: u64,
+    references: u64,
+    exits: u64,
+) -> Served
+    requires { ⌜ (LayoutFits layout) × (held .pool .fresh ≤ layout .shadows) × (page .0 < frameLimit) × (Inside address width) × (exits ≤ 65536) ⌝ }
+    ensures { λ r. ⌜ yields r (now (mem .exit)) ≡ writtenBy before held references exits (page .0) address width value (λ m. m) (droppedOf (config layout) (now (mem .entry)) (held .pool) (page .0) (wordOf address)) ⌝ }
+{
+    let put = drop_readers(mem, layout, held.pool, page, address);
+    if !put.ok {
+        return refused(before, 11);
+    }
+    finish(mem, held, put, page, address, width, value, references, exits)
+}
+
+// What a store does that came so far, with no bit to set.
 fn stored(
     mem: &mut [u64],
-    space: Space,
-    root: GuestPhysical,
+    layout: Layout,
     before: Held,
     held: Held,
     walked: Walked,
     exits: u64,
-    sets: bool,
+    address: u64,
+    width: u64,
+    value: u64,
+) -> Served
+    requires { ⌜ (LayoutFits layout) × (held .pool .fresh ≤ layout .shadows) × (ReachesFrame walked) × (Inside address width) × (exits ≤ 65536) ⌝ }
+    ensures { λ r. ⌜ yields r (now (mem .exit)) ≡ storeBy (config layout) before address width value (λ m. m) (yields (translation held exits walked false) (now (mem .entry))) walked ⌝ }
+{
+    match walked {
+        Walked::Arrived {
+            page,
+            writable,
+            reads,
+        } => written(
+            mem, layout, before, held, page, address, width, value, reads, exits,
+        ),
+        Walked::Faulted { fault, reads } => Served {
+            held: held,
+            answer: Answer::Faulted {
+                fault: fault,
+                references: reads,
+                exits: exits,
+            },
+        },
+        Walked::Damaged => refused(before, 11),
+    }
+}
+
+// The same of one that may have bits to set: after the drops, which may meet damage, and before its bytes.
+fn stored_by_bits(
+    mem: &mut [u64],
+    space: Space,
+    root: GuestPhysical,
+    before: Held,
+    t: Translated,
     address: GuestVirtual,
     width: u64,
     value: u64,
 ) -> Served
-    requires { ⌜ (LayoutFits (space .layout)) × (held .pool .fresh ≤ space .layout .shadows) × (ReachesFrame walked) × (Inside (address .0) width) × (exits ≤ 65536) ⌝ }
-    ensures { λ r. ⌜ yields r (now (mem .exit)) ≡ storeFrom (config (space .layout)) (space .top) (root .0) before (address .0) width value (yields (translation held exits walked sets) (now (mem .entry))) ⌝ }
+    requires { ⌜ (LayoutFits (space .layout)) × (t .held .pool .fresh ≤ space .layout .shadows) × (ReachesFrame (t .walked)) × (Inside (address .0) width) × (t .exits ≤ 65536) ⌝ }
+    ensures { λ r. ⌜ yields r (now (mem .exit)) ≡ storeFrom (config (space .layout)) (space .top) (root .0) before (address .0) width value (yields t (now (mem .entry))) ⌝ }
 {
+    let walked = t.walked;
+    let held = t.held;
     match walked {
         Walked::Arrived {
             page,
@@ -365,17 +413,20 @@ fn stored(
             if !put.ok {
                 return refused(before, 11);
             }
-            settle(mem, space, root, true, address, sets);
-            finish(mem, held, put, page, address.0, width, value, reads, exits)
+            settle(mem, space, root, true, address, walked, t.sets);
+            finish(mem, held, put, page, address.0, width, value, reads, t.exits)
         }
-        Walked::Faulted { fault, reads } => Served {
-            held: held,
-            answer: Answer::Faulted {
-                fault: fault,
-                references: reads,
-                exits: exits,
-            },
-        },
+        Walked::Faulted { fault, reads } => stored(
+            mem,
+            space.layout,
+            before,
+            held,
+            walked,
+            t.exits,
+            address.0,
+            width,
+            value,
+        ),
         Walked::Damaged => refused(before, 11),
     }
 }
@@ -402,39 +453,24 @@ pub fn store(
     if depth <= space.layout.levels {
         match path_held(mem, space.layout, held, true, address, depth) {
             HostWalk::Found { page, writable } => {
-                if space.layout.bits == 0 {
-                    let walked = translate::direct(mem, space, request, page, writable);
+                let part = translate::direct_part(mem, space, request, page, writable);
+                let walked = part.walked;
+                if !part.lack {
                     let exits = translate::exit_of(walked);
                     return stored(
                         mem,
-                        space,
-                        root,
+                        space.layout,
                         held,
                         held,
                         walked,
                         exits,
-                        false,
-                        address,
+                        address.0,
                         width,
                         value,
                     );
                 }
-                let t = translate::through(mem, space, root, held, request, page, writable);
-                let walked = t.walked;
-                let after = t.held;
-                return stored(
-                    mem,
-                    space,
-                    root,
-                    held,
-                    after,
-                    walked,
-                    t.exits,
-                    t.sets,
-                    address,
-                    width,
-                    value,
-                );
+                let t = translate::judged(mem, space, root, held, request, walked);
+                return stored_by_bits(mem, space, root, held, t, address, width, value);
             }
             HostWalk::Absent { reads } => {}
             HostWalk::Damaged => {
@@ -443,21 +479,7 @@ pub fn store(
         }
     }
     let t = translate::unserved(mem, space, root, held, request);
-    let walked = t.walked;
-    let after = t.held;
-    stored(
-        mem,
-        space,
-        root,
-        held,
-        after,
-        walked,
-        t.exits,
-        t.sets,
-        address,
-        width,
-        value,
-    )
+    stored_by_bits(mem, space, root, held, t, address, width, value)
 }
 
 // A device's store at a guest-physical address: its host walk, then the bytes as for a store; no bits: 11.
@@ -478,13 +500,18 @@ pub fn device_store(
             page,
             writable,
             reads,
-        } => {
-            let put = drop_readers(mem, space.layout, held.pool, page, address);
-            if !put.ok {
-                return refused(held, 11);
-            }
-            finish(mem, held, put, page, address, width, value, reads, 0)
-        }
+        } => written(
+            mem,
+            space.layout,
+            held,
+            held,
+            page,
+            address,
+            width,
+            value,
+            reads,
+            0,
+        ),
         Walked::Faulted { fault, reads } => Served {
             held: held,
             answer: Answer::Faulted {

@@ -6,14 +6,11 @@ use Rattle.request.proofs.loaded.Tie as tie
 enum-known-walked : tie.Need-enum-known-walked
 enum-known-walked c = search needs
 
-settle-requires : tie.Need-settle-requires
-settle-requires c κs = search needs
-
 read-bytes-requires : tie.Need-read-bytes-requires
 read-bytes-requires c κs =
-    let walked = c .before .before .before .before .before .before .walked in
-    let pre = c .before .before .before .before .before .before .before .before .before .pre in
-    (rw (walked .given .1) at (pre .1), pre .2)
+    let walked = c .before .walked in
+    let pre = c .before .before .before .before .pre in
+    (rw (walked .given .1) at (pre .0), pre .1)
 
 enum-known-walked-2 : tie.Need-enum-known-walked-2
 enum-known-walked-2 c = search needs
@@ -24,15 +21,11 @@ enum-told c = search needs
 refused-requires : tie.Need-refused-requires
 refused-requires c κs = search needs
 
-same-length : tie.Need-same-length
-same-length c = search needs
-
 returns : tie.Need-returns
 returns c =
     let read-bytes = c .read-bytes in
-    let settle = c .before .before .before .before .settle in
-    let walked = c .before .before .before .before .before .before .before .walked in
-    rw (walked .given .1, ← settle .ensures, read-bytes .ensures)
+    let walked = c .before .before .walked in
+    rw (walked .given .1, read-bytes .ensures)
 
 returns-2 : tie.Need-returns-2
 returns-2 c =
@@ -50,12 +43,10 @@ loaded-spec =
     tie.close
     (tie.spec
     enum-known-walked
-    settle-requires
     read-bytes-requires
     enum-known-walked-2
     enum-told
     refused-requires
-    same-length
     returns
     returns-2
     returns-3)
