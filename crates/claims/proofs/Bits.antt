@@ -34,6 +34,7 @@ use Rattle.walk.proofs.Stands.{Stands, plainWalked, same-host, same-word, asked
 use Rattle.accessed.specs.Entries.{bitsIn}
 use Rattle.translate.specs.declared.Checked.{Checked}
 use Rattle.translate.specs.Translate.{whole, owingBy, checkedBy, checkedOf}
+use Rattle.request.specs.Access.{setBy, bitsOf}
 
 module _ (c : Config) (mach : Machine) (ht : ℕ) (m : List ℕ) (st : Stands c mach ht m) where
   abbrev w : World
@@ -73,6 +74,10 @@ module _ (c : Config) (mach : Machine) (ht : ℕ) (m : List ℕ) (st : Stands c 
     unfolding plain
     whole-walked = root-walked c mach ht m st b (mach .root) (addressIndexes c a) small (indexes-all (c .levels) (pageOf a))
 
+    pub whole-owed : owed v b ((trace v (whole c b (mach .root) a)) .reads) ((trace v (whole c b (mach .root) a)) .uses) ≡ owed w b ((plain c mach b a) .reads) ((plain c mach b a) .uses)
+    unfolding plain
+    whole-owed = walk-owed (whole c b (mach .root) a) _ asks b
+
     -- what its bits say where it is granted
     pub whole-checked : (d : ℕ) (r : Place) → (plain c mach b a) .result ≡ granted r
         → checkedOf c ht m (mach .root) b a d ≡ owingBy d (lacks w b ((plain c mach b a) .reads)) (owed w b ((plain c mach b a) .reads) ((plain c mach b a) .uses))
@@ -85,3 +90,10 @@ module _ (c : Config) (mach : Machine) (ht : ℕ) (m : List ℕ) (st : Stands c 
     pub whole-reads : All (λ x. InGuestArea c (x .0) × (x .1 < 512)) ((plain c mach b a) .reads)
     unfolding plain
     whole-reads = asked c mach ht m st (whole c b (mach .root) a) _ asks .reads
+
+    -- and setting its bits over memory
+    pub bits-are : (r : Place) → (plain c mach b a) .result ≡ granted r → bitsOf c ht m (mach .root) b a ≡ bitsIn b m ((plain c mach b a) .reads)
+    unfolding bitsOf
+    bits-are r e =
+        ap (λ x. setBy x (bitsIn b m ((trace v (whole c b (mach .root) a)) .reads)) m) (whole-walked ∙ ap (λ x. plainWalked x ((plain c mach b a) .count)) e)
+        ∙ ap (λ (t : Trace Fault Place). bitsIn b m (t .reads)) whole-trace

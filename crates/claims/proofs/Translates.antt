@@ -76,14 +76,15 @@ pub record Translates (s : State) (r : Record) (m : List ℕ) (st : Bool) (a : �
   pub done : o ≡ yields (translation held (k .exits) (cameTo right (verdict (configOf r) (s .machine) st a) (k .references)) sets) memory
   pub next : Inv (record { config = configOf r; machine = s .machine; book = k .book }) (withHeld r held) memory
   pub own : sets ≡ false → isGranted (verdict (configOf r) (s .machine) st a) ≡ true → bitsSet (configOf r) st (s .machine) (plain (configOf r) (s .machine) st a) ≡ s .machine
+  pub chosen : sets ≡ true → configOf r .bits ≡ true
 
 -- ---- results
 
-abbrev rightIn : Result Fault Place → Bool
+abbrev pub rightIn : Result Fault Place → Bool
 rightIn (granted p) = p .1
 rightIn (failed x) = false
 
-came-is : (x : Result Fault Place) (n : ℕ) → plainWalked x n ≡ cameTo (rightIn x) x n
+pub came-is : (x : Result Fault Place) (n : ℕ) → plainWalked x n ≡ cameTo (rightIn x) x n
 came-is (granted p) n = refl
 came-is (failed x) n = refl
 
@@ -157,7 +158,7 @@ module _ (s : State) (r : Record) (m : List ℕ) (inv : Inv s r m) (covered : Al
     asks : Guest c (InGuestArea c) (direct c st a deep t right) (λ q. InGuestArea c (q .0))
     asks = levels-asks c (InGuestArea c) st _ t right (indexes deep (pageOf a)) here (indexes-all deep (pageOf a))
 
-    direct-is : directOf c ht m st a deep t right ≡ cameTo (rightIn (rest .result)) (rest .result) ((c .levels - deep) + rest .count)
+    pub direct-is : directOf c ht m st a deep t right ≡ cameTo (rightIn (rest .result)) (rest .result) ((c .levels - deep) + rest .count)
     unfolding directOf
     direct-is =
         ap (λ l. walkedOf c ht m (c .levels - deep) (levels c st l t right (indexes deep (pageOf a)))) (zero-add deep)
@@ -299,9 +300,9 @@ module _ (s : State) (r : Record) (m : List ℕ) (inv : Inv s r m) (covered : Al
     -- what it says, by what the code says of it
     serve : (ρ sets : Bool) (x : Result Fault Place) (e : ℕ) → verdict c mach st a ≡ x → hostExit x ≡ e
         → throughOf c ht m hold rt st a deep t (h .right) ≡ translation hold e (cameTo ρ x refs) sets
-        → (sets ≡ false → isGranted (verdict c mach st a) ≡ true → bitsSet c st mach all ≡ mach)
+        → (sets ≡ false → isGranted (verdict c mach st a) ≡ true → bitsSet c st mach all ≡ mach) → (sets ≡ true → c .bits ≡ true)
         → Translates s r m st a price (yields (throughOf c ht m hold rt st a deep t (h .right)) m)
-    serve ρ sets x e v k q own = subst (λ y. Translates s r m st a y (yields (throughOf c ht m hold rt st a deep t (h .right)) m)) (sym priced) (record {
+    serve ρ sets x e v k q own chosen = subst (λ y. Translates s r m st a y (yields (throughOf c ht m hold rt st a deep t (h .right)) m)) (sym priced) (record {
       held = hold;
       memory = m;
       right = ρ;
@@ -309,6 +310,7 @@ module _ (s : State) (r : Record) (m : List ℕ) (inv : Inv s r m) (covered : Al
       done = ap (λ y. yields y m) (q ∙ ap₂ (λ i y. translation hold i (cameTo ρ y refs) sets) (sym k ∙ ap (λ (y : Result Fault Place). hostExit y) (sym v)) (sym v));
       next = same-inv;
       own = own;
+      chosen = chosen;
     })
 
     pub served-path : Translates s r m st a price (yields (throughOf c ht m hold rt st a deep t (h .right)) m)
@@ -327,7 +329,7 @@ module _ (s : State) (r : Record) (m : List ℕ) (inv : Inv s r m) (covered : Al
             (through-off c ht m hold rt st a deep t (h .right) off
             ∙ ap (λ y. translation hold (0 + exitBy y) y false) came
             ∙ ap (λ i. translation hold i (cameTo ρ (rested .result) refs) false) (zero-add (exitBy (cameTo ρ (rested .result) refs)) ∙ came-exit ρ (rested .result) refs))
-            (λ z g. off-bits c st mach all off)
+            (λ z g. off-bits c st mach all off) no
 
         on-path : c .bits ≡ true → (x : Result Fault Place) → rested .result ≡ x → (l : Bool) → lacks w st (rested .reads) ≡ l
             → Translates s r m st a price (yields (throughOf c ht m hold rt st a deep t (h .right)) m)
@@ -335,11 +337,11 @@ module _ (s : State) (r : Record) (m : List ℕ) (inv : Inv s r m) (covered : Al
             serve ρ false (failed x) (hostExit {A = Place} (failed x)) (verdict-fault x (whole-is ∙ e)) refl
             (through-on c ht m hold rt st a deep t (h .right) l (walked.Faulted x refs) on (lack-on ∙ k) (came ∙ ap (λ y. cameTo ρ y refs) e)
             ∙ ap (λ i. translation hold i (walked.Faulted x refs) false) (exit-is (failed x) refs))
-            (λ z g. refused-own x (verdict-fault x (whole-is ∙ e)) g)
+            (λ z g. refused-own x (verdict-fault x (whole-is ∙ e)) g) no
         on-path on (granted q) e false k =
             serve ρ false (granted q) 0 (served.served-verdict c mach st a deep (t, valid .wide) h low comes valid its (at ∙ sym upper-is) ok (λ y z. k) ∙ e) refl
             (through-on c ht m hold rt st a deep t (h .right) false (walked.Arrived (page (q .0)) ρ refs) on (lack-on ∙ k) (came ∙ ap (λ y. cameTo ρ y refs) e))
-            (λ z g. served.served-machine c mach st a deep (t, valid .wide) h low comes valid its (at ∙ sym upper-is) ok k)
+            (λ z g. served.served-machine c mach st a deep (t, valid .wide) h low comes valid its (at ∙ sym upper-is) ok k) no
         on-path on (granted q) e true k = by owing refl
           where
             judge : (o : Option (ℕ × ℕ)) → owing ≡ o
@@ -349,17 +351,23 @@ module _ (s : State) (r : Record) (m : List ℕ) (inv : Inv s r m) (covered : Al
                 ∙ ap (settledBy hold refs (walked.Arrived (page (q .0)) (walked-on .0) refs)) (checked-is q (whole-is ∙ e) ∙ ap (owingBy deep (lacks w st (all .reads))) (owes-on on ∙ z))
 
             by : (o : Option (ℕ × ℕ)) → owing ≡ o → Translates s r m st a price (yields (throughOf c ht m hold rt st a deep t (h .right)) m)
-            by none z = serve ρ (lacks w st (all .reads)) (granted q) 0 (verdict-is none (granted q) z (whole-is ∙ e)) refl (judge none z) (λ y g. own-whole y)
+            by none z = serve ρ (lacks w st (all .reads)) (granted q) 0 (verdict-is none (granted q) z (whole-is ∙ e)) refl (judge none z) (λ y g. own-whole y) (λ y. on)
             by (some o) z =
                 let v = verdict-is (some o) (granted q) z (whole-is ∙ e) in
                 serve ρ false (failed (HostReadOnly (o .1))) 1 v refl
                 (judge (some o) z ∙ ap (λ b. translation hold (one b) (walked.Faulted (HostReadOnly (o .1)) refs) false)
                 (le-leb (o .0) deep (served.owed-low c mach st a deep (t, valid .wide) h low comes valid its (at ∙ sym upper-is) ok q o e z)))
-                (λ y g. refused-own (HostReadOnly (o .1)) v g)
+                (λ y g. refused-own (HostReadOnly (o .1)) v g) no
 
         go : (b : Bool) → c .bits ≡ b → Translates s r m st a price (yields (throughOf c ht m hold rt st a deep t (h .right)) m)
         go false off = off-path off
         go true on = on-path on (rested .result) refl (lacks w st (rested .reads)) refl
+
+  -- the walk of the shadow part over memory
+  pub walked-is : walkedOf c ht m 0 (walk c st rt path) ≡ plainWalked (part .result) (part .count)
+  walked-is =
+      ap (λ x. walkedOf c ht m 0 (walk c st x path)) (inv .root)
+      ∙ root-walked c mach ht m (found.memory-stands s r m inv) st (mach .root) path (found.root-small s r m inv) (indexes-all (c .levels - deep) (pageOf a / 2 ^ (9 * deep)))
 
   -- ---- a path that does not serve
   module _ (low : deep ≤ c .levels) (unserved : serves st deep (find path (s .book .held)) ≡ false) where
@@ -368,12 +376,6 @@ module _ (s : State) (r : Record) (m : List ℕ) (inv : Inv s r m) (covered : Al
 
     part-upper : trace w (walk c st (mach .root) (upper c deep (addressIndexes c a))) ≡ part
     part-upper = ap (λ p. trace w (walk c st (mach .root) p)) (path-upper c deep a low)
-
-    -- the walk of the shadow part over memory
-    pub walked-is : walkedOf c ht m 0 (walk c st rt path) ≡ plainWalked (part .result) (part .count)
-    walked-is =
-        ap (λ x. walkedOf c ht m 0 (walk c st x path)) (inv .root)
-        ∙ root-walked c mach ht m (found.memory-stands s r m inv) st (mach .root) path (found.root-small s r m inv) (indexes-all (c .levels - deep) (pageOf a / 2 ^ (9 * deep)))
 
     abbrev missed : After Translated
     missed = missedOf c ht m hold rt st a deep
@@ -396,6 +398,7 @@ module _ (s : State) (r : Record) (m : List ℕ) (inv : Inv s r m) (covered : Al
               ∙ ap₂ (λ y n. yields (translation hold 1 (cameTo false y n) false) m) (sym v) (ap (λ (y : Trace Fault Place). y .count) (sym part-upper) ∙ sym (f .1));
           next = same-inv;
           own = λ z g. refused-own x v g;
+          chosen = no;
         })
 
     -- ---- past its shadow part
@@ -448,8 +451,8 @@ module _ (s : State) (r : Record) (m : List ℕ) (inv : Inv s r m) (covered : Al
       by-fill : (e : ℕ) (y : Result Fault Place) (sets : Bool) → verdict c mach st a ≡ y → 1 + lateExit deep owing (onward .result) ≡ e
           → c .bits && not (isGranted (verdict c mach st a)) ≡ false
           → missed ≡ filledOf c m hold (fills.gs s r m inv st a) a deep t (fills.right s r m inv st a t wide low shadow-comes) e (cameTo (rightIn y) y onward-refs) sets
-          → (sets ≡ false → isGranted (verdict c mach st a) ≡ true → bitsSet c st mach all ≡ mach) → Translates s r m st a price missed
-      by-fill e y sets v l q k own =
+          → (sets ≡ false → isGranted (verdict c mach st a) ≡ true → bitsSet c st mach all ≡ mach) → (sets ≡ true → c .bits ≡ true) → Translates s r m st a price missed
+      by-fill e y sets v l q k own chosen =
           let f = fills.fills s r m inv st a t wide low shadow-comes unserved e (cameTo (rightIn y) y onward-refs) sets in
           subst (λ z. Translates s r m st a z missed) (sym (missed-priced false (onward .result) q refl)) (record {
             held = f .held;
@@ -459,6 +462,7 @@ module _ (s : State) (r : Record) (m : List ℕ) (inv : Inv s r m) (covered : Al
             done = k ∙ f .done ∙ ap₂ (λ i z. yields (translation (f .held) i (cameTo (rightIn y) z onward-refs) sets) (f .memory)) (sym l) (sym v);
             next = f .next;
             own = own;
+            chosen = chosen;
           })
 
       -- a request that is stopped, with bits on
@@ -475,6 +479,7 @@ module _ (s : State) (r : Record) (m : List ℕ) (inv : Inv s r m) (covered : Al
             done = k ∙ ap₂ (λ i j. yields (translation hold i (walked.Faulted x j) false) m) (sym l) n ∙ ap (λ y. yields (translation hold (1 + lateExit deep owing (onward .result)) (cameTo false y (all .count)) false) m) (sym v);
             next = same-inv;
             own = λ z g. refused-own x v g;
+            chosen = no;
           })
 
       missed-off : c .bits ≡ false → Translates s r m st a price missed
@@ -487,7 +492,7 @@ module _ (s : State) (r : Record) (m : List ℕ) (inv : Inv s r m) (covered : Al
           ∙ ap (laxOf c m hold (fills.gs s r m inv st a) a deep t wide) (onward-came x refl)
           ∙ lax-broken c m hold (fills.gs s r m inv st a) a deep t wide (cameTo (rightIn x) x onward-refs) false (not-broken (rightIn x) x onward-refs)
           ∙ ap₂ (λ b i. filledOf c m hold (fills.gs s r m inv st a) a deep t b (1 + i) (cameTo (rightIn x) x onward-refs) false) (sym (fills.right-is s r m inv st a t wide low shadow-comes off)) (came-exit (rightIn x) x onward-refs))
-          (λ z g. off-bits c st mach all off)
+          (λ z g. off-bits c st mach all off) no
         where
           late : (y : Result Fault Place) → owing ≡ none → lateExit deep owing y ≡ hostExit y
           late (failed z) o = refl
@@ -517,7 +522,7 @@ module _ (s : State) (r : Record) (m : List ℕ) (inv : Inv s r m) (covered : Al
               let v = verdict-is none (granted q) z (parts .0 ∙ e) in
               by-fill 1 (granted q) (lacks w st (all .reads)) v (ap₂ (λ u y. 1 + lateExit deep u y) z e) (ap₂ (λ b y. b && not (isGranted {A = Place} y)) on v)
               (grant none z ∙ ap (λ b. filledOf c m hold (fills.gs s r m inv st a) a deep t b 1 (walked.Arrived (page (q .0)) (q .1) onward-refs) (lacks w st (all .reads))) (fills.passes-is s r m inv st a t wide low shadow-comes on))
-              (λ y g. own-whole y)
+              (λ y g. own-whole y) (λ y. on)
           by (some o) z =
               by-stop (one (leb (o .0) deep)) (HostReadOnly (o .1)) (verdict-is (some o) (granted q) z (parts .0 ∙ e)) (ap₂ (λ u y. 1 + lateExit deep u y) z e) on (grant (some o) z)
 
@@ -568,9 +573,9 @@ module _ (s : State) (r : Record) (m : List ℕ) (inv : Inv s r m) (covered : Al
           ∙ whole-walked c mach ht m (found.memory-stands s r m inv) (found.root-small s r m inv) st a
 
       says : (ρ sets : Bool) (x : Result Fault Place) (e : ℕ) → verdict c mach st a ≡ x → hostExit x ≡ e → unshadowedOf c ht m hold rt st a deep ≡ translation hold e (cameTo ρ x (all .count)) sets
-          → (sets ≡ false → isGranted (verdict c mach st a) ≡ true → bitsSet c st mach all ≡ mach)
+          → (sets ≡ false → isGranted (verdict c mach st a) ≡ true → bitsSet c st mach all ≡ mach) → (sets ≡ true → c .bits ≡ true)
           → Translates s r m st a (unshadowed (s .book) (all .count) (verdict c mach st a)) (yields (unshadowedOf c ht m hold rt st a deep) m)
-      says ρ sets x e v k q own = record {
+      says ρ sets x e v k q own chosen = record {
         held = hold;
         memory = m;
         right = ρ;
@@ -578,6 +583,7 @@ module _ (s : State) (r : Record) (m : List ℕ) (inv : Inv s r m) (covered : Al
         done = ap (λ y. yields y m) (q ∙ ap₂ (λ i y. translation hold i (cameTo ρ y (all .count)) sets) (sym k ∙ ap (λ (y : Result Fault Place). hostExit y) (sym v)) (sym v));
         next = same-inv;
         own = own;
+        chosen = chosen;
       }
 
       off-walk : c .bits ≡ false → Translates s r m st a (unshadowed (s .book) (all .count) (verdict c mach st a)) (yields (unshadowedOf c ht m hold rt st a deep) m)
@@ -587,14 +593,14 @@ module _ (s : State) (r : Record) (m : List ℕ) (inv : Inv s r m) (covered : Al
           says (rightIn x) false x (hostExit x) (off-verdict c mach st a off) refl
           (unshadowed-off c ht m hold rt st a deep off ∙ ap (λ z. translation hold (exitBy z) z false) y
           ∙ ap (λ i. translation hold i (cameTo (rightIn x) x (all .count)) false) (came-exit (rightIn x) x (all .count)))
-          (λ z g. off-bits c st mach all off)
+          (λ z g. off-bits c st mach all off) no
 
       on-walk : c .bits ≡ true → (x : Result Fault Place) → all .result ≡ x → Translates s r m st a (unshadowed (s .book) (all .count) (verdict c mach st a)) (yields (unshadowedOf c ht m hold rt st a deep) m)
       on-walk on (failed x) e =
           says false false (failed x) (hostExit {A = Place} (failed x)) (verdict-fault x e) refl
           (unshadowed-on c ht m hold rt st a deep (walked.Faulted x (all .count)) on (all-walked ∙ ap (λ y. plainWalked y (all .count)) e)
           ∙ ap (λ i. translation hold i (walked.Faulted x (all .count)) false) (exit-is (failed x) (all .count)))
-          (λ z g. refused-own x (verdict-fault x e) g)
+          (λ z g. refused-own x (verdict-fault x e) g) no
       on-walk on (granted q) e = by owing refl
         where
           judge : (o : Option (ℕ × ℕ)) → owing ≡ o
@@ -604,7 +610,7 @@ module _ (s : State) (r : Record) (m : List ℕ) (inv : Inv s r m) (covered : Al
               ∙ ap (settledBy hold (all .count) (walked.Arrived (page (q .0)) (q .1) (all .count))) (checked-is q e ∙ ap (owingBy deep (lacks w st (all .reads))) (owes-on on ∙ z))
 
           by : (o : Option (ℕ × ℕ)) → owing ≡ o → Translates s r m st a (unshadowed (s .book) (all .count) (verdict c mach st a)) (yields (unshadowedOf c ht m hold rt st a deep) m)
-          by none z = says (q .1) (lacks w st (all .reads)) (granted q) 0 (verdict-is none (granted q) z e) refl (judge none z) (λ y g. own-whole y)
+          by none z = says (q .1) (lacks w st (all .reads)) (granted q) 0 (verdict-is none (granted q) z e) refl (judge none z) (λ y g. own-whole y) (λ y. on)
           by (some o) z =
               let v = verdict-is (some o) (granted q) z e in
               let reads-all : length (all .reads) ≡ c .levels = sym (reads-long (all .reads)) ∙ ap length (walk-read w c st (mach .root) (addressIndexes c a) q e .indexed) ∙ indexes-length (c .levels) (pageOf a) in
@@ -612,7 +618,7 @@ module _ (s : State) (r : Record) (m : List ℕ) (inv : Inv s r m) (covered : Al
               says false false (failed (HostReadOnly (o .1))) 1 v refl
               (judge (some o) z ∙ ap (λ b. translation hold (one b) (walked.Faulted (HostReadOnly (o .1)) (all .count)) false)
               (le-leb (o .0) deep (omega (arith, level, reads-all, high))))
-              (λ y g. refused-own (HostReadOnly (o .1)) v g)
+              (λ y g. refused-own (HostReadOnly (o .1)) v g) no
 
       go : (b : Bool) → c .bits ≡ b → Translates s r m st a (unshadowed (s .book) (all .count) (verdict c mach st a)) (yields (unshadowedOf c ht m hold rt st a deep) m)
       go false off = off-walk off

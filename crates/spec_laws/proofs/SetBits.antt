@@ -215,3 +215,8 @@ owed-on w v st (x ∷ xs) (g ∷ gs) a b =
 pub dirty-on : (w v : World) (xs : List (ℕ × ℕ)) → All (SameWord w v) xs → dirtyAt v xs ≡ dirtyAt w xs
 dirty-on w v [] a = refl
 dirty-on w v (x ∷ xs) a = ap₂ (λ y b. cond (isLast xs) (dirty y) b) (a .0) (dirty-on w v xs (a .1))
+
+-- ---- with bits on they are set
+pub set-on : (c : Config) (st : Bool) (m : Machine) (r : Trace Fault Place) → c .bits ≡ true → setBits c st m (r .reads) ≡ bitsSet c st m r
+unfolding bitsSet
+set-on c st m r on = sym (ap (λ b. cond b (setBits c st m (r .reads)) m) on)
