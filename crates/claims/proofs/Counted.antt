@@ -18,6 +18,7 @@ use Rattle.spec.specs.declared.Fault.{Fault}
 use Rattle.spec.specs.Config.{Config, frameBits}
 use Rattle.spec.specs.Entry.{wordOf, pageOf, indexes}
 use Rattle.spec.specs.Bytes.{widthFits, bytesAt, withBytes}
+use Rattle.spec.specs.Walk as result
 use Rattle.spec.specs.Walk.{World, Trace, granted, trace}
 use Rattle.spec.specs.Plain.{Place, levels, walk, upper, shadowPart, directPart}
 use Rattle.spec.specs.Machine.{place, world}
@@ -468,6 +469,16 @@ module _ (m : List ℕ) (h s : ℕ) (bits : Bool) (xs : List Call) (granted : re
 
   here : (st : Bool) (a : ℕ) → HeldOrPlain config book st a → HeldOrPlain (configOf unit) book st a
   here st a k = subst (λ c. HeldOrPlain c book st a) (after-run m h s bits xs granted .0) k
+
+  -- the premise `SetsNone` below lets off only a request whose plain walk on the machine is granted and reads an entry that lacks a bit
+  pub run-sets-none : (st : Bool) (a : ℕ) → HeldOrPlain config book st a
+      → ((p : Place) → (call.plain config (state .machine) st a) .result ≡ result.granted p → lacks (world config (state .machine)) st ((call.plain config (state .machine) st a) .reads) ≡ false)
+      → SetsNone unit memory st a
+  run-sets-none st a k has =
+      let e = after-run m h s bits xs granted .0 in
+      sets-none state unit memory stands a (after-run m h s bits xs granted .2) st
+      (subst (λ c. (p : Place) → (call.plain c (state .machine) st a) .result ≡ result.granted p → lacks (world c (state .machine)) st ((call.plain c (state .machine) st a) .reads) ≡ false) e has)
+      (here st a k)
 
   -- a load whose path is held, or at depth N + 1: any words of the memory but those that it counts and the one around the bytes that it loads may be
   -- altered, and its value or fault, its references and its exits are the same. With bits on, a load on a held path is let off if it sets a
