@@ -68,7 +68,7 @@ use Rattle.translate.proofs.Leaves.{translate-leaves}
 use Rattle.request.proofs.Leaves.{drop-leaves}
 use Rattle.calls.specs.Calls.{hostTop, heldOf, rootOf, refused, admitted, depthAt, addressOk, translatedOf, loadCall, storeCall}
 use Rattle.claims.specs.Run.{guestArea, runOf}
-use Rattle.claims.specs.Counted.{SameWords, SameLoad, SameStore, countedOf, touchedBy, touchedOf, HeldOrPlain, LacksNone, SetsNone, ownOf, References, Touches, Refuses, SameTables}
+use Rattle.claims.specs.Counted.{SameWords, SameLoad, SameStore, countedOf, touchedBy, touchedOf, HeldOrPlain, LacksNone, SetsNone, ownOf, SameOwn, References, Touches, Refuses, SameTables}
 use Rattle.claims.proofs.Invariant.{longer, frames, Inv}
 use Rattle.claims.proofs.Moves.{shadow-drop}
 use Rattle.claims.proofs.Puts.{area-store}
@@ -78,7 +78,7 @@ use Rattle.claims.proofs.Bits.{walk-lacks}
 use Rattle.claims.proofs.Translates as translates
 use Rattle.claims.proofs.Demands.{after-run}
 use Rattle.claims.proofs.WordsRead as read
-use Rattle.claims.proofs.WordsRead.{Reaches, held, plain, comes, alike, Reads, walk-outside, own-long, own-alike}
+use Rattle.claims.proofs.WordsRead.{Reaches, held, plain, comes, Alike, alike, Reads, walk-outside, bits-alike, own-long, own-alike}
 use Rattle.words.specs.After.{After}
 use Rattle.translate.specs.declared.Translated.{Translated}
 use Rattle.calls.specs.declared.Reply.{Reply}
@@ -200,6 +200,15 @@ module _ (s : State) (r : Record) (m : List ℕ) (inv : Inv s r m) (a : ℕ) whe
     abbrev own : Bool → Bool → List ℕ → List ℕ
     own st sets n = settledOf c (hostTop r) (rootOf r) st a sets n
 
+    same-own : (st : Bool) (n : List ℕ) → Alike r st a m n → SameOwn r m n st a
+    unfolding ownOf
+    same-own st n l =
+        let k = l .own in (
+          k .0,
+          ap (λ (o : After Translated). own st (o .result .sets) m) (l .before) ∙ k .2,
+          ap (λ (o : After Translated). own st (o .result .sets) n) (l .altered) ∙ k .3,
+        )
+
     abbrev loadOn : After Translated → After Reply
     loadOn o = loadedBy r a w (own false (o .result .sets)) o (o .result .walked)
 
@@ -230,16 +239,23 @@ module _ (s : State) (r : Record) (m : List ℕ) (inv : Inv s r m) (a : ℕ) whe
         let x = subst (SameReply n (ownOf r n false a) (loadCall r n a w)) (sym (load-fits m refl))
         (subst (λ (y : After Reply). SameReply n (ownOf r n false a) y (admitted (widthFits w) (addressOk false c a w) r m (loadOn (translatedOf r m false a)))) (sym (load-fits n e))
         (go (widthFits w) (addressOk false c a w))) in
-        record { says = x .0; unit = x .1; memory = x .2 }
+        record { says = x .0; unit = x .1; memory = x .2; own = same-own false n l }
       where
+        l : Alike r false a m n
+        l = alike r false a m n (reaches false h) clear counted
+
+        kept : (j : ℕ) → getD n j 0 ≡ getD m j 0 → getD (own false (l .sets) n) j 0 ≡ getD (own false (l .sets) m) j 0
+        kept j q =
+            let k = l .own in
+            ap (λ x. getD x j 0) (k .3) ∙ bits-alike false (k .0) m n e (k .1) j q ∙ sym (ap (λ x. getD x j 0) (k .2))
+
         go : (d b : Bool) → SameReply n (own false (translatedOf r n false a .result .sets) n) (admitted d b r n (loadOn (translatedOf r n false a))) (admitted d b r m (loadOn (translatedOf r m false a)))
         go false b = (refl, refl, inl refl)
         go true false = (refl, refl, inl refl)
         go true true =
-            let l = alike r false a m n (reaches false h) clear e counted in
             subst (λ (o : After Translated). SameReply n (own false (o .result .sets) n) (loadOn o) (loadOn (translatedOf r m false a))) (sym (l .altered))
             (subst (λ (o : After Translated). SameReply n (own false (l .sets) n) (loadOn (read.left r false a (l .exits) (l .walked) (l .sets) n)) (loadOn o)) (sym (l .before))
-            (load-says n (l .exits) (l .walked) (l .sets) (l .own) (subst (λ (o : After Translated). SameWords m n (touchedBy a (o .result .walked))) (l .before) touched)))
+            (load-says n (l .exits) (l .walked) (l .sets) kept (subst (λ (o : After Translated). SameWords m n (touchedBy a (o .result .walked))) (l .before) touched)))
 
     -- ---- the words counted are as many as the references, whatever bits are set
 
@@ -381,6 +397,9 @@ module _ (s : State) (r : Record) (m : List ℕ) (inv : Inv s r m) (a : ℕ) whe
       unfolding touchedOf
       words-counted-store h clear k e done n long counted = go (widthFits w) (addressOk false c a w) refl refl
         where
+          l : Alike r true a m n
+          l = alike r true a m n (reaches true h) clear counted
+
           by : (i : ℕ) (x : Walked) (sets : Bool) → translatedOf r m true a ≡ read.left r true a i x sets m → translatedOf r n true a ≡ read.left r true a i x sets n → ArrivedIn c x
               → storeCall r m a w v ≡ storeOn (read.left r true a i x sets m) → storeCall r n a w v ≡ storeOn (read.left r true a i x sets n) → SameStore r m n a w v k e
           by i (walked.Faulted y j) sets p q there f g =
@@ -411,6 +430,7 @@ module _ (s : State) (r : Record) (m : List ℕ) (inv : Inv s r m) (a : ℕ) whe
                   subst (λ l. SameStore r m n a w v l e) x (subst (SameStore r m n a w v j) y (record {
                     frame = t .0;
                     touched = ap (λ (u : After Translated). touchedBy a (u .result .walked)) p;
+                    own = same-own true n l;
                     before = subst (Touches r m j exits (t .0) a w v) (sym f) (touches (t .0) j i sets there m before o);
                     altered = subst (λ u. ((y : ℕ) × Touches r n j y (t .0) a w v u) ⊎ Refuses r n u) (sym g) (either (t .0) j i sets there n now);
                     only = λ tables. subst (Touches r n j exits (t .0) a w v) (sym g) (same-touches (t .0) j i sets there n now long tables);
@@ -428,7 +448,6 @@ module _ (s : State) (r : Record) (m : List ℕ) (inv : Inv s r m) (a : ℕ) whe
           go false b p q = refusal 15 (fits false b p q m refl)
           go true false p q = refusal 4 (fits true false p q m refl)
           go true true p q =
-              let l = alike r true a m n (reaches true h) clear long counted in
               by (l .exits) (l .walked) (l .sets) (l .before) (l .altered) (subst (λ (o : After Translated). ArrivedIn c (o .result .walked)) (l .before) arrives)
               (fits true true p q m refl ∙ ap storeOn (l .before))
               (fits true true p q n long ∙ ap storeOn (l .altered))

@@ -22,7 +22,7 @@ use Rattle.spec.specs.Plain.{Place, must, hosted, entry, next, levels, walk}
 use Rattle.spec.specs.Bits.{isLast, withBits, lacks, owed}
 use Rattle.spec.specs.Refusal.{inGuestArea}
 use Rattle.spec.specs.Prefix.{All}
-use Rattle.spec_laws.proofs.Lists.{all-map, all-left, is-true, is-false}
+use Rattle.spec_laws.proofs.Lists.{all-map, all-any, all-left, is-true, is-false}
 use Rattle.spec_laws.proofs.Indexes.{indexes-length, indexes-all}
 use Rattle.spec_laws.proofs.Asks.{AnswerIn, Guest}
 use Rattle.spec_laws.proofs.Local as answers
@@ -291,7 +291,7 @@ set-alike m n i j v long e = go (eqb j i) refl (ltb i (length m)) refl
         ap (λ x. getD x j 0) (set-out n i v (omega (arith, l, long))) ∙ e ∙ sym (ap (λ x. getD x j 0) (set-out m i v l))
     go false q d f = getD-set-other n i j v 0 (eqb-false j i q) ∙ e ∙ sym (getD-set-other m i j v 0 (eqb-false j i q))
 
-bits-alike : (st : Bool) (xs : List Word) (m n : List ℕ) → length n ≡ length m → SameWords m n xs → (j : ℕ) → getD n j 0 ≡ getD m j 0
+pub bits-alike : (st : Bool) (xs : List Word) (m n : List ℕ) → length n ≡ length m → SameWords m n xs → (j : ℕ) → getD n j 0 ≡ getD m j 0
     → getD (bitsIn st n xs) j 0 ≡ getD (bitsIn st m xs) j 0
 bits-alike st [] m n long s j e = e
 bits-alike st (x ∷ xs) m n long s j e =
@@ -308,31 +308,36 @@ bits-long st (x ∷ xs) m =
     let v = withBits (st && isLast xs) (wordIn m (x .0) (x .1)) in
     bits-long st xs (set m i v) ∙ length-set m i v
 
--- a request that sets its bits sets them in the same entries, so a word that is the same stays the same
 module _ (c : Config) (ht root : ℕ) (st : Bool) (a : ℕ) where
-  pub own-long : (sets : Bool) (m : List ℕ) → length (settledOf c ht root st a sets m) ≡ length m
-  unfolding settledOf bitsOf
-  own-long false m = refl
-  own-long true m = go (walkedOf c ht m 0 (whole c st root a)) ((trace (memoryWorld c ht m) (whole c st root a)) .reads)
+  -- a request that sets its bits sets them in the same entries,
+  pub own-entries : (m n : List ℕ) → SameWords m n (walkWords c ht m (whole c st root a)) → (sets : Bool)
+      → (xs : List Word) × SameWords m n xs × (settledOf c ht root st a sets m ≡ bitsIn st m xs) × (settledOf c ht root st a sets n ≡ bitsIn st n xs)
+  unfolding settledOf bitsOf memoryWorld
+  own-entries m n s false = ([], tt, refl, refl)
+  own-entries m n s true =
+      let p = whole c st root a in
+      let k = go (walkedOf c ht m 0 p) ((trace (memoryWorld c ht m) p) .reads) (trace-alike c ht m n p s .words) in (
+        k .0,
+        k .1,
+        k .2,
+        ap₂ (λ x (t : Trace Fault Place). setBy x (bitsIn st n (t .reads)) n) (walk-local c ht m n p 0 (walk-ends c st root (indexes (c .levels) (pageOf a))) s) (trace-local c ht m n p s) ∙ k .3,
+      )
     where
-      go : (x : Walked) (xs : List Word) → length (setBy x (bitsIn st m xs) m) ≡ length m
-      go (walked.Arrived t w k) xs = bits-long st xs m
-      go (walked.Faulted y k) xs = refl
-      go walked.Damaged xs = refl
+      go : (x : Walked) (xs : List Word) → SameWords m n xs
+          → (ys : List Word) × SameWords m n ys × (setBy x (bitsIn st m xs) m ≡ bitsIn st m ys) × (setBy x (bitsIn st n xs) n ≡ bitsIn st n ys)
+      go (walked.Arrived t w k) xs q = (xs, q, refl, refl)
+      go (walked.Faulted y k) xs q = ([], tt, refl, refl)
+      go walked.Damaged xs q = ([], tt, refl, refl)
 
+  pub own-long : (sets : Bool) (m : List ℕ) → length (settledOf c ht root st a sets m) ≡ length m
+  own-long sets m = let k = own-entries m m (all-any _ (walkWords c ht m (whole c st root a)) (λ x. refl)) sets in ap length (k .2) ∙ bits-long st (k .0) m
+
+  -- so a word that is the same stays the same
   pub own-alike : (m n : List ℕ) → length n ≡ length m → SameWords m n (walkWords c ht m (whole c st root a)) → (sets : Bool) (j : ℕ) → getD n j 0 ≡ getD m j 0
       → getD (settledOf c ht root st a sets n) j 0 ≡ getD (settledOf c ht root st a sets m) j 0
-  unfolding settledOf bitsOf memoryWorld
-  own-alike m n long s false j e = e
-  own-alike m n long s true j e =
-      let p = whole c st root a in
-      ap₂ (λ x (t : Trace Fault Place). getD (setBy x (bitsIn st n (t .reads)) n) j 0) (walk-local c ht m n p 0 (walk-ends c st root (indexes (c .levels) (pageOf a))) s) (trace-local c ht m n p s)
-      ∙ go (walkedOf c ht m 0 p) ((trace (memoryWorld c ht m) p) .reads) (trace-alike c ht m n p s .words)
-    where
-      go : (x : Walked) (xs : List Word) → SameWords m n xs → getD (setBy x (bitsIn st n xs) n) j 0 ≡ getD (setBy x (bitsIn st m xs) m) j 0
-      go (walked.Arrived t w k) xs q = bits-alike st xs m n long q j e
-      go (walked.Faulted y k) xs q = e
-      go walked.Damaged xs q = e
+  own-alike m n long s sets j e =
+      let k = own-entries m n s sets in
+      ap (λ l. getD l j 0) (k .3) ∙ bits-alike st (k .0) m n long (k .1) j e ∙ sym (ap (λ l. getD l j 0) (k .2))
 
 -- ---- and it counts them
 
@@ -641,11 +646,11 @@ module _ (r : Record) (st : Bool) (a : ℕ) where
     pub sets : Bool
     pub before : translatedOf r m st a ≡ left exits walked sets m
     pub altered : translatedOf r n st a ≡ left exits walked sets n
-    pub own : (j : ℕ) → getD n j 0 ≡ getD m j 0 → getD (settledOf c ht rt st a sets n) j 0 ≡ getD (settledOf c ht rt st a sets m) j 0
+    pub own : (xs : List Word) × SameWords m n xs × (settledOf c ht rt st a sets m ≡ bitsIn st m xs) × (settledOf c ht rt st a sets n ≡ bitsIn st n xs)
 
-  pub alike : (m n : List ℕ) → Reaches m → SetsNone r m st a → length n ≡ length m → SameWords m n (countedOf r m st a) → Alike m n
+  pub alike : (m n : List ℕ) → Reaches m → SetsNone r m st a → SameWords m n (countedOf r m st a) → Alike m n
   unfolding SetsNone settledOf
-  alike m n (held t w l f s) b long h =
+  alike m n (held t w l f s) b h =
       let k : SameWords m n (pathWords r m a d ++ directly m (t .0) w) = subst (SameWords m n) (held-counted m t w l f) h in
       let p = all-left _ (pathWords r m a d) (directly m (t .0) w) k in
       let q = all-rest _ (pathWords r m a d) (directly m (t .0) w) k in
@@ -656,9 +661,9 @@ module _ (r : Record) (st : Bool) (a : ℕ) where
         sets = false;
         before = held-is m t w l f s ∙ ap (λ x. yields x m) (through-none m (t .0) w clear);
         altered = held-is n t w l (found-local m n p ∙ f) s ∙ ap (λ x. yields x n) (through-local m n (t .0) w q clear ∙ through-none m (t .0) w clear);
-        own = λ j e. e;
+        own = ([], tt, refl, refl);
       }
-  alike m n (plain l) b long h =
+  alike m n (plain l) b h =
       let k : SameWords m n (plainly m) = subst (SameWords m n) (plain-counted m l) h in
       let x : Translated = unshadowedOf c ht m hold rt st a d in
       record {
@@ -667,5 +672,5 @@ module _ (r : Record) (st : Bool) (a : ℕ) where
         sets = x .sets;
         before = plain-is m l ∙ left-is x m (unshadowed-held m);
         altered = plain-is n l ∙ ap (λ y. yields y n) (unshadowed-local m n k) ∙ left-is x n (unshadowed-held m);
-        own = own-alike c ht rt st a m n long k (x .sets);
+        own = own-entries c ht rt st a m n k (x .sets);
       }

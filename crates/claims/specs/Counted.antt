@@ -31,6 +31,7 @@ use Rattle.host.specs.Walk.{hostWalkOf}
 use Rattle.walk.specs.declared.Walked.{Walked}
 use Rattle.walk.specs.declared.Walked.the-variants as walked
 use Rattle.walk.specs.Memory.{placeOf, memoryWorld}
+use Rattle.accessed.specs.Entries.{bitsIn}
 use Rattle.record.specs.declared.Record.{Record}
 use Rattle.record.specs.Record.{configOf}
 use Rattle.translate.specs.Translate.{pathIndexes, foundOf, direct, whole}
@@ -122,6 +123,10 @@ SetsNone r m st a =
 unfoldable pub ownOf : Record → List ℕ → Bool → ℕ → List ℕ
 ownOf r m st a = settledOf (configOf r) (hostTop r) (rootOf r) st a (translatedOf r m st a .result .sets) m
 
+-- on memory n it sets them in the same entries as on m
+abbrev pub SameOwn : Record → List ℕ → List ℕ → Bool → ℕ → Type 0
+SameOwn r m n st a = (xs : List Word) × (ownOf r m st a ≡ bitsIn st m xs) × (ownOf r n st a ≡ bitsIn st n xs)
+
 -- the references of an answer that has any are x
 abbrev pub References : ℕ → Answer → Type 0
 References x answer.Ok = Unit {0}
@@ -137,6 +142,7 @@ pub record SameLoad (r : Record) (m n : List ℕ) (a w : ℕ) : Type 0 where
   pub says : loadCall r n a w .result .answer ≡ loadCall r m a w .result .answer
   pub unit : loadCall r n a w .result .unit ≡ r
   pub memory : (loadCall r n a w .memory ≡ n) ⊎ (loadCall r n a w .memory ≡ ownOf r n false a)
+  pub own : SameOwn r m n false a
 
 -- a store of w bytes at the address a, on memory m, is granted with k references and x exits in host frame t: they are those of v,
 -- and nothing else of the guest area changes but its own bits, which it sets first
@@ -159,6 +165,7 @@ SameTables c m n = (f : ℕ) → f < guestBase c → SameFrame m n f
 pub record SameStore (r : Record) (m n : List ℕ) (a w v k x : ℕ) : Type 0 where
   pub frame : ℕ
   pub touched : touchedOf r m true a ≡ (frame, wordOf a) ∷ []
+  pub own : SameOwn r m n true a
   pub before : Touches r m k x frame a w v (storeCall r m a w v)
   pub altered : ((y : ℕ) × Touches r n k y frame a w v (storeCall r n a w v)) ⊎ Refuses r n (storeCall r n a w v)
   pub only : SameTables (configOf r) m n → Touches r n k x frame a w v (storeCall r n a w v)
