@@ -23,7 +23,7 @@ use Rattle.entry.specs.declared.HostPhysical.{HostPhysical}
 use Rattle.layout.specs.declared.HostWalk.{HostWalk}
 use Rattle.layout.specs.declared.HostWalk.the-variants as host
 use Rattle.layout.specs.Layout.{page}
-use Rattle.layout.proofs.Laws.{HostFits}
+use Rattle.layout.proofs.Laws.{InGuestArea, HostFits}
 use Rattle.host.specs.Walk.{hostWalkOf}
 use Rattle.host.proofs.Laws.{host-fits}
 use Rattle.walk.specs.declared.Walked.{Walked}
@@ -142,37 +142,52 @@ zeros-at (suc n) (suc k) = zeros-at n k
 no-tables : Frames (replicate 8 0)
 no-tables k = subst (λ x. x < frameLimit) (sym (zeros-at 8 k)) (omega arith)
 
-module _ (c : Config) (ht : ℕ) (m : List ℕ) (few : c .frames ≤ 65536) where
-  found-small : (g f : ℕ) (v : Bool) → memoryWorld c ht m .hostAt g ≡ some (f, v) → f < frameLimit
+-- ---- and lie where a host walk leads: in the guest area
+module _ (c : Config) (ht : ℕ) (m : List ℕ) where
+  found-in : (g f : ℕ) (v : Bool) → memoryWorld c ht m .hostAt g ≡ some (f, v) → InGuestArea c f
   unfolding memoryWorld
-  found-small g f v e = go (hostWalkOf c ht m g) (host-fits c ht m g) e
+  found-in g f v e = go (hostWalkOf c ht m g) (host-fits c ht m g) e
     where
-      go : (r : HostWalk) → HostFits c r → placeOf r ≡ some (f, v) → f < frameLimit
-      go (host.Found p w) h q = let z : _≡_ {A = Place} (p .0, w) (f, v) = cc in subst (λ (x : Place). x .0 < frameLimit) z (omega (arith, h .1))
+      go : (r : HostWalk) → HostFits c r → placeOf r ≡ some (f, v) → InGuestArea c f
+      go (host.Found p w) h q = let z : _≡_ {A = Place} (p .0, w) (f, v) = cc in subst (λ (x : Place). InGuestArea c (x .0)) z h
       go (host.Absent n) h q = let z : _≡_ {A = ℕ} 0 1 = cc in absurd (omega arith)
       go host.Damaged h q = let z : _≡_ {A = ℕ} 0 1 = cc in absurd (omega arith)
 
-  pub levels-frames : (st : Bool) (n t : ℕ) (v : Bool) (is : List ℕ) (r : Place) → t < frameLimit → (trace (memoryWorld c ht m) (levels c st n t v is)) .result ≡ granted r
-      → All (λ f. f < frameLimit) (framesOf c ht m (levels c st n t v is))
-  unfolding levels trace framesOf
-  levels-frames st n t v [] r b h = tt
-  levels-frames st n t v (i ∷ is) r b h =
-      let w = memoryWorld c ht m in
-      let l = level-granted w c st n t v i is r h in
-      subst (λ (x : Trace Fault Place). All (λ f. f < frameLimit) (map (λ y. y .0) (x .reads))) (sym (l .whole))
-      (b, levels-frames st (pred n) (l .at .0) (l .at .1) is r (found-small (frameOf (w .wordAt t i)) (l .at .0) (l .right) (l .found)) (l .next))
+  -- what is true of the first table and of each frame of the guest area is true of the tables of a granted walk
+  module _ (P : ℕ → Type 0) (all : (f : ℕ) → InGuestArea c f → P f) where
+    levels-tables : (st : Bool) (n t : ℕ) (v : Bool) (is : List ℕ) (r : Place) → P t → (trace (memoryWorld c ht m) (levels c st n t v is)) .result ≡ granted r
+        → All P (framesOf c ht m (levels c st n t v is))
+    unfolding levels trace framesOf
+    levels-tables st n t v [] r b h = tt
+    levels-tables st n t v (i ∷ is) r b h =
+        let w = memoryWorld c ht m in
+        let l = level-granted w c st n t v i is r h in
+        subst (λ (x : Trace Fault Place). All P (map (λ y. y .0) (x .reads))) (sym (l .whole))
+        (b, levels-tables st (pred n) (l .at .0) (l .at .1) is r (all (l .at .0) (found-in (frameOf (w .wordAt t i)) (l .at .0) (l .right) (l .found))) (l .next))
 
-  pub trail-frames : (p : Walk Fault Place) (n : ℕ) → All (λ f. f < frameLimit) (framesOf c ht m p) → Frames (trailOf c ht m n p .tables)
-  unfolding trailFrom
-  trail-frames p n a = noted-frames (framesOf c ht m p) (replicate 8 0) 0 no-tables a
+    pub walk-tables : (st : Bool) (root : ℕ) (is : List ℕ) (r : Place) → (trace (memoryWorld c ht m) (walk c st root is)) .result ≡ granted r
+        → All P (framesOf c ht m (walk c st root is))
+    unfolding walk framesOf
+    walk-tables st root is r h =
+        let w = memoryWorld c ht m in
+        let f : Place → Walk Fault Place = λ q. levels c st (c .levels) (q .0) true is in
+        let t = through w (hosted root) f r h in
+        let a = hosted-granted w root (t .mid) (t .first) in
+        subst (λ (x : Trace Fault Place). All P (map (λ y. y .0) (x .reads))) (sym (then-trace w (hosted root) f (w .hostCost root) [] (root ∷ []) (t .mid) (a .1)))
+        (levels-tables st (c .levels) (t .mid .0) true is r (all (t .mid .0) (found-in root (t .mid .0) (t .mid .1) (a .0))) (t .next))
 
-  pub walk-frames : (st : Bool) (root : ℕ) (is : List ℕ) (r : Place) → (trace (memoryWorld c ht m) (walk c st root is)) .result ≡ granted r
-      → All (λ f. f < frameLimit) (framesOf c ht m (walk c st root is))
-  unfolding walk framesOf
-  walk-frames st root is r h =
-      let w = memoryWorld c ht m in
-      let f : Place → Walk Fault Place = λ q. levels c st (c .levels) (q .0) true is in
-      let t = through w (hosted root) f r h in
-      let a = hosted-granted w root (t .mid) (t .first) in
-      subst (λ (x : Trace Fault Place). All (λ f. f < frameLimit) (map (λ y. y .0) (x .reads))) (sym (then-trace w (hosted root) f (w .hostCost root) [] (root ∷ []) (t .mid) (a .1)))
-      (levels-frames st (c .levels) (t .mid .0) true is r (found-small root (t .mid .0) (t .mid .1) (a .0)) (t .next))
+  module _ (few : c .frames ≤ 65536) where
+    small : (f : ℕ) → InGuestArea c f → f < frameLimit
+    small f g = omega (arith, g .1)
+
+    pub levels-frames : (st : Bool) (n t : ℕ) (v : Bool) (is : List ℕ) (r : Place) → t < frameLimit → (trace (memoryWorld c ht m) (levels c st n t v is)) .result ≡ granted r
+        → All (λ f. f < frameLimit) (framesOf c ht m (levels c st n t v is))
+    levels-frames st n t v is r b h = levels-tables (λ f. f < frameLimit) small st n t v is r b h
+
+    pub trail-frames : (p : Walk Fault Place) (n : ℕ) → All (λ f. f < frameLimit) (framesOf c ht m p) → Frames (trailOf c ht m n p .tables)
+    unfolding trailFrom
+    trail-frames p n a = noted-frames (framesOf c ht m p) (replicate 8 0) 0 no-tables a
+
+    pub walk-frames : (st : Bool) (root : ℕ) (is : List ℕ) (r : Place) → (trace (memoryWorld c ht m) (walk c st root is)) .result ≡ granted r
+        → All (λ f. f < frameLimit) (framesOf c ht m (walk c st root is))
+    walk-frames st root is r h = walk-tables (λ f. f < frameLimit) small st root is r h

@@ -6,6 +6,7 @@ pub mod Bits
 pub mod Fills
 pub mod Translates
 pub mod Puts
+pub mod OwnBits
 pub mod Requests
 pub mod Remaps
 pub mod Marks

@@ -45,16 +45,16 @@ pub record Alike (m₀ : List ℕ) (j : Job) (k : Option State) (o : Bool) (r : 
 module _ (m₀ : List ℕ) where
   opens-alike : (h s : ℕ) (k : Option State) (o : Bool) (r : Record) (m : List ℕ) → Stands m₀ k o r m → Alike m₀ (job.Open h s) k o r m
   unfolding runOf
-  opens-alike h s k o r m i = go (ℕ-discrete (refusalOf (length m) h s) 0)
+  opens-alike h s k o r m i = go (ℕ-discrete (refusalOf (length m) h s false) 0)
     where
-      go : Dec (refusalOf (length m) h s ≡ 0) → Alike m₀ (job.Open h s) k o r m
+      go : Dec (refusalOf (length m) h s false ≡ 0) → Alike m₀ (job.Open h s) k o r m
       go (yes e) = record {
-        says = rw (granted-call m h s e, granted-opening m h s e);
-        stands = rw (granted-call m h s e, granted-opening m h s e) (refl, sym (opened-config m h s), opened-inv m h s e);
+        says = rw (granted-call m h s false e, granted-opening m h s false e);
+        stands = rw (granted-call m h s false e, granted-opening m h s false e) (refl, sym (opened-config m h s false), opened-inv m h s false e);
       }
       go (no n) = record {
-        says = rw (refused-call m h s n, refused-opening m h s n);
-        stands = rw (refused-call m h s n, refused-opening m h s n) i;
+        says = rw (refused-call m h s false n, refused-opening m h s false n);
+        stands = rw (refused-call m h s false n, refused-opening m h s false n) i;
       }
 
   calls-alike : (x : Call) (k : Option State) (o : Bool) (r : Record) (m : List ℕ) → Stands m₀ k o r m → Alike m₀ (job.Call x) k o r m

@@ -1,12 +1,12 @@
 -- What a translation leaves, whatever the memory holds: no word outside the shadow tables' area changes, and what it hands back is
 -- again in range.
 -- Assumes nothing.
-use mathlib.Core.Path.{_≡_}
+use mathlib.Core.Path.{_≡_, refl}
 use mathlib.Core.Logic.{inl, inr}
 use Prim.Native.Nat.{ℕ, _+_, _-_, _≤_}
 use native.Mathlib.Omega.{arith}
 use borrow.Author.Tests.{eqb-false}
-use mathlib.Core.Bool.{Bool, true, false, cond}
+use mathlib.Core.Bool.{Bool, true, false, cond, false≢true}
 use mathlib.Core.List.{List}
 use lib.Dec.{eqb, leb, ltb}
 use Rattle.spec.specs.Config.{Config}
@@ -48,30 +48,31 @@ pub record Leaves (c : Config) (m : List ℕ) (o : After Translated) : Type 0 wh
   pub held : HeldFits c (o .result .held)
   pub exits : o .result .exits ≤ 2
   pub arrived : ArrivedIn c (o .result .walked)
+  pub sets : o .result .sets ≡ true → c .bits ≡ true
 
 module _ (c : Config) (ht : ℕ) (m : List ℕ) (st : Bool) (h : Held) (f : HeldFits c h) (root a d : ℕ) where
   none : SameOutside (c .hosts) (c .shadows) m m
   none = out-refl (c .hosts) (c .shadows) m
 
-  ended : (n : List ℕ) (e : ℕ) (r : Walked) (s : Bool) → SameOutside (c .hosts) (c .shadows) m n → e ≤ 2 → ArrivedIn c r → Leaves c m (yields (translation h e r s) n)
-  ended n e r s o l g = record { same = o; held = f; exits = l; arrived = g }
+  ended : (n : List ℕ) (e : ℕ) (r : Walked) → SameOutside (c .hosts) (c .shadows) m n → e ≤ 2 → ArrivedIn c r → Leaves c m (yields (translation h e r false) n)
+  ended n e r o l g = record { same = o; held = f; exits = l; arrived = g; sets = λ z. absurd (false≢true z) }
 
   -- ---- bits
 
-  settled-leaves : (n : ℕ) (r : Walked) (k : Checked) → ArrivedIn c r → ExitsOnce k → Leaves c m (yields (settledBy h n r k) m)
-  settled-leaves n r (checked.Clear l) g o = ended m 0 r l none (omega arith) g
-  settled-leaves n r (checked.Stopped x e) g o = ended m e (walked.Faulted x n) false none (omega arith) tt
-  settled-leaves n r checked.Damaged g o = ended m 0 walked.Damaged false none (omega arith) tt
+  settled-leaves : c .bits ≡ true → (n : ℕ) (r : Walked) (k : Checked) → ArrivedIn c r → ExitsOnce k → Leaves c m (yields (settledBy h n r k) m)
+  settled-leaves on n r (checked.Clear l) g o = record { same = none; held = f; exits = omega arith; arrived = g; sets = λ z. on }
+  settled-leaves on n r (checked.Stopped x e) g o = ended m e (walked.Faulted x n) none (omega arith) tt
+  settled-leaves on n r checked.Damaged g o = ended m 0 walked.Damaged none (omega arith) tt
 
-  judged-leaves : (b : Bool) (r : Walked) → ArrivedIn c r → Leaves c m (yields (judgedBy h b (checkedOf c ht m root st a d) r) m)
-  judged-leaves true (walked.Arrived t w n) g = settled-leaves n (walked.Arrived t w n) (checkedOf c ht m root st a d) g (checked-once c ht m root st a d)
-  judged-leaves false (walked.Arrived t w n) g = ended m 0 (walked.Arrived t w n) false none (omega arith) g
-  judged-leaves b (walked.Faulted x n) g = ended m _ (walked.Faulted x n) false none (let k = exit-small (walked.Faulted x n) in omega arith) tt
-  judged-leaves b walked.Damaged g = ended m 0 walked.Damaged false none (omega arith) tt
+  judged-leaves : c .bits ≡ true → (b : Bool) (r : Walked) → ArrivedIn c r → Leaves c m (yields (judgedBy h b (checkedOf c ht m root st a d) r) m)
+  judged-leaves on true (walked.Arrived t w n) g = settled-leaves on n (walked.Arrived t w n) (checkedOf c ht m root st a d) g (checked-once c ht m root st a d)
+  judged-leaves on false (walked.Arrived t w n) g = ended m 0 (walked.Arrived t w n) none (omega arith) g
+  judged-leaves on b (walked.Faulted x n) g = ended m _ (walked.Faulted x n) none (let k = exit-small (walked.Faulted x n) in omega arith) tt
+  judged-leaves on b walked.Damaged g = ended m 0 walked.Damaged none (omega arith) tt
 
   through-leaves : (t : ℕ) (w : Bool) → InGuestArea c t → Leaves c m (yields (throughOf c ht m h root st a d t w) m)
   unfolding throughOf servedOf
-  through-leaves t w g = go (c .bits)
+  through-leaves t w g = go (c .bits) refl
     where
       r : Walked
       r = directOf c ht m st a d t w
@@ -79,13 +80,13 @@ module _ (c : Config) (ht : ℕ) (m : List ℕ) (st : Bool) (h : Held) (f : Held
       lack : Bool
       lack = lacks (memoryWorld c ht m) st ((trace (memoryWorld c ht m) (direct c st a d t w)) .reads)
 
-      go : (b : Bool) → Leaves c m (yields (cond b (judgedBy h lack (checkedOf c ht m root st a d) r) (translation h (0 + exitBy r) r false)) m)
-      go true = judged-leaves lack r (direct-in c ht m st a d t w g)
-      go false = ended m _ r false none (let k = exit-small r in omega arith) (direct-in c ht m st a d t w g)
+      go : (b : Bool) → c .bits ≡ b → Leaves c m (yields (cond b (judgedBy h lack (checkedOf c ht m root st a d) r) (translation h (0 + exitBy r) r false)) m)
+      go true on = judged-leaves on lack r (direct-in c ht m st a d t w g)
+      go false off = ended m _ r none (let k = exit-small r in omega arith) (direct-in c ht m st a d t w g)
 
   unshadowed-leaves : Leaves c m (yields (unshadowedOf c ht m h root st a d) m)
   unfolding unshadowedOf plainOf
-  unshadowed-leaves = go (c .bits)
+  unshadowed-leaves = go (c .bits) refl
     where
       r : Walked
       r = walkedOf c ht m 0 (whole c st root a)
@@ -93,15 +94,15 @@ module _ (c : Config) (ht : ℕ) (m : List ℕ) (st : Bool) (h : Held) (f : Held
       here : ArrivedIn c r
       here = walk-in c ht m st 0 root (indexes (c .levels) (pageOf a))
 
-      go : (b : Bool) → Leaves c m (yields (cond b (judgedBy h true (checkedOf c ht m root st a d) r) (translation h (exitBy r) r false)) m)
-      go true = judged-leaves true r here
-      go false = ended m _ r false none (let k = exit-small r in omega arith) here
+      go : (b : Bool) → c .bits ≡ b → Leaves c m (yields (cond b (judgedBy h true (checkedOf c ht m root st a d) r) (translation h (exitBy r) r false)) m)
+      go true on = judged-leaves on true r here
+      go false off = ended m _ r none (let k = exit-small r in omega arith) here
 
   -- ---- fills
 
-  filled-leaves : (gs : List ℕ) (t : ℕ) (w : Bool) (e : ℕ) (r : Walked) (sets : Bool) → InGuestArea c t → e ≤ 2 → ArrivedIn c r → Leaves c m (filledOf c m h gs a d t w e r sets)
+  filled-leaves : (gs : List ℕ) (t : ℕ) (w : Bool) (e : ℕ) (r : Walked) (sets : Bool) → InGuestArea c t → e ≤ 2 → ArrivedIn c r → (sets ≡ true → c .bits ≡ true) → Leaves c m (filledOf c m h gs a d t w e r sets)
   unfolding filledOf
-  filled-leaves gs t w e r sets g l i = go (leb (c .levels) d)
+  filled-leaves gs t w e r sets g l i on = go (leb (c .levels) d)
     where
       x : ℕ
       x = entryFor t (ltb 0 d) w
@@ -113,17 +114,17 @@ module _ (c : Config) (ht : ℕ) (m : List ℕ) (st : Bool) (h : Held) (f : Held
       same = fill-out c gs (h .pool) m (pathIndexes c d a) x (indexes-narrow (c .levels - d) (pathOf d a))
 
       by : (y : Way) → Leaves c m (fillBy h e r sets s y)
-      by (To j) = record { same = same; held = (fill-fits c gs (h .pool) m (pathIndexes c d a) x (f .0), f .1); exits = l; arrived = i }
-      by Not = ended (s .memory) 0 walked.Damaged false same (omega arith) tt
-      by Damaged = ended (s .memory) 0 walked.Damaged false same (omega arith) tt
+      by (To j) = record { same = same; held = (fill-fits c gs (h .pool) m (pathIndexes c d a) x (f .0), f .1); exits = l; arrived = i; sets = on }
+      by Not = ended (s .memory) 0 walked.Damaged same (omega arith) tt
+      by Damaged = ended (s .memory) 0 walked.Damaged same (omega arith) tt
 
       go : (b : Bool) → Leaves c m (cond b (yields (translation (holding (h .pool) t) e r sets) m) (fillBy h e r sets s (s .result .way)))
-      go true = record { same = none; held = (f .0, inr g); exits = l; arrived = i }
+      go true = record { same = none; held = (f .0, inr g); exits = l; arrived = i; sets = on }
       go false = by (s .result .way)
 
   arrived-leaves : (gs : List ℕ) (n t : ℕ) (w : Bool) → InGuestArea c t → Leaves c m (arrivedOf c ht m h root gs st a d n t w)
   unfolding arrivedOf laxOf
-  arrived-leaves gs n t w g = go (c .bits)
+  arrived-leaves gs n t w g = go (c .bits) refl
     where
       r : Walked
       r = directOf c ht m st a d t w
@@ -131,24 +132,24 @@ module _ (c : Config) (ht : ℕ) (m : List ℕ) (st : Bool) (h : Held) (f : Held
       here : ArrivedIn c r
       here = direct-in c ht m st a d t w g
 
-      grant : (x : Walked) (j : ℕ) (k : Checked) → ArrivedIn c x → ExitsOnce k → Leaves c m (grantBy c m h gs st a d n t w x j k)
-      grant x j (checked.Clear l) i o = filled-leaves gs t (passesOf c m gs st a d w) 1 x l g (omega arith) i
-      grant x j (checked.Stopped y e) i o = ended m _ _ false none (omega arith) tt
-      grant x j checked.Damaged i o = ended m 0 walked.Damaged false none (omega arith) tt
+      grant : c .bits ≡ true → (x : Walked) (j : ℕ) (k : Checked) → ArrivedIn c x → ExitsOnce k → Leaves c m (grantBy c m h gs st a d n t w x j k)
+      grant on x j (checked.Clear l) i o = filled-leaves gs t (passesOf c m gs st a d w) 1 x l g (omega arith) i (λ z. on)
+      grant on x j (checked.Stopped y e) i o = ended m _ _ none (omega arith) tt
+      grant on x j checked.Damaged i o = ended m 0 walked.Damaged none (omega arith) tt
 
-      strict : (x : Walked) → ArrivedIn c x → Leaves c m (strictBy c m h gs st a d n t w (checkedOf c ht m root st a d) x)
-      strict (walked.Arrived p v j) i = grant (walked.Arrived p v j) j (checkedOf c ht m root st a d) i (checked-once c ht m root st a d)
-      strict (walked.Faulted x j) i = ended m _ _ false none (let k = exit-small (walked.Faulted x j) in omega arith) tt
-      strict walked.Damaged i = ended m 0 walked.Damaged false none (omega arith) tt
+      strict : c .bits ≡ true → (x : Walked) → ArrivedIn c x → Leaves c m (strictBy c m h gs st a d n t w (checkedOf c ht m root st a d) x)
+      strict on (walked.Arrived p v j) i = grant on (walked.Arrived p v j) j (checkedOf c ht m root st a d) i (checked-once c ht m root st a d)
+      strict on (walked.Faulted x j) i = ended m _ _ none (let k = exit-small (walked.Faulted x j) in omega arith) tt
+      strict on walked.Damaged i = ended m 0 walked.Damaged none (omega arith) tt
 
       lax : (b : Bool) → Leaves c m (cond b (yields (translation h 0 walked.Damaged false) m) (filledOf c m h gs a d t w (1 + exitBy r) r false))
-      lax true = ended m 0 walked.Damaged false none (omega arith) tt
-      lax false = filled-leaves gs t w (1 + exitBy r) r false g (let k = exit-small r in omega arith) here
+      lax true = ended m 0 walked.Damaged none (omega arith) tt
+      lax false = filled-leaves gs t w (1 + exitBy r) r false g (let k = exit-small r in omega arith) here (λ z. absurd (false≢true z))
 
-      go : (b : Bool) → Leaves c m (cond b (strictBy c m h gs st a d n t w (checkedOf c ht m root st a d) r)
+      go : (b : Bool) → c .bits ≡ b → Leaves c m (cond b (strictBy c m h gs st a d n t w (checkedOf c ht m root st a d) r)
           (cond (brokenBy r) (yields (translation h 0 walked.Damaged false) m) (filledOf c m h gs a d t w (1 + exitBy r) r false)))
-      go true = strict r here
-      go false = lax (brokenBy r)
+      go true on = strict on r here
+      go false off = lax (brokenBy r)
 
   missed-leaves : Leaves c m (missedOf c ht m h root st a d)
   unfolding missedOf trailFrom
@@ -159,8 +160,8 @@ module _ (c : Config) (ht : ℕ) (m : List ℕ) (st : Bool) (h : Held) (f : Held
 
       go : (r : Walked) → ArrivedIn c r → Leaves c m (missedBy c ht m h root st a d gs r)
       go (walked.Arrived t w n) g = arrived-leaves gs n (t .0) w g
-      go (walked.Faulted x n) g = ended m 1 (walked.Faulted x n) false none (omega arith) tt
-      go walked.Damaged g = ended m 0 walked.Damaged false none (omega arith) tt
+      go (walked.Faulted x n) g = ended m 1 (walked.Faulted x n) none (omega arith) tt
+      go walked.Damaged g = ended m 0 walked.Damaged none (omega arith) tt
 
   -- ---- a translation
 
@@ -171,7 +172,7 @@ module _ (c : Config) (ht : ℕ) (m : List ℕ) (st : Bool) (h : Held) (f : Held
       go true = through-leaves (t .0) w g
       go false = missed-leaves
   found-leaves (host.Absent n) g = missed-leaves
-  found-leaves host.Damaged g = ended m 0 walked.Damaged false none (omega arith) tt
+  found-leaves host.Damaged g = ended m 0 walked.Damaged none (omega arith) tt
 
   pub translate-leaves : Leaves c m (translateOf c ht m h root st a d)
   unfolding translateOf
