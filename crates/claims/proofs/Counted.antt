@@ -301,7 +301,7 @@ module _ (s : State) (r : Record) (m : List ℕ) (inv : Inv s r m) (a : ℕ) whe
         abbrev leftOn : List ℕ → After Reply
         leftOn n = leftBy n (dropsOn n .result .ok)
 
-        pub left-counts : (n : List ℕ) (x : ℕ) → k ≡ x → References x (leftOn n .result .answer)
+        left-counts : (n : List ℕ) (x : ℕ) → k ≡ x → References x (leftOn n .result .answer)
         left-counts n x q = go (dropsOn n .result .ok)
           where
             go : (b : Bool) → References x (leftBy n b .result .answer)
