@@ -282,9 +282,8 @@ fn stopped(held: Held, walked: Walked) -> Translated
     }
 }
 
-// The direct part of a request that a held path serves, which leads to that page or table. With bits on its entries are looked at once
-// more, and those that the path covers have theirs.
-pub fn direct_part(
+// The direct part from a guest table on. With bits on its entries are looked at once more; those that the held path covers have theirs.
+fn table_part(
     mem: &[u64],
     space: Space,
     request: Request,
@@ -294,16 +293,6 @@ pub fn direct_part(
     requires { ⌜ (LayoutFits (space .layout)) × (request .depth ≤ space .layout .levels) × (page .0 < frameLimit) ⌝ }
     ensures { λ r. ⌜ r ≡ partOf (config (space .layout)) (space .top) (now (mem .entry)) (request .store) (request .address .0) (request .depth) (page .0) writable ⌝ }
 {
-    if request.depth == 0 {
-        return Part {
-            walked: Walked::Arrived {
-                page: page,
-                writable: writable,
-                reads: space.layout.levels,
-            },
-            lack: false,
-        };
-    }
     let number = request.address.page();
     let trail = walk::walk_tables(
         mem,
@@ -341,6 +330,30 @@ pub fn direct_part(
             lack: false,
         },
     }
+}
+
+// The direct part of a request that a held path serves, which leads to that page or table.
+pub fn direct_part(
+    mem: &[u64],
+    space: Space,
+    request: Request,
+    page: HostPhysical,
+    writable: bool,
+) -> Part
+    requires { ⌜ (LayoutFits (space .layout)) × (request .depth ≤ space .layout .levels) × (page .0 < frameLimit) ⌝ }
+    ensures { λ r. ⌜ r ≡ partOf (config (space .layout)) (space .top) (now (mem .entry)) (request .store) (request .address .0) (request .depth) (page .0) writable ⌝ }
+{
+    if request.depth == 0 {
+        return Part {
+            walked: Walked::Arrived {
+                page: page,
+                writable: writable,
+                reads: space.layout.levels,
+            },
+            lack: false,
+        };
+    }
+    table_part(mem, space, request, page, writable)
 }
 
 // A request whose walk came so far, by the bits of its whole walk.
