@@ -8,7 +8,7 @@ ghost use Rattle.words.specs.After.{yields};
 ghost use Rattle.words.specs.Words.{wordIn};
 ghost use Rattle.layout.specs.Layout.{LayoutFits, config};
 ghost use Rattle.translate.specs.Translate.{HeldFits, translation};
-ghost use Rattle.request.specs.Access.{Inside, ReachesFrame, setBy, bitsOf, settledOf, droppedOf, bytesIn, pathHeldOf, loadBy, loadFrom, loadOf, finishBy, writtenBy, storeBy, storeFrom, storeOf, deviceOf};
+ghost use Rattle.request.specs.Access.{Inside, ReachesFrame, setBy, bitsOf, settledOf, droppedOf, bytesIn, pathHeldOf, loadBy, loadOf, finishBy, writtenBy, storeBy, storeFrom, storeOf, deviceOf};
 use entry::GuestPhysical;
 use entry::GuestVirtual;
 use entry::HostPhysical;
@@ -201,7 +201,7 @@ fn path_held(
     }
 }
 
-// What a load says that came so far, with no bit to set; before: what was held when it came.
+// What a load says that came so far, its bits set; before: what was held when it came.
 fn loaded(
     mem: &[u64],
     before: Held,
@@ -239,25 +239,6 @@ fn loaded(
     }
 }
 
-// The same of one that may have bits to set, before its bytes are read.
-fn loaded_by_bits(
-    mem: &mut [u64],
-    space: Space,
-    root: GuestPhysical,
-    before: Held,
-    t: Translated,
-    address: GuestVirtual,
-    width: u64,
-) -> Served
-    requires { ⌜ (LayoutFits (space .layout)) × (ReachesFrame (t .walked)) × (Inside (address .0) width) ⌝ }
-    ensures { λ r. ⌜ yields r (now (mem .exit)) ≡ loadFrom (config (space .layout)) (space .top) (root .0) before (address .0) width (yields t (now (mem .entry))) ⌝ }
-{
-    let walked = t.walked;
-    let held = t.held;
-    settle(mem, space, root, false, address, walked, t.sets);
-    loaded(mem, before, held, walked, t.exits, address.0, width)
-}
-
 // A load: 11.
 pub fn load(
     mem: &mut [u64],
@@ -279,6 +260,11 @@ pub fn load(
     if depth <= space.layout.levels {
         match path_held(mem, space.layout, held, false, address, depth) {
             HostWalk::Found { page, writable } => {
+                if translate::bitless(space.layout, depth) {
+                    let walked = translate::direct(mem, space, request, page, writable);
+                    let exits = translate::exit_of(walked);
+                    return loaded(mem, held, held, walked, exits, address.0, width);
+                }
                 let part = translate::direct_part(mem, space, request, page, writable);
                 let walked = part.walked;
                 if !part.lack {
@@ -286,7 +272,10 @@ pub fn load(
                     return loaded(mem, held, held, walked, exits, address.0, width);
                 }
                 let t = translate::judged(mem, space, root, held, request, walked);
-                return loaded_by_bits(mem, space, root, held, t, address, width);
+                let end = t.walked;
+                let after = t.held;
+                settle(mem, space, root, false, address, end, t.sets);
+                return loaded(mem, held, after, end, t.exits, address.0, width);
             }
             HostWalk::Absent { reads } => {}
             HostWalk::Damaged => {
@@ -295,7 +284,10 @@ pub fn load(
         }
     }
     let t = translate::unserved(mem, space, root, held, request);
-    loaded_by_bits(mem, space, root, held, t, address, width)
+    let end = t.walked;
+    let after = t.held;
+    settle(mem, space, root, false, address, end, t.sets);
+    loaded(mem, held, after, end, t.exits, address.0, width)
 }
 
 // The bytes of a granted store are written, and what it says; put: what its drops left.
@@ -453,6 +445,21 @@ pub fn store(
     if depth <= space.layout.levels {
         match path_held(mem, space.layout, held, true, address, depth) {
             HostWalk::Found { page, writable } => {
+                if translate::bitless(space.layout, depth) {
+                    let walked = translate::direct(mem, space, request, page, writable);
+                    let exits = translate::exit_of(walked);
+                    return stored(
+                        mem,
+                        space.layout,
+                        held,
+                        held,
+                        walked,
+                        exits,
+                        address.0,
+                        width,
+                        value,
+                    );
+                }
                 let part = translate::direct_part(mem, space, request, page, writable);
                 let walked = part.walked;
                 if !part.lack {

@@ -15,7 +15,7 @@ use Rattle.spec.specs.Plain.{Place, levels, walk}
 use Rattle.spec.specs.Bits.{lacks, owed}
 use Rattle.spec.specs.Count.{one}
 use lib.Dec.{eqb, leb}
-use borrow.Author.Tests.{eq-eqb, ne-eqb}
+use borrow.Author.Tests.{eqb-true, eq-eqb, ne-eqb}
 use Rattle.spec_laws.proofs.Indexes.{indexes-length}
 use Rattle.spec_laws.proofs.Lists.{all-any}
 use Rattle.spec_laws.proofs.Local.{SameWord}
@@ -30,7 +30,7 @@ use Rattle.accessed.specs.Entries.{entries, Frames, wordsOf, namesOf, owedBy, o
 use Rattle.accessed.proofs.Walks.{arrived-granted, Read, levels-read, walk-read, trail-entries, trail-frames, levels-frames, walk-frames}
 use Rattle.translate.specs.declared.Checked.{Checked}
 use Rattle.translate.specs.declared.Checked.the-variants as checked
-use Rattle.translate.specs.Translate.{ExitsOnce, translation, exitBy, pathIndexes, damaged, whole, direct, directOf, servedOf, plainOf, owingBy, checkedBy, checkedOf, debtBy, entriesOf, judgedBy, throughOf, lackingBy, partOf, unshadowedOf, filledOf, strictBy, brokenBy, laxOf, arrivedOf, missedBy, missedOf}
+use Rattle.translate.specs.Translate.{ExitsOnce, translation, exitBy, pathIndexes, damaged, whole, direct, directOf, servedOf, plainOf, owingBy, checkedBy, checkedOf, debtBy, entriesOf, judgedBy, throughOf, bitlessOf, lackingBy, partOf, unshadowedOf, filledOf, strictBy, brokenBy, laxOf, arrivedOf, missedBy, missedOf}
 use Rattle.translate.specs.declared.Held.{Held}
 use Rattle.translate.specs.declared.Part.{Part}
 use Rattle.walk.specs.declared.Trail.{Trail}
@@ -130,6 +130,10 @@ lacking-none (walked.Arrived p w n) = refl
 lacking-none (walked.Faulted x n) = refl
 lacking-none walked.Damaged = refl
 
+pub not-not : (b : Bool) → not (not b) ≡ b
+not-not true = refl
+not-not false = refl
+
 and-false : (b : Bool) → (b && false) ≡ false
 and-false true = refl
 and-false false = refl
@@ -163,6 +167,18 @@ module _ (c : Config) (ht : ℕ) (m : List ℕ) (st : Bool) (a d t : ℕ) (v : B
       let all : c .levels - d ≡ c .levels = omega arith in
       let nothing : lack ≡ false = ap (λ j. lacks (memoryWorld c ht m) st ((trace (memoryWorld c ht m) (direct c st a j t v)) .reads)) z in
       part-by false (walked.Arrived (page t) v (c .levels)) (came ∙ ap (walked.Arrived (page t) v) all) (ap (λ b. c .bits && b) nothing ∙ and-false (c .bits))
+
+  -- where no bit is to be looked at, none lacks
+  pub part-bitless : bitlessOf c d ≡ true → partOf c ht m st a d t v .lack ≡ false
+  unfolding bitlessOf
+  part-bitless e = by (eqb d 0) refl (c .bits) refl
+    where
+      by : (z : Bool) → eqb d 0 ≡ z → (b : Bool) → c .bits ≡ b → partOf c ht m st a d t v .lack ≡ false
+      by true y b k = ap (λ (x : Part). x .lack) (part-none (eqb-true d 0 y))
+      by false y false k = ap (λ (x : Part). x .lack) (part-off (directOf c ht m st a d t v) k refl)
+      by false y true k =
+          let no : false ≡ true = sym (ap₂ (λ z b. cond z true (not b)) y k) ∙ e in
+          let z : _≡_ {A = ℕ} 0 1 = ap (λ b. cond b 1 0) no in absurd (omega arith)
 
 module _ (c : Config) (ht : ℕ) (m : List ℕ) (h : Held) (root : ℕ) (st : Bool) (a d : ℕ) where
   pub unshadowed-off : c .bits ≡ false → unshadowedOf c ht m h root st a d ≡ plainOf c ht m h root st a

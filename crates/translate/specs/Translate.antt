@@ -174,6 +174,10 @@ partOf c ht m st a d t w =
     let r = directOf c ht m st a d t w in
     record { walked = r; lack = lackingBy (c .bits && lacks k st ((trace k (direct c st a d t w)) .reads)) r }
 
+-- no bit is to be looked at: bits are off, or no guest entry is read
+unfoldable pub bitlessOf : Config → ℕ → Bool
+bitlessOf c d = cond (eqb d 0) true (not (c .bits))
+
 -- a request at depth N + 1
 unfoldable pub unshadowedOf : Config → ℕ → List ℕ → Held → ℕ → Bool → ℕ → ℕ → Translated
 unshadowedOf c ht m h root st a d =

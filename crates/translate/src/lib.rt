@@ -5,7 +5,7 @@ ghost use Prim.Native.Nat.{_-_, _<_, _≤_};
 ghost use Rattle.spec.specs.Entry.{indexes, pageOf, frameLimit};
 ghost use Rattle.words.specs.After.{yields};
 ghost use Rattle.layout.specs.Layout.{LayoutFits, config};
-ghost use Rattle.translate.specs.Translate.{exitBy, ReadsFrom, translation, whole, directOf, servedOf, plainOf, checkedOf, debtBy, entriesOf, settledBy, judgedBy, partOf, unshadowedOf, servesOf, pathOf, foundOf, filledOf, passesOf, faulted, strictBy, brokenBy, laxOf, missedOf, unservedOf};
+ghost use Rattle.translate.specs.Translate.{exitBy, ReadsFrom, translation, whole, directOf, servedOf, plainOf, checkedOf, debtBy, entriesOf, settledBy, judgedBy, bitlessOf, partOf, unshadowedOf, servesOf, pathOf, foundOf, filledOf, passesOf, faulted, strictBy, brokenBy, laxOf, missedOf, unservedOf};
 ghost use Rattle.walk.specs.Memory.{trailOf};
 ghost use Rattle.accessed.specs.Entries.{entries, Frames};
 use accessed::Debt;
@@ -282,8 +282,18 @@ fn stopped(held: Held, walked: Walked) -> Translated
     }
 }
 
-// The direct part from a guest table on. With bits on its entries are looked at once more; those that the held path covers have theirs.
-fn table_part(
+// Is there no bit to look at? Bits are off, or no guest entry is read.
+pub fn bitless(layout: Layout, depth: u64) -> bool
+    ensures { λ r. ⌜ r ≡ bitlessOf (config layout) depth ⌝ }
+{
+    if depth == 0 {
+        return true;
+    }
+    layout.bits == 0
+}
+
+// The direct part of a held path, and whether one of its entries lacks a bit; those that the path covers have theirs.
+pub fn direct_part(
     mem: &[u64],
     space: Space,
     request: Request,
@@ -330,30 +340,6 @@ fn table_part(
             lack: false,
         },
     }
-}
-
-// The direct part of a request that a held path serves, which leads to that page or table.
-pub fn direct_part(
-    mem: &[u64],
-    space: Space,
-    request: Request,
-    page: HostPhysical,
-    writable: bool,
-) -> Part
-    requires { ⌜ (LayoutFits (space .layout)) × (request .depth ≤ space .layout .levels) × (page .0 < frameLimit) ⌝ }
-    ensures { λ r. ⌜ r ≡ partOf (config (space .layout)) (space .top) (now (mem .entry)) (request .store) (request .address .0) (request .depth) (page .0) writable ⌝ }
-{
-    if request.depth == 0 {
-        return Part {
-            walked: Walked::Arrived {
-                page: page,
-                writable: writable,
-                reads: space.layout.levels,
-            },
-            lack: false,
-        };
-    }
-    table_part(mem, space, request, page, writable)
 }
 
 // A request whose walk came so far, by the bits of its whole walk.

@@ -11,8 +11,9 @@ use Rattle.translate.specs.declared.Part.{Part}
 use Rattle.translate.specs.declared.Translated.{Translated}
 use Rattle.translate.specs.Translate.{translation, exitBy, partOf, judgedBy}
 use Rattle.translate.proofs.Fits.{exit-few, held-small}
-use Rattle.request.specs.Access.{ReachesFrame, loadFrom, loadOf, storeFrom, storeOf}
-use Rattle.request.proofs.Held.{path-plainly, path-judged, path-small, path-missed, path-none, path-broken, leaves-as, reaches-as, load-plainly}
+use Rattle.translate.proofs.Bits.{part-bitless}
+use Rattle.request.specs.Access.{ReachesFrame, loadBy, loadFrom, loadOf}
+use Rattle.request.proofs.Held.{path-plainly, path-judged, path-small, path-missed, path-none, path-broken, reaches-as, load-said, load-plainly}
 use borrow.Author.Needs.{needs}
 use Rattle.request.proofs.load.Statement.{statement}
 use Rattle.request.proofs.load.Tie as tie
@@ -23,13 +24,16 @@ path-held-requires c κs = search needs
 enum-known-page : tie.Need-enum-known-page
 enum-known-page c = search needs
 
-direct-part-requires : tie.Need-direct-part-requires
-direct-part-requires c κs =
-    let page = c .before .before .page in
-    let path-held = c .before .before .before .before .path-held in
-    let if1 = c .before .before .before .before .before .before .if1 in
-    let args = c .before .before .before .before .before .before .before .before .before .args in
-    let pre = c .before .before .before .before .before .before .before .before .before .pre in
+bitless-requires : tie.Need-bitless-requires
+bitless-requires c κs = search needs
+
+direct-requires : tie.Need-direct-requires
+direct-requires c κs =
+    let page = c .before .before .before .before .page in
+    let path-held = c .before .before .before .before .before .before .path-held in
+    let if1 = c .before .before .before .before .before .before .before .before .if1 in
+    let args = c .before .before .before .before .before .before .before .before .before .before .before .args in
+    let pre = c .before .before .before .before .before .before .before .before .before .before .before .pre in
     let found = sym (path-held .ensures) ∙ page .given .1 in
     (pre .0, if1 .taken, path-small (config (args .space .layout)) (args .space .top) (args .mem .now) (args .held) (args .root .0) false (args .address .0) (args .depth) (pre .0 .3) (held-small (config (args .space .layout)) (args .held) (pre .1) (pre .0 .3)) _ _ found)
 
@@ -37,20 +41,19 @@ exit-of-requires : tie.Need-exit-of-requires
 exit-of-requires c κs = search needs
 
 loaded-requires : tie.Need-loaded-requires
-unfolding partOf
 loaded-requires c κs =
-    let if2 = c .before .before .if2 in
-    let direct-part = c .before .before .before .before .direct-part in
+    let direct = c .before .before .direct in
+    let if2 = c .before .before .before .before .if2 in
+    let bitless = c .before .before .before .before .before .bitless in
     let page = c .before .before .before .before .before .before .before .page in
     let path-held = c .before .before .before .before .before .before .before .before .before .path-held in
     let if1 = c .before .before .before .before .before .before .before .before .before .before .before .if1 in
     let args = c .before .before .before .before .before .before .before .before .before .before .before .before .before .before .args in
     let pre = c .before .before .before .before .before .before .before .before .before .before .before .before .before .before .pre in
     let found = sym (path-held .ensures) ∙ page .given .1 in
-    let none = sym (ap (λ (x : Part). x .lack) (direct-part .ensures)) ∙ not-true (direct-part .result .lack) (if2 .taken) in
-    let came = ap (λ (x : Part). x .walked) (direct-part .ensures) in
+    let none = part-bitless (config (args .space .layout)) (args .space .top) (args .mem .now) false (args .address .0) (args .depth) _ _ (sym (bitless .ensures) ∙ if2 .taken) in
     let went = path-plainly (config (args .space .layout)) (args .space .top) (args .mem .now) (args .held) (args .root .0) false (args .address .0) (args .depth) _ _ none (if1 .taken) found in
-    (subst ReachesFrame (sym came) (reaches-as (config (args .space .layout)) (args .space .top) (args .mem .now) (args .held) (args .root .0) false (args .address .0) (args .depth) (pre .1) _ (pre .0 .3) went), pre .2)
+    (subst ReachesFrame (sym (direct .ensures)) (reaches-as (config (args .space .layout)) (args .space .top) (args .mem .now) (args .held) (args .root .0) false (args .address .0) (args .depth) (pre .1) _ (pre .0 .3) went), pre .2)
 
 same-length : tie.Need-same-length
 same-length c = search needs
@@ -60,41 +63,49 @@ unfolding loadOf partOf
 returns c =
     let loaded = c .loaded in
     let exit-of = c .before .before .exit-of in
-    let if2 = c .before .before .before .if2 in
-    let direct-part = c .before .before .before .before .before .direct-part in
+    let direct = c .before .before .before .direct in
+    let if2 = c .before .before .before .before .before .if2 in
+    let bitless = c .before .before .before .before .before .before .bitless in
     let page = c .before .before .before .before .before .before .before .before .page in
     let path-held = c .before .before .before .before .before .before .before .before .before .before .path-held in
     let if1 = c .before .before .before .before .before .before .before .before .before .before .before .before .if1 in
     let args = c .before .before .before .before .before .before .before .before .before .before .before .before .before .before .before .args in
     let found = sym (path-held .ensures) ∙ page .given .1 in
-    let none = sym (ap (λ (x : Part). x .lack) (direct-part .ensures)) ∙ not-true (direct-part .result .lack) (if2 .taken) in
-    let came = ap (λ (x : Part). x .walked) (direct-part .ensures) in
+    let none = part-bitless (config (args .space .layout)) (args .space .top) (args .mem .now) false (args .address .0) (args .depth) _ _ (sym (bitless .ensures) ∙ if2 .taken) in
     let went = path-plainly (config (args .space .layout)) (args .space .top) (args .mem .now) (args .held) (args .root .0) false (args .address .0) (args .depth) _ _ none (if1 .taken) found in
-    let end = direct-part .result .walked in
+    let end = direct .result in
     loaded .ensures ∙ load-plainly (config (args .space .layout)) (args .space .top) (args .root .0) (args .held) (args .held) (args .address .0) (args .width) (exit-of .result) end (args .mem .now)
     ∙ ap (λ e. (loadFrom (config (args .space .layout)) (args .space .top) (args .root .0) (args .held) (args .address .0) (args .width)) (yields (translation (args .held) e end false) (args .mem .now))) (exit-of .ensures)
-    ∙ ap (λ r. (loadFrom (config (args .space .layout)) (args .space .top) (args .root .0) (args .held) (args .address .0) (args .width)) (yields (translation (args .held) (exitBy r) r false) (args .mem .now))) came ∙ sym (ap (loadFrom (config (args .space .layout)) (args .space .top) (args .root .0) (args .held) (args .address .0) (args .width)) went)
+    ∙ ap (λ r. (loadFrom (config (args .space .layout)) (args .space .top) (args .root .0) (args .held) (args .address .0) (args .width)) (yields (translation (args .held) (exitBy r) r false) (args .mem .now))) (direct .ensures) ∙ sym (ap (loadFrom (config (args .space .layout)) (args .space .top) (args .root .0) (args .held) (args .address .0) (args .width)) went)
 
-judged-requires : tie.Need-judged-requires
-judged-requires c κs = search needs
-
-loaded-by-bits-requires : tie.Need-loaded-by-bits-requires
-unfolding partOf
-loaded-by-bits-requires c κs =
-    let judged = c .before .judged in
-    let if2 = c .before .before .before .if2 in
-    let direct-part = c .before .before .before .before .before .direct-part in
-    let page = c .before .before .before .before .before .before .before .before .page in
-    let path-held = c .before .before .before .before .before .before .before .before .before .before .path-held in
-    let if1 = c .before .before .before .before .before .before .before .before .before .before .before .before .if1 in
-    let args = c .before .before .before .before .before .before .before .before .before .before .before .before .before .before .before .args in
-    let pre = c .before .before .before .before .before .before .before .before .before .before .before .before .before .before .before .pre in
+direct-part-requires : tie.Need-direct-part-requires
+direct-part-requires c κs =
+    let page = c .before .before .before .before .page in
+    let path-held = c .before .before .before .before .before .before .path-held in
+    let if1 = c .before .before .before .before .before .before .before .before .if1 in
+    let args = c .before .before .before .before .before .before .before .before .before .before .before .args in
+    let pre = c .before .before .before .before .before .before .before .before .before .before .before .pre in
     let found = sym (path-held .ensures) ∙ page .given .1 in
-    let some = sym (ap (λ (x : Part). x .lack) (direct-part .ensures)) ∙ not-false (direct-part .result .lack) (if2 .left) in
+    (pre .0, if1 .taken, path-small (config (args .space .layout)) (args .space .top) (args .mem .now) (args .held) (args .root .0) false (args .address .0) (args .depth) (pre .0 .3) (held-small (config (args .space .layout)) (args .held) (pre .1) (pre .0 .3)) _ _ found)
+
+exit-of-requires-2 : tie.Need-exit-of-requires-2
+exit-of-requires-2 c κs = search needs
+
+loaded-requires-2 : tie.Need-loaded-requires-2
+unfolding partOf
+loaded-requires-2 c κs =
+    let if3 = c .before .before .if3 in
+    let direct-part = c .before .before .before .before .direct-part in
+    let page = c .before .before .before .before .before .before .before .before .before .page in
+    let path-held = c .before .before .before .before .before .before .before .before .before .before .before .path-held in
+    let if1 = c .before .before .before .before .before .before .before .before .before .before .before .before .before .if1 in
+    let args = c .before .before .before .before .before .before .before .before .before .before .before .before .before .before .before .before .args in
+    let pre = c .before .before .before .before .before .before .before .before .before .before .before .before .before .before .before .before .pre in
+    let found = sym (path-held .ensures) ∙ page .given .1 in
+    let none = sym (ap (λ (x : Part). x .lack) (direct-part .ensures)) ∙ not-true (direct-part .result .lack) (if3 .taken) in
     let came = ap (λ (x : Part). x .walked) (direct-part .ensures) in
-    let went = path-judged (config (args .space .layout)) (args .space .top) (args .mem .now) (args .held) (args .root .0) false (args .address .0) (args .depth) _ _ some (if1 .taken) found in
-    let leads = judged .ensures ∙ ap (judgedBy (args .held) true _) came in
-    (pre .0, subst (λ (o : Translated). ReachesFrame (o .walked)) (sym leads) (reaches-as (config (args .space .layout)) (args .space .top) (args .mem .now) (args .held) (args .root .0) false (args .address .0) (args .depth) (pre .1) _ (pre .0 .3) went), pre .2)
+    let went = path-plainly (config (args .space .layout)) (args .space .top) (args .mem .now) (args .held) (args .root .0) false (args .address .0) (args .depth) _ _ none (if1 .taken) found in
+    (subst ReachesFrame (sym came) (reaches-as (config (args .space .layout)) (args .space .top) (args .mem .now) (args .held) (args .root .0) false (args .address .0) (args .depth) (pre .1) _ (pre .0 .3) went), pre .2)
 
 same-length-2 : tie.Need-same-length-2
 same-length-2 c = search needs
@@ -102,21 +113,75 @@ same-length-2 c = search needs
 returns-2 : tie.Need-returns-2
 unfolding loadOf partOf
 returns-2 c =
-    let mem = c .before .mem in
-    let loaded-by-bits = c .before .before .loaded-by-bits in
-    let judged = c .before .before .before .before .judged in
-    let if2 = c .before .before .before .before .before .before .if2 in
-    let direct-part = c .before .before .before .before .before .before .before .before .direct-part in
-    let page = c .before .before .before .before .before .before .before .before .before .before .before .page in
-    let path-held = c .before .before .before .before .before .before .before .before .before .before .before .before .before .path-held in
-    let if1 = c .before .before .before .before .before .before .before .before .before .before .before .before .before .before .before .if1 in
-    let args = c .before .before .before .before .before .before .before .before .before .before .before .before .before .before .before .before .before .before .args in
+    let loaded2 = c .loaded2 in
+    let exit-of2 = c .before .before .exit-of2 in
+    let if3 = c .before .before .before .if3 in
+    let direct-part = c .before .before .before .before .before .direct-part in
+    let page = c .before .before .before .before .before .before .before .before .before .before .page in
+    let path-held = c .before .before .before .before .before .before .before .before .before .before .before .before .path-held in
+    let if1 = c .before .before .before .before .before .before .before .before .before .before .before .before .before .before .if1 in
+    let args = c .before .before .before .before .before .before .before .before .before .before .before .before .before .before .before .before .before .args in
     let found = sym (path-held .ensures) ∙ page .given .1 in
-    let some = sym (ap (λ (x : Part). x .lack) (direct-part .ensures)) ∙ not-false (direct-part .result .lack) (if2 .left) in
+    let none = sym (ap (λ (x : Part). x .lack) (direct-part .ensures)) ∙ not-true (direct-part .result .lack) (if3 .taken) in
+    let came = ap (λ (x : Part). x .walked) (direct-part .ensures) in
+    let went = path-plainly (config (args .space .layout)) (args .space .top) (args .mem .now) (args .held) (args .root .0) false (args .address .0) (args .depth) _ _ none (if1 .taken) found in
+    let end = direct-part .result .walked in
+    loaded2 .ensures ∙ load-plainly (config (args .space .layout)) (args .space .top) (args .root .0) (args .held) (args .held) (args .address .0) (args .width) (exit-of2 .result) end (args .mem .now)
+    ∙ ap (λ e. (loadFrom (config (args .space .layout)) (args .space .top) (args .root .0) (args .held) (args .address .0) (args .width)) (yields (translation (args .held) e end false) (args .mem .now))) (exit-of2 .ensures)
+    ∙ ap (λ r. (loadFrom (config (args .space .layout)) (args .space .top) (args .root .0) (args .held) (args .address .0) (args .width)) (yields (translation (args .held) (exitBy r) r false) (args .mem .now))) came ∙ sym (ap (loadFrom (config (args .space .layout)) (args .space .top) (args .root .0) (args .held) (args .address .0) (args .width)) went)
+
+judged-requires : tie.Need-judged-requires
+judged-requires c κs = search needs
+
+settle-requires : tie.Need-settle-requires
+settle-requires c κs =
+    let pre = c .before .before .before .before .before .before .before .before .before .before .before .before .before .before .before .before .before .before .pre in
+    pre .0
+
+loaded-requires-3 : tie.Need-loaded-requires-3
+unfolding partOf
+loaded-requires-3 c κs =
+    let mem = c .before .before .mem in
+    let judged = c .before .before .before .before .before .before .judged in
+    let if3 = c .before .before .before .before .before .before .before .before .if3 in
+    let direct-part = c .before .before .before .before .before .before .before .before .before .before .direct-part in
+    let page = c .before .before .before .before .before .before .before .before .before .before .before .before .before .before .before .page in
+    let path-held = c .before .before .before .before .before .before .before .before .before .before .before .before .before .before .before .before .before .path-held in
+    let if1 = c .before .before .before .before .before .before .before .before .before .before .before .before .before .before .before .before .before .before .before .if1 in
+    let args = c .before .before .before .before .before .before .before .before .before .before .before .before .before .before .before .before .before .before .before .before .before .before .args in
+    let pre = c .before .before .before .before .before .before .before .before .before .before .before .before .before .before .before .before .before .before .before .before .before .before .pre in
+    let found = sym (path-held .ensures) ∙ page .given .1 in
+    let some = sym (ap (λ (x : Part). x .lack) (direct-part .ensures)) ∙ not-false (direct-part .result .lack) (if3 .left) in
     let came = ap (λ (x : Part). x .walked) (direct-part .ensures) in
     let went = path-judged (config (args .space .layout)) (args .space .top) (args .mem .now) (args .held) (args .root .0) false (args .address .0) (args .depth) _ _ some (if1 .taken) found in
     let leads = judged .ensures ∙ ap (judgedBy (args .held) true _) came in
-    loaded-by-bits .ensures ∙ ap (λ (o : Translated). (loadFrom (config (args .space .layout)) (args .space .top) (args .root .0) (args .held) (args .address .0) (args .width)) (yields o (args .mem .now))) leads ∙ sym (ap (loadFrom (config (args .space .layout)) (args .space .top) (args .root .0) (args .held) (args .address .0) (args .width)) went)
+    (subst (λ (o : Translated). ReachesFrame (o .walked)) (sym leads) (reaches-as (config (args .space .layout)) (args .space .top) (args .mem .now) (args .held) (args .root .0) false (args .address .0) (args .depth) (pre .1) _ (pre .0 .3) went), pre .2)
+
+same-length-3 : tie.Need-same-length-3
+same-length-3 c = search needs
+
+returns-3 : tie.Need-returns-3
+unfolding loadOf partOf
+returns-3 c =
+    let loaded3 = c .loaded3 in
+    let mem = c .before .before .before .mem in
+    let settle = c .before .before .before .before .settle in
+    let judged = c .before .before .before .before .before .before .before .judged in
+    let if3 = c .before .before .before .before .before .before .before .before .before .if3 in
+    let direct-part = c .before .before .before .before .before .before .before .before .before .before .before .direct-part in
+    let page = c .before .before .before .before .before .before .before .before .before .before .before .before .before .before .before .before .page in
+    let path-held = c .before .before .before .before .before .before .before .before .before .before .before .before .before .before .before .before .before .before .path-held in
+    let if1 = c .before .before .before .before .before .before .before .before .before .before .before .before .before .before .before .before .before .before .before .before .if1 in
+    let args = c .before .before .before .before .before .before .before .before .before .before .before .before .before .before .before .before .before .before .before .before .before .before .before .args in
+    let found = sym (path-held .ensures) ∙ page .given .1 in
+    let some = sym (ap (λ (x : Part). x .lack) (direct-part .ensures)) ∙ not-false (direct-part .result .lack) (if3 .left) in
+    let came = ap (λ (x : Part). x .walked) (direct-part .ensures) in
+    let went = path-judged (config (args .space .layout)) (args .space .top) (args .mem .now) (args .held) (args .root .0) false (args .address .0) (args .depth) _ _ some (if1 .taken) found in
+    let leads = judged .ensures ∙ ap (judgedBy (args .held) true _) came in
+    loaded3 .ensures
+    ∙ ap (λ m. loadBy (args .held) (args .address .0) (args .width) (λ x. x) (yields (translation (judged .result .held) (judged .result .exits) (judged .result .walked) false) m) (judged .result .walked)) (settle .ensures)
+    ∙ load-said (config (args .space .layout)) (args .space .top) (args .root .0) (args .held) (judged .result .held) (args .address .0) (args .width) (judged .result .exits) (judged .result .walked) (judged .result .sets) (args .mem .now)
+    ∙ ap (λ (o : Translated). (loadFrom (config (args .space .layout)) (args .space .top) (args .root .0) (args .held) (args .address .0) (args .width)) (yields o (args .mem .now))) leads ∙ sym (ap (loadFrom (config (args .space .layout)) (args .space .top) (args .root .0) (args .held) (args .address .0) (args .width)) went)
 
 enum-known-reads : tie.Need-enum-known-reads
 enum-known-reads c = search needs
@@ -127,12 +192,12 @@ enum-told c = search needs
 refused-requires : tie.Need-refused-requires
 refused-requires c κs = search needs
 
-same-length-3 : tie.Need-same-length-3
-same-length-3 c = search needs
+same-length-4 : tie.Need-same-length-4
+same-length-4 c = search needs
 
-returns-3 : tie.Need-returns-3
+returns-4 : tie.Need-returns-4
 unfolding loadOf
-returns-3 c =
+returns-4 c =
     let refused = c .refused in
     let enum-told = c .before .enum-told in
     let path-held = c .before .before .before .path-held in
@@ -144,27 +209,34 @@ returns-3 c =
 unserved-requires : tie.Need-unserved-requires
 unserved-requires c κs = search needs
 
-loaded-by-bits-requires-2 : tie.Need-loaded-by-bits-requires-2
-loaded-by-bits-requires-2 c κs =
-    let unserved = c .before .before .before .unserved in
-    let if1 = c .before .before .before .before .before .if1 in
-    let args = c .before .before .before .before .before .before .before .before .args in
-    let pre = c .before .before .before .before .before .before .before .before .pre in
+settle-requires-2 : tie.Need-settle-requires-2
+settle-requires-2 c κs = search needs
+
+loaded-requires-4 : tie.Need-loaded-requires-4
+loaded-requires-4 c κs =
+    let unserved = c .before .before .before .before .before .before .before .before .unserved in
+    let if1 = c .before .before .before .before .before .before .before .before .before .before .if1 in
+    let args = c .before .before .before .before .before .before .before .before .before .before .before .before .before .args in
+    let pre = c .before .before .before .before .before .before .before .before .before .before .before .before .before .pre in
     let unserved-is = ⊎-elim (λ w. path-missed (config (args .space .layout)) (args .space .top) (args .mem .now) (args .held) (args .root .0) false (args .address .0) (args .depth) _ (w .0 .taken) (sym (w .2 .ensures) ∙ w .4 .given .1)) (λ w. path-none (config (args .space .layout)) (args .space .top) (args .mem .now) (args .held) (args .root .0) false (args .address .0) (args .depth) (w .left)) (if1 .came) in
-    (pre .0, subst (λ (o : After Translated). ReachesFrame (o .result .walked)) (sym (unserved .ensures)) (reaches-as (config (args .space .layout)) (args .space .top) (args .mem .now) (args .held) (args .root .0) false (args .address .0) (args .depth) (pre .1) _ (pre .0 .3) unserved-is), pre .2)
+    (subst (λ (o : After Translated). ReachesFrame (o .result .walked)) (sym (unserved .ensures)) (reaches-as (config (args .space .layout)) (args .space .top) (args .mem .now) (args .held) (args .root .0) false (args .address .0) (args .depth) (pre .1) _ (pre .0 .3) unserved-is), pre .2)
 
-same-length-4 : tie.Need-same-length-4
-same-length-4 c = search needs
+same-length-5 : tie.Need-same-length-5
+same-length-5 c = search needs
 
-returns-4 : tie.Need-returns-4
+returns-5 : tie.Need-returns-5
 unfolding loadOf
-returns-4 c =
-    let loaded-by-bits2 = c .before .before .loaded-by-bits2 in
-    let unserved = c .before .before .before .before .before .before .unserved in
-    let if1 = c .before .before .before .before .before .before .before .before .if1 in
-    let args = c .before .before .before .before .before .before .before .before .before .before .before .args in
+returns-5 c =
+    let loaded4 = c .loaded4 in
+    let settle2 = c .before .before .before .before .settle2 in
+    let unserved = c .before .before .before .before .before .before .before .before .before .unserved in
+    let if1 = c .before .before .before .before .before .before .before .before .before .before .before .if1 in
+    let args = c .before .before .before .before .before .before .before .before .before .before .before .before .before .before .args in
     let unserved-is = ⊎-elim (λ w. path-missed (config (args .space .layout)) (args .space .top) (args .mem .now) (args .held) (args .root .0) false (args .address .0) (args .depth) _ (w .0 .taken) (sym (w .2 .ensures) ∙ w .4 .given .1)) (λ w. path-none (config (args .space .layout)) (args .space .top) (args .mem .now) (args .held) (args .root .0) false (args .address .0) (args .depth) (w .left)) (if1 .came) in
-    loaded-by-bits2 .ensures ∙ ap (loadFrom (config (args .space .layout)) (args .space .top) (args .root .0) (args .held) (args .address .0) (args .width)) (unserved .ensures ∙ sym unserved-is)
+    loaded4 .ensures
+    ∙ ap (λ m. loadBy (args .held) (args .address .0) (args .width) (λ x. x) (yields (translation (unserved .result .held) (unserved .result .exits) (unserved .result .walked) false) m) (unserved .result .walked)) (settle2 .ensures)
+    ∙ load-said (config (args .space .layout)) (args .space .top) (args .root .0) (args .held) (unserved .result .held) (args .address .0) (args .width) (unserved .result .exits) (unserved .result .walked) (unserved .result .sets) _
+    ∙ ap (loadFrom (config (args .space .layout)) (args .space .top) (args .root .0) (args .held) (args .address .0) (args .width)) (unserved .ensures ∙ sym unserved-is)
 
 pub load-spec : {M : Type 1} → statement M
 load-spec =
@@ -172,21 +244,29 @@ load-spec =
     (tie.spec
     path-held-requires
     enum-known-page
-    direct-part-requires
+    bitless-requires
+    direct-requires
     exit-of-requires
     loaded-requires
     same-length
     returns
-    judged-requires
-    loaded-by-bits-requires
+    direct-part-requires
+    exit-of-requires-2
+    loaded-requires-2
     same-length-2
     returns-2
+    judged-requires
+    settle-requires
+    loaded-requires-3
+    same-length-3
+    returns-3
     enum-known-reads
     enum-told
     refused-requires
-    same-length-3
-    returns-3
-    unserved-requires
-    loaded-by-bits-requires-2
     same-length-4
-    returns-4)
+    returns-4
+    unserved-requires
+    settle-requires-2
+    loaded-requires-4
+    same-length-5
+    returns-5)
