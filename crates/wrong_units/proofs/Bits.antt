@@ -1,0 +1,243 @@
+-- Units that misread accessed and dirty bits (document 02, 6). Each is refused by demand 3. The guest is opened with bits on, but for one
+-- unit; a mark of level 5 makes each request the plain walk, so that no table of the unit's is in the way.
+-- Assumes nothing.
+use mathlib.Core.Path.{_≡_, refl}
+use Prim.Native.Nat.{_+_, _^_}
+use mathlib.Core.Bool.{true, false}
+use mathlib.Core.List.{List, [], _∷_, _++_}
+use lib.ListN.{replicate}
+use Rattle.spec.specs.Answer.{value, fault, figures, no}
+use Rattle.spec.specs.Call.{Call, map, setMark, loadWord, storeWord, deviceWord, forecast}
+use Rattle.spec.specs.Run.{step}
+use Rattle.spec.specs.Computing.{specifying}
+use Rattle.wrong_units.specs.Unit.{Calls, afterBy, specified, Demand-3, unitBy, cangrieb}
+use Rattle.wrong_units.specs.Wrong.{ourStep, ourEnd, listWith}
+use Rattle.wrong_units.specs.WrongBits.{loadSetting, storeSetting, neverSets, alwaysSets, dirtyByLoads, dirtyAtAll, lastOnly, setsOnFault, setsAfter, bitsDrop, bitsFirst, judgedInTurn, forecastsAnyway, lengthFirst}
+use Rattle.wrong_units.proofs.Computing.{calling}
+use Rattle.wrong_units.proofs.Mapped.{memory, openedBy, openedWords, tables, firstBy, firstRecord}
+use Rattle.wrong_units.proofs.Filled.{others, mappedWords, other-maps}
+use Rattle.wrong_units.proofs.Refute.{Comes, ComesBy, refuted, refuted-by, refuted-opened-by, begin, begins-at, begins-by}
+use Rattle.wrong_units.proofs.Answers.{plain}
+
+-- the frames mapped, with bits on
+maps-on : afterBy cangrieb others (firstBy true, tables []) ≡ (firstBy true, mappedWords)
+unfolding calling afterBy
+maps-on = refl
+
+abbrev Begun : Calls → Type 0
+Begun f = ComesBy true f begin (firstBy true, mappedWords)
+
+-- ---- which bits: the load of address 0 yields the entry of level 1 by which it came, which has bit 5 then
+
+never-begun : Begun neverSets
+unfolding neverSets afterBy
+never-begun = begins-by true neverSets refl maps-on
+
+never-says : ((unitBy neverSets) .call (loadWord 0) (afterBy (unitBy neverSets) plain (firstBy true, mappedWords))) .0 ≡ value 0x3003 24 0
+unfolding neverSets loadSetting afterBy calling
+never-says = refl
+
+load-right : (step (loadWord 0) (specified memory 4 4 true (begin ++ plain))) .0 ≡ value 0x3023 24 0
+unfolding specifying
+load-right = refl
+
+pub never-sets-refuted : Demand-3 (unitBy neverSets) → ⊥
+never-sets-refuted = refuted-by true neverSets begin plain (loadWord 0) (firstBy true, mappedWords) (value 0x3003 24 0) (value 0x3023 24 0) never-begun never-says load-right tt
+
+-- with bits off
+always-begun : Comes alwaysSets begin (firstRecord, mappedWords)
+unfolding alwaysSets afterBy
+always-begun = begins-at alwaysSets refl other-maps
+
+always-says : ((unitBy alwaysSets) .call (loadWord 0) (afterBy (unitBy alwaysSets) plain (firstRecord, mappedWords))) .0 ≡ value 0x3023 24 0
+unfolding alwaysSets loadSetting afterBy calling
+always-says = refl
+
+off-right : (step (loadWord 0) (specified memory 4 4 false (begin ++ plain))) .0 ≡ value 0x3003 24 0
+unfolding specifying
+off-right = refl
+
+pub always-sets-refuted : Demand-3 (unitBy alwaysSets) → ⊥
+always-sets-refuted = refuted alwaysSets begin plain (loadWord 0) (firstRecord, mappedWords) (value 0x3023 24 0) (value 0x3003 24 0) always-begun always-says off-right tt
+
+dirty-begun : Begun dirtyByLoads
+unfolding dirtyByLoads afterBy
+dirty-begun = begins-by true dirtyByLoads refl maps-on
+
+dirty-says : ((unitBy dirtyByLoads) .call (loadWord 0) (afterBy (unitBy dirtyByLoads) plain (firstBy true, mappedWords))) .0 ≡ value 0x3063 24 0
+unfolding dirtyByLoads loadSetting afterBy calling
+dirty-says = refl
+
+pub dirty-by-loads-refuted : Demand-3 (unitBy dirtyByLoads) → ⊥
+dirty-by-loads-refuted = refuted-by true dirtyByLoads begin plain (loadWord 0) (firstBy true, mappedWords) (value 0x3063 24 0) (value 0x3023 24 0) dirty-begun dirty-says load-right tt
+
+-- page 1 is the top table: after a store its entry 0 has bit 5, and not bit 6
+abbrev stored : List Call
+stored = setMark 0 5 ∷ storeWord 0x18 7 ∷ []
+
+all-begun : Begun dirtyAtAll
+unfolding dirtyAtAll afterBy
+all-begun = begins-by true dirtyAtAll refl maps-on
+
+all-says : ((unitBy dirtyAtAll) .call (loadWord 0x1000) (afterBy (unitBy dirtyAtAll) stored (firstBy true, mappedWords))) .0 ≡ value 0x1063 24 0
+unfolding dirtyAtAll loadSetting storeSetting afterBy calling
+all-says = refl
+
+stored-right : (step (loadWord 0x1000) (specified memory 4 4 true (begin ++ stored))) .0 ≡ value 0x1023 24 0
+unfolding specifying
+stored-right = refl
+
+pub dirty-at-all-refuted : Demand-3 (unitBy dirtyAtAll) → ⊥
+dirty-at-all-refuted = refuted-by true dirtyAtAll begin stored (loadWord 0x1000) (firstBy true, mappedWords) (value 0x1063 24 0) (value 0x1023 24 0) all-begun all-says stored-right tt
+
+last-begun : Begun lastOnly
+unfolding lastOnly afterBy
+last-begun = begins-by true lastOnly refl maps-on
+
+last-says : ((unitBy lastOnly) .call (loadWord 0x1000) (afterBy (unitBy lastOnly) plain (firstBy true, mappedWords))) .0 ≡ value 0x1003 24 0
+unfolding lastOnly loadSetting afterBy calling
+last-says = refl
+
+top-right : (step (loadWord 0x1000) (specified memory 4 4 true (begin ++ plain))) .0 ≡ value 0x1023 24 0
+unfolding specifying
+top-right = refl
+
+pub last-only-refuted : Demand-3 (unitBy lastOnly) → ⊥
+last-only-refuted = refuted-by true lastOnly begin plain (loadWord 0x1000) (firstBy true, mappedWords) (value 0x1003 24 0) (value 0x1023 24 0) last-begun last-says top-right tt
+
+-- ---- when they are set
+
+-- the load under entry 1 of the top table meets A at level 1, so that this entry stays as it is
+abbrev faulted : List Call
+faulted = setMark 0 5 ∷ loadWord (2 ^ 39 + 0x10000) ∷ []
+
+fault-begun : Begun setsOnFault
+unfolding setsOnFault afterBy
+fault-begun = begins-by true setsOnFault refl maps-on
+
+fault-says : ((unitBy setsOnFault) .call (loadWord 0x1008) (afterBy (unitBy setsOnFault) faulted (firstBy true, mappedWords))) .0 ≡ value 0x3023 24 0
+unfolding setsOnFault afterBy calling
+fault-says = refl
+
+faulted-right : (step (loadWord 0x1008) (specified memory 4 4 true (begin ++ faulted))) .0 ≡ value 0x3003 24 0
+unfolding specifying
+faulted-right = refl
+
+pub sets-on-fault-refuted : Demand-3 (unitBy setsOnFault) → ⊥
+sets-on-fault-refuted = refuted-by true setsOnFault begin faulted (loadWord 0x1008) (firstBy true, mappedWords) (value 0x3023 24 0) (value 0x3003 24 0) fault-begun fault-says faulted-right tt
+
+after-begun : Begun setsAfter
+unfolding setsAfter afterBy
+after-begun = begins-by true setsAfter refl maps-on
+
+after-says : ((unitBy setsAfter) .call (loadWord 0) (afterBy (unitBy setsAfter) plain (firstBy true, mappedWords))) .0 ≡ value 0x3003 24 0
+unfolding setsAfter afterBy calling
+after-says = refl
+
+pub sets-after-refuted : Demand-3 (unitBy setsAfter) → ⊥
+sets-after-refuted = refuted-by true setsAfter begin plain (loadWord 0) (firstBy true, mappedWords) (value 0x3003 24 0) (value 0x3023 24 0) after-begun after-says load-right tt
+
+-- ---- own bit writes drop nothing: with a mark of level 4 the path is the root's frame, and the second load finds it held
+
+abbrev filled : List Call
+filled = setMark 0 4 ∷ loadWord 0 ∷ []
+
+drop-begun : Begun bitsDrop
+unfolding bitsDrop afterBy
+drop-begun = begins-by true bitsDrop refl maps-on
+
+drop-says : ((unitBy bitsDrop) .call (loadWord 0) (afterBy (unitBy bitsDrop) filled (firstBy true, mappedWords))) .0 ≡ value 0x3023 20 1
+unfolding bitsDrop afterBy calling
+drop-says = refl
+
+filled-right : (step (loadWord 0) (specified memory 4 4 true (begin ++ filled))) .0 ≡ value 0x3023 20 0
+unfolding specifying
+filled-right = refl
+
+pub bits-drop-refuted : Demand-3 (unitBy bitsDrop) → ⊥
+bits-drop-refuted = refuted-by true bitsDrop begin filled (loadWord 0) (firstBy true, mappedWords) (value 0x3023 20 1) (value 0x3023 20 0) drop-begun drop-says filled-right tt
+
+-- ---- W for a bit
+
+-- the table of level 3, guest frame 1, is read-only and its entry lacks bit 5; but the page is read-only too, and its W comes first
+abbrev bothLocked : List Call
+bothLocked = map 1 9 false ∷ map 3 11 false ∷ setMark 0 5 ∷ []
+
+first-begun : Begun bitsFirst
+unfolding bitsFirst afterBy
+first-begun = begins-by true bitsFirst refl maps-on
+
+first-says : ((unitBy bitsFirst) .call (storeWord 0 1) (afterBy (unitBy bitsFirst) bothLocked (firstBy true, mappedWords))) .0 ≡ fault 87 0 1 24 1
+unfolding bitsFirst afterBy calling
+first-says = refl
+
+both-locked-right : (step (storeWord 0 1) (specified memory 4 4 true (begin ++ bothLocked))) .0 ≡ fault 87 0 3 24 1
+unfolding specifying
+both-locked-right = refl
+
+pub bits-first-refuted : Demand-3 (unitBy bitsFirst) → ⊥
+bits-first-refuted = refuted-by true bitsFirst begin bothLocked (storeWord 0 1) (firstBy true, mappedWords) (fault 87 0 1 24 1) (fault 87 0 3 24 1) first-begun first-says both-locked-right tt
+
+-- and so does P, where that entry forbids writes
+abbrev forbidden : List Call
+forbidden = deviceWord 0x1000 0x3001 ∷ map 1 9 false ∷ setMark 0 5 ∷ []
+
+forbidden-says : ((unitBy bitsFirst) .call (storeWord 0 1) (afterBy (unitBy bitsFirst) forbidden (firstBy true, mappedWords))) .0 ≡ fault 87 0 1 20 0
+unfolding bitsFirst afterBy calling
+forbidden-says = refl
+
+forbidden-right : (step (storeWord 0 1) (specified memory 4 4 true (begin ++ forbidden))) .0 ≡ fault 80 1 0 20 0
+unfolding specifying
+forbidden-right = refl
+
+pub bits-before-p-refuted : Demand-3 (unitBy bitsFirst) → ⊥
+bits-before-p-refuted = refuted-by true bitsFirst begin forbidden (storeWord 0 1) (firstBy true, mappedWords) (fault 87 0 1 20 0) (fault 80 1 0 20 0) first-begun forbidden-says forbidden-right tt
+
+-- Entry 0 of the top table leads to guest frame 5, which is the same host frame, read-only: one word is the entry of all levels. It lacks bit 5
+-- when the load comes, so that level 3 owes it; judged when level 4 has set it, nothing is owed.
+abbrev aliased : List Call
+aliased = map 5 8 false ∷ deviceWord 0 0x5003 ∷ setMark 0 5 ∷ []
+
+turn-begun : Begun judgedInTurn
+unfolding judgedInTurn afterBy
+turn-begun = begins-by true judgedInTurn refl maps-on
+
+turn-says : ((unitBy judgedInTurn) .call (loadWord 0) (afterBy (unitBy judgedInTurn) aliased (firstBy true, mappedWords))) .0 ≡ value 0x5023 24 0
+unfolding judgedInTurn afterBy calling
+turn-says = refl
+
+aliased-right : (step (loadWord 0) (specified memory 4 4 true (begin ++ aliased))) .0 ≡ fault 87 0 5 24 1
+unfolding specifying
+aliased-right = refl
+
+pub judged-in-turn-refuted : Demand-3 (unitBy judgedInTurn) → ⊥
+judged-in-turn-refuted = refuted-by true judgedInTurn begin aliased (loadWord 0) (firstBy true, mappedWords) (value 0x5023 24 0) (fault 87 0 5 24 1) turn-begun turn-says aliased-right tt
+
+-- ---- forecasts, right after the opening
+
+anyway-says : ((unitBy forecastsAnyway) .call (forecast []) (openedBy true, openedWords)) .0 ≡ figures 0 0 0
+unfolding forecastsAnyway listWith ourStep ourEnd calling
+anyway-says = refl
+
+none-right : (step (forecast []) (specified memory 4 4 true [])) .0 ≡ no 16
+unfolding specifying
+none-right = refl
+
+pub forecasts-anyway-refuted : Demand-3 (unitBy forecastsAnyway) → ⊥
+unfolding afterBy
+forecasts-anyway-refuted = refuted-opened-by true forecastsAnyway [] (forecast []) (figures 0 0 0) (no 16) anyway-says none-right tt
+
+abbrev long : Call
+long = forecast (replicate 257 0)
+
+length-says : ((unitBy lengthFirst) .call long (openedBy true, openedWords)) .0 ≡ no 14
+unfolding lengthFirst calling
+length-says = refl
+
+long-right : (step long (specified memory 4 4 true [])) .0 ≡ no 16
+unfolding specifying
+long-right = refl
+
+pub length-first-refuted : Demand-3 (unitBy lengthFirst) → ⊥
+unfolding afterBy
+length-first-refuted = refuted-opened-by true lengthFirst [] long (no 14) (no 16) length-says long-right tt
