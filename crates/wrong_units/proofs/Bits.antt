@@ -1,22 +1,44 @@
 -- Units that misread accessed and dirty bits (document 02, 6). Each is refused by demand 3. The guest is opened with bits on, but for one
 -- unit; a mark of level 5 makes each request the plain walk, so that no table of the unit's is in the way.
 -- Assumes nothing.
-use mathlib.Core.Path.{_≡_, refl}
-use Prim.Native.Nat.{_+_, _^_}
+use mathlib.Core.Path.{_≡_, refl, ap, _∙_}
+use Prim.Native.Nat.{ℕ, suc, _+_, _-_, _*_, _^_}
 use mathlib.Core.Bool.{true, false}
 use mathlib.Core.List.{List, [], _∷_, _++_}
-use lib.ListN.{replicate}
-use Rattle.spec.specs.Answer.{value, fault, figures, no}
+use lib.ListN.{set, replicate}
+use Rattle.spec.specs.declared.Answer.the-variants as answer
+use Rattle.spec.specs.Answer.{value, done, fault, figures, no}
+use Rattle.spec.specs.Entry.{entryLimit}
 use Rattle.spec.specs.Call.{Call, map, setMark, loadWord, storeWord, deviceWord, forecast}
 use Rattle.spec.specs.Run.{step}
 use Rattle.spec.specs.Computing.{specifying}
-use Rattle.wrong_units.specs.Unit.{Calls, afterBy, specified, Demand-3, unitBy, cangrieb}
+use Rattle.words.specs.After.{After}
+use Rattle.pool.specs.declared.Area.{Area}
+use Rattle.pool.specs.declared.Pool.{Pool}
+use Rattle.pool.specs.declared.Way.the-variants.{To, Not}
+use Rattle.pool.specs.Header.{entryAtOf, putEntryOf, headerOf}
+use Rattle.pool.specs.declared.Went.{Went}
+use Rattle.pool.specs.Pool.{link, followOf, end, noneOf}
+use Rattle.area.specs.Tree.{downOf, placeOf, insertOf}
+use Rattle.record.specs.declared.Record.{Record}
+use Rattle.record.specs.Record.{configBy}
+use Rattle.layout.specs.Layout.{page}
+use Rattle.walk.specs.declared.Walked.the-variants as walked
+use Rattle.shadow.specs.Held.{shadowArea}
+use Rattle.shadow.specs.Fill.{againBy}
+use Rattle.translate.specs.declared.Translated.{Translated}
+use Rattle.translate.specs.Translate.{fillBy}
+use Rattle.request.specs.Access.{loadBy}
+use Rattle.calls.specs.declared.Reply.{Reply}
+use Rattle.calls.specs.Calls.{heldOf, ended, servedBy}
+use Rattle.wrong_units.specs.Unit.{Calls, afterBy, specified, Demand-3, told, unitBy, cangrieb}
 use Rattle.wrong_units.specs.Wrong.{ourStep, ourEnd, listWith}
-use Rattle.wrong_units.specs.WrongBits.{loadSetting, storeSetting, neverSets, alwaysSets, dirtyByLoads, dirtyAtAll, lastOnly, setsOnFault, setsAfter, bitsDrop, bitsFirst, judgedInTurn, forecastsAnyway, lengthFirst}
-use Rattle.wrong_units.proofs.Computing.{calling}
-use Rattle.wrong_units.proofs.Mapped.{memory, openedBy, openedWords, tables, firstBy, firstRecord}
+use Rattle.wrong_units.specs.WrongBits.{ourSets, loadSetting, storeSetting, neverSets, alwaysSets, dirtyByLoads, dirtyAtAll, lastOnly, setsOnFault, setsAfter, bitsDrop, loadArriving, arriveFilling, faultsFill, arrivePassing, storesPass, bitsFirst, judgedInTurn, forecastsAnyway, lengthFirst}
+use Rattle.wrong_units.proofs.Clear.{Ready, enter-clear, down-clear}
+use Rattle.wrong_units.proofs.Computing.{besides, calling}
+use Rattle.wrong_units.proofs.Mapped.{placed, memory, recordBy, none, levelWord, openedBy, openedWords, tables, fourTables, firstBy, firstRecord}
 use Rattle.wrong_units.proofs.Filled.{others, mappedWords, other-maps}
-use Rattle.wrong_units.proofs.Refute.{Comes, ComesBy, refuted, refuted-by, refuted-opened-by, begin, begins-at, begins-by}
+use Rattle.wrong_units.proofs.Refute.{Comes, ComesBy, goes-on, refuted, refuted-by, refuted-opened-by, begin, begins-at, begins-by}
 use Rattle.wrong_units.proofs.Answers.{plain}
 
 -- the frames mapped, with bits on
@@ -156,6 +178,176 @@ filled-right = refl
 
 pub bits-drop-refuted : Demand-3 (unitBy bitsDrop) → ⊥
 bits-drop-refuted = refuted-by true bitsDrop begin filled (loadWord 0) (firstBy true, mappedWords) (value 0x3023 20 1) (value 0x3023 20 0) drop-begun drop-says filled-right tt
+
+-- ---- a fault past the shadow part fills nothing: this one is A at level 1, and the next load pays for the path
+
+abbrev missed : List Call
+missed = setMark 0 4 ∷ loadWord 0x10000 ∷ []
+
+fill-begun : Begun faultsFill
+unfolding faultsFill afterBy
+fill-begun = begins-by true faultsFill refl maps-on
+
+fill-says : ((unitBy faultsFill) .call (loadWord 0) (afterBy (unitBy faultsFill) missed (firstBy true, mappedWords))) .0 ≡ value 0x3023 20 0
+unfolding faultsFill loadArriving arriveFilling afterBy calling
+fill-says = refl
+
+missed-right : (step (loadWord 0) (specified memory 4 4 true (begin ++ missed))) .0 ≡ value 0x3023 20 1
+unfolding specifying
+missed-right = refl
+
+pub faults-fill-refuted : Demand-3 (unitBy faultsFill) → ⊥
+faults-fill-refuted = refuted-by true faultsFill begin missed (loadWord 0) (firstBy true, mappedWords) (value 0x3023 20 0) (value 0x3023 20 1) fill-begun fill-says missed-right tt
+
+-- ---- a path of depth 0 that a load fills
+
+-- Entry 2 of guest frame 3 is made to name guest frame 2, which is no table of the walk; a load there fills all four shadow tables.
+abbrev named : List ℕ
+named = set mappedWords 5634 0x2003
+
+names : afterBy cangrieb (deviceWord 0x3010 0x2003 ∷ []) (firstBy true, mappedWords) ≡ (firstBy true, named)
+unfolding calling afterBy
+names = refl
+
+abbrev shadowed : Record
+shadowed = recordBy true fourTables (record { fresh = 4; free = 0; used = 4; top = 0x4001 }) []
+
+abbrev shadowWords : List ℕ
+shadowWords =
+    placed ((2048, 8 * entryLimit + 0x5001) ∷ (2049, levelWord 4) ∷ (2560, 9 * entryLimit + 0x6001) ∷ (2561, levelWord 3) ∷ (2562, 4 * entryLimit) ∷ (3072, 11 * entryLimit + 0x7001) ∷ (3073, levelWord 2) ∷ (3074, 5 * entryLimit)
+    ∷ (3584, 11 * entryLimit) ∷ (3585, levelWord 1) ∷ (3586, 6 * entryLimit + 0xa003) ∷ [])
+    named
+
+-- and the four entries have bit 5
+abbrev setWords : List ℕ
+setWords = placed ((4096, 0x1023) ∷ (4608, 0x3023) ∷ (5632, 0x3023) ∷ (5634, 0x2023) ∷ []) shadowWords
+
+abbrev area : Area
+area = shadowArea (configBy 6144 4 4 true)
+
+-- the host frames of the guest tables on the path
+abbrev trail : List ℕ
+trail = 8 ∷ 9 ∷ 11 ∷ 11 ∷ replicate 4 0
+
+abbrev inUse : ℕ → Pool
+inUse n = record { fresh = n; free = 0; used = n; top = 0x4001 }
+
+-- the memory once the shadow tables of level 4, 3, 2 and 1 stand in it
+abbrev hung4 : List ℕ
+hung4 = headerOf named 4 8 4 0 0
+
+abbrev hung : List ℕ → ℕ → ℕ → List ℕ
+hung m g f = putEntryOf (headerOf m (suc f) g (7 - f) f 0) f 0 (link (suc f))
+
+abbrev hung3 : List ℕ
+hung3 = hung hung4 9 4
+
+abbrev hung2 : List ℕ
+hung2 = hung hung3 11 5
+
+abbrev hung1 : List ℕ
+hung1 = hung hung2 11 6
+
+ready4 : Ready area none named
+unfolding calling
+ready4 = record { room = refl; noFreed = refl; fresh = refl; clear = tt }
+
+ready3 : Ready area (inUse 1) hung4
+unfolding calling
+ready3 = record { room = refl; noFreed = refl; fresh = refl; clear = tt }
+
+ready2 : Ready area (inUse 2) hung3
+unfolding calling
+ready2 = record { room = refl; noFreed = refl; fresh = refl; clear = tt }
+
+ready1 : Ready area (inUse 3) hung2
+unfolding calling
+ready1 = record { room = refl; noFreed = refl; fresh = refl; clear = tt }
+
+none4 : followOf 4 4 0 ≡ Not
+unfolding calling
+none4 = refl
+
+none3 : followOf 4 4 (entryAtOf hung4 4 0) ≡ Not
+unfolding calling
+none3 = refl
+
+none2 : followOf 4 4 (entryAtOf hung3 5 0) ≡ Not
+unfolding calling
+none2 = refl
+
+none1 : followOf 4 4 (entryAtOf hung2 6 0) ≡ Not
+unfolding calling
+none1 = refl
+
+insert-place : insertOf area trail none named (0 ∷ 0 ∷ 0 ∷ 2 ∷ []) 0xa003 ≡ placeOf area trail none named 0 (0 ∷ 0 ∷ 2 ∷ []) 0xa003
+unfolding besides insertOf
+insert-place = refl
+
+place-down : placeOf area trail none named 0 (0 ∷ 0 ∷ 2 ∷ []) 0xa003 ≡ downOf area trail (inUse 1) hung4 0 4 0 (0 ∷ 0 ∷ 2 ∷ []) 0xa003
+unfolding besides placeOf
+place-down = rw (enter-clear area none named 8 ready4 none4)
+
+down-end : downOf area trail (inUse 4) hung1 3 7 2 [] 0xa003 ≡ end (inUse 4) (To 7) shadowWords
+unfolding calling
+down-end = refl
+
+inserts : insertOf area trail none named (0 ∷ 0 ∷ 0 ∷ 2 ∷ []) 0xa003 ≡ end (inUse 4) (To 7) shadowWords
+inserts =
+    insert-place ∙ place-down ∙ down-clear area trail (inUse 1) hung4 0 4 0 0 (0 ∷ 2 ∷ []) 0xa003 ready3 none3
+    ∙ down-clear area trail (inUse 2) hung3 1 5 0 0 (2 ∷ []) 0xa003 ready2 none2
+    ∙ down-clear area trail (inUse 3) hung2 2 6 0 2 [] 0xa003 ready1 none1
+    ∙ down-end
+
+-- The wrong unit's path has the write right of the walk. What its load does with the table that the path came into is taken apart from how it
+-- came there.
+abbrev went : After Went → After Went
+went t = againBy (t .result .way) t (insertOf area trail noneOf (t .memory) (0 ∷ 0 ∷ 0 ∷ 2 ∷ []) 0xa003)
+
+abbrev came : After Went → After Translated
+came t = fillBy (heldOf (firstBy true)) 1 (walked.Arrived (page 10) true 4) true (went t) (went t .result .way)
+
+abbrev loaded : After Went → After Reply
+loaded t =
+    let o : After Translated = came t in
+    servedBy (firstBy true) (loadBy (heldOf (firstBy true)) 0x2000 8 (ourSets (firstBy true) false 0x2000 (o .result .sets)) o (o .result .walked))
+
+passes-loads : storesPass (loadWord 0x2000) (firstBy true) named ≡ loaded (insertOf area trail none named (0 ∷ 0 ∷ 0 ∷ 2 ∷ []) 0xa003)
+unfolding storesPass loadArriving arrivePassing besides
+passes-loads = refl
+
+passes-sets : loaded (end (inUse 4) (To 7) shadowWords) ≡ ended shadowed (answer.Value 0x2003 4 1) setWords
+unfolding calling
+passes-sets = refl
+
+passes-fills : storesPass (loadWord 0x2000) (firstBy true) named ≡ ended shadowed (answer.Value 0x2003 4 1) setWords
+passes-fills = passes-loads ∙ ap loaded inserts ∙ passes-sets
+
+abbrev page2 : List Call
+page2 = deviceWord 0x3010 0x2003 ∷ loadWord 0x2000 ∷ []
+
+pass-begun : Begun storesPass
+unfolding storesPass afterBy
+pass-begun = begins-by true storesPass refl maps-on
+
+pass-comes : ComesBy true storesPass (begin ++ page2) (shadowed, setWords)
+unfolding storesPass afterBy
+pass-comes =
+    goes-on true storesPass begin page2 (firstBy true, mappedWords) (shadowed, setWords) pass-begun
+    (ap (λ (e : Record × List ℕ). (told (storesPass (loadWord 0x2000) (e .0) (e .1))) .1) names ∙ ap (λ e. (told e) .1) passes-fills)
+
+pass-says : ((unitBy storesPass) .call (storeWord 0x2008 7) (shadowed, setWords)) .0 ≡ done 4 0
+unfolding storesPass calling
+pass-says = refl
+
+-- ours pays an exit: the path is filled again, and the bit is set
+pass-right : (step (storeWord 0x2008 7) (specified memory 4 4 true ((begin ++ page2) ++ []))) .0 ≡ done 4 1
+unfolding specifying
+pass-right = refl
+
+pub stores-pass-refuted : Demand-3 (unitBy storesPass) → ⊥
+unfolding afterBy
+stores-pass-refuted = refuted-by true storesPass (begin ++ page2) [] (storeWord 0x2008 7) (shadowed, setWords) (done 4 0) (done 4 1) pass-comes pass-says pass-right tt
 
 -- ---- W for a bit
 

@@ -14,21 +14,26 @@ use Rattle.spec.specs.Config.{Config}
 use Rattle.spec.specs.Entry.{wordOf}
 use Rattle.spec.specs.Bytes.{bytesAt}
 use Rattle.spec.specs.Walk.{World, Trace, trace}
-use Rattle.spec.specs.Plain.{Place}
+use Rattle.spec.specs.Plain.{Place, walk}
 use Rattle.spec.specs.Bits.{hasBits, withBits, isLast, mayWrite, owes}
 use Rattle.spec.specs.Refusal.{forecastRoom}
 use Rattle.spec.specs.Call.{load, store, forecast}
-use Rattle.words.specs.After.{After}
+use Rattle.words.specs.After.{After, yields}
 use Rattle.words.specs.Words.{wordIn, setIn}
+use Rattle.layout.specs.declared.HostWalk.{HostWalk}
+use Rattle.layout.specs.declared.HostWalk.the-variants as host
 use Rattle.walk.specs.declared.Walked.{Walked}
 use Rattle.walk.specs.declared.Walked.the-variants as walked
-use Rattle.walk.specs.Memory.{memoryWorld, walkedOf}
+use Rattle.walk.specs.declared.Trail.{Trail}
+use Rattle.walk.specs.Memory.{memoryWorld, walkedOf, trailOf}
 use Rattle.accessed.specs.Entries.{bitsIn}
 use Rattle.record.specs.declared.Record.{Record}
 use Rattle.record.specs.Record.{configOf}
 use Rattle.translate.specs.declared.Held.{Held}
 use Rattle.translate.specs.declared.Translated.{Translated}
-use Rattle.translate.specs.Translate.{whole}
+use Rattle.translate.specs.declared.Checked.{Checked}
+use Rattle.translate.specs.declared.Checked.the-variants as checked
+use Rattle.translate.specs.Translate.{pathIndexes, whole, translation, damaged, faulted, directOf, checkedOf, throughOf, unshadowedOf, servesOf, foundOf, filledOf, laxOf, arrivedOf}
 use Rattle.request.specs.declared.Served.{Served}
 use Rattle.request.specs.Access as access
 use Rattle.request.specs.Access.{serving, settledOf}
@@ -141,6 +146,67 @@ loadDropping a w r m =
 
 unfoldable pub bitsDrop : Calls
 bitsDrop = onLoads loadDropping callOf
+
+-- a translation is ours with what a request does past its shadow part as an argument
+abbrev pub Arrives : Type 0
+Arrives = Config → ℕ → List ℕ → Held → ℕ → List ℕ → Bool → ℕ → ℕ → ℕ → ℕ → Bool → After Translated
+
+abbrev pub missedAs : Arrives → Config → ℕ → List ℕ → Held → ℕ → Bool → ℕ → ℕ → List ℕ → Walked → After Translated
+missedAs arrives c ht m h root st a d gs (walked.Arrived t w n) = arrives c ht m h root gs st a d n (t .0) w
+missedAs arrives c ht m h root st a d gs (walked.Faulted x n) = yields (translation h 1 (walked.Faulted x n) false) m
+missedAs arrives c ht m h root st a d gs walked.Damaged = damaged h m
+
+abbrev pub missedWith : Arrives → Config → ℕ → List ℕ → Held → ℕ → Bool → ℕ → ℕ → After Translated
+missedWith arrives c ht m h root st a d =
+    let r : Trail = trailOf c ht m 0 (walk c st root (pathIndexes c d a)) in
+    missedAs arrives c ht m h root st a d (r .tables) (r .walked)
+
+abbrev pub foundAs : Arrives → Config → ℕ → List ℕ → Held → ℕ → Bool → ℕ → ℕ → HostWalk → After Translated
+foundAs arrives c ht m h root st a d (host.Found t w) =
+    cond (servesOf st d w) (yields (throughOf c ht m h root st a d (t .0) w) m) (missedWith arrives c ht m h root st a d)
+foundAs arrives c ht m h root st a d (host.Absent n) = missedWith arrives c ht m h root st a d
+foundAs arrives c ht m h root st a d host.Damaged = damaged h m
+
+abbrev pub translateWith : Arrives → Config → ℕ → List ℕ → Held → ℕ → Bool → ℕ → ℕ → After Translated
+translateWith arrives c ht m h root st a d =
+    cond (ltb (c .levels) d) (yields (unshadowedOf c ht m h root st a d) m) (foundAs arrives c ht m h root st a d (foundOf c m h a d))
+
+unfoldable pub loadArriving : Arrives → ℕ → ℕ → Does
+loadArriving arrives a w r m =
+    let o : After Translated = translateWith arrives (configOf r) (hostTop r) m (heldOf r) (rootOf r) false a (depthAt r a) in
+    placed r m w (addressOk false (configOf r) a w) (servedBy r (access.loadBy (heldOf r) a w (ourSets r false a (o .result .sets)) o (o .result .walked)))
+
+-- a fault past the shadow part fills the path too, as with bits off
+abbrev pub fillAnyway : Walked → After Translated → After Translated → After Translated
+fillAnyway (walked.Arrived t w n) ours lax = ours
+fillAnyway (walked.Faulted x n) ours lax = lax
+fillAnyway walked.Damaged ours lax = ours
+
+unfoldable pub arriveFilling : Arrives
+arriveFilling c ht m h root gs st a d n t w =
+    fillAnyway (directOf c ht m st a d t w) (arrivedOf c ht m h root gs st a d n t w) (laxOf c m h gs a d t w (directOf c ht m st a d t w))
+
+unfoldable pub faultsFill : Calls
+faultsFill = onLoads (loadArriving arriveFilling) callOf
+
+-- the path that a load fills lets stores pass, also at depth 0 and if the entry where its walk ends is not dirty
+abbrev pub grantPassing : Config → List ℕ → Held → List ℕ → ℕ → ℕ → ℕ → ℕ → Bool → Walked → ℕ → Checked → After Translated
+grantPassing c m h gs a d n t w r k (checked.Clear lack) = filledOf c m h gs a d t w 1 r lack
+grantPassing c m h gs a d n t w r k (checked.Stopped x e) = yields (faulted c h d n x k e) m
+grantPassing c m h gs a d n t w r k checked.Damaged = damaged h m
+
+abbrev pub passing : Config → List ℕ → Held → List ℕ → ℕ → ℕ → ℕ → ℕ → Bool → Checked → After Translated → Walked → After Translated
+passing c m h gs a d n t w b ours (walked.Arrived p v k) = grantPassing c m h gs a d n t w (walked.Arrived p v k) k b
+passing c m h gs a d n t w b ours (walked.Faulted x k) = ours
+passing c m h gs a d n t w b ours walked.Damaged = ours
+
+unfoldable pub arrivePassing : Arrives
+arrivePassing c ht m h root gs st a d n t w =
+    let ours : After Translated = arrivedOf c ht m h root gs st a d n t w in
+    cond (c .bits) (passing c m h gs a d n t w (checkedOf c ht m root st a d) ours (directOf c ht m st a d t w)) ours
+
+unfoldable pub storesPass : Calls
+storesPass = onLoads (loadArriving arrivePassing) callOf
 
 -- ---- W for a bit
 
