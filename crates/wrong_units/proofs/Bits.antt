@@ -7,7 +7,7 @@ use mathlib.Core.Bool.{true, false}
 use mathlib.Core.List.{List, [], _∷_, _++_}
 use lib.ListN.{set, replicate}
 use Rattle.spec.specs.declared.Answer.the-variants as answer
-use Rattle.spec.specs.Answer.{value, done, fault, figures, no}
+use Rattle.spec.specs.Answer.{Line, value, done, fault, figures, no}
 use Rattle.spec.specs.Entry.{entryLimit}
 use Rattle.spec.specs.Call.{Call, map, setMark, loadWord, storeWord, deviceWord, forecast}
 use Rattle.spec.specs.Run.{step}
@@ -18,11 +18,12 @@ use Rattle.pool.specs.declared.Pool.{Pool}
 use Rattle.pool.specs.declared.Way.the-variants.{To, Not}
 use Rattle.pool.specs.Header.{entryAtOf, putEntryOf, headerOf}
 use Rattle.pool.specs.declared.Went.{Went}
-use Rattle.pool.specs.Pool.{link, followOf, end, noneOf}
+use Rattle.pool.specs.Pool.{link, followOf, end, noneOf, freeWords, withFreed}
 use Rattle.area.specs.Tree.{downOf, placeOf, insertOf}
 use Rattle.record.specs.declared.Record.{Record}
 use Rattle.record.specs.Record.{configBy}
 use Rattle.layout.specs.Layout.{page}
+use Rattle.walk.specs.declared.Walked.{Walked}
 use Rattle.walk.specs.declared.Walked.the-variants as walked
 use Rattle.shadow.specs.Held.{shadowArea}
 use Rattle.shadow.specs.Fill.{againBy}
@@ -30,14 +31,15 @@ use Rattle.translate.specs.declared.Translated.{Translated}
 use Rattle.translate.specs.Translate.{fillBy}
 use Rattle.request.specs.Access.{loadBy}
 use Rattle.calls.specs.declared.Reply.{Reply}
-use Rattle.calls.specs.Calls.{heldOf, ended, servedBy}
+use Rattle.calls.specs.Calls.{heldOf, ended, servedBy, callOf}
 use Rattle.wrong_units.specs.Unit.{Calls, afterBy, specified, Demand-3, told, unitBy, cangrieb}
 use Rattle.wrong_units.specs.Wrong.{ourStep, ourEnd, listWith}
-use Rattle.wrong_units.specs.WrongBits.{ourSets, loadSetting, storeSetting, neverSets, alwaysSets, dirtyByLoads, dirtyAtAll, lastOnly, setsOnFault, setsAfter, bitsDrop, loadArriving, arriveFilling, faultsFill, arrivePassing, storesPass, bitsFirst, judgedInTurn, forecastsAnyway, lengthFirst}
+use Rattle.wrong_units.specs.WrongBits.{ourSets, loadSetting, storeSetting, neverSets, alwaysSets, dirtyByLoads, dirtyAtAll, lastOnly, setsOnFault, setsAfter, ownDropped, bitsDrop, loadArriving, arriveFilling, faultsFill, arrivePassing, storesPass, bitsFirst, judgedInTurn, forecastsAnyway, lengthFirst}
 use Rattle.wrong_units.proofs.Clear.{Ready, enter-clear, down-clear}
 use Rattle.wrong_units.proofs.Computing.{besides, calling}
 use Rattle.wrong_units.proofs.Mapped.{placed, memory, recordBy, none, levelWord, openedBy, openedWords, tables, fourTables, firstBy, firstRecord}
-use Rattle.wrong_units.proofs.Filled.{others, mappedWords, other-maps}
+use Rattle.wrong_units.proofs.Filled as filled
+use Rattle.wrong_units.proofs.Filled.{others, mappedWords, other-maps, heldWords}
 use Rattle.wrong_units.proofs.Refute.{Comes, ComesBy, goes-on, refuted, refuted-by, refuted-opened-by, begin, begins-at, begins-by}
 use Rattle.wrong_units.proofs.Answers.{plain}
 
@@ -48,6 +50,20 @@ maps-on = refl
 
 abbrev Begun : Calls → Type 0
 Begun f = ComesBy true f begin (firstBy true, mappedWords)
+
+abbrev area : Area
+area = shadowArea (configBy 6144 4 4 true)
+
+-- What a load that fills its path leaves, by where the path came into the shadow tables: so the fill itself can go by a law. r: the record, a:
+-- the address, gs: the host frames of the guest tables on the path, is: the path, e: its entry, x: where the load's walk came to
+abbrev went : List ℕ → List ℕ → ℕ → After Went → After Went
+went gs is e t = againBy (t .result .way) t (insertOf area gs noneOf (t .memory) is e)
+
+abbrev loaded : Record → ℕ → List ℕ → List ℕ → ℕ → Walked → After Went → After Reply
+loaded r a gs is e x t =
+    let s : After Went = went gs is e t in
+    let o : After Translated = fillBy (heldOf r) 1 x true s (s .result .way) in
+    servedBy r (loadBy (heldOf r) a 8 (ourSets r false a (o .result .sets)) o (o .result .walked))
 
 -- ---- which bits: the load of address 0 yields the entry of level 1 by which it came, which has bit 5 then
 
@@ -159,25 +175,66 @@ after-says = refl
 pub sets-after-refuted : Demand-3 (unitBy setsAfter) → ⊥
 sets-after-refuted = refuted-by true setsAfter begin plain (loadWord 0) (firstBy true, mappedWords) (value 0x3003 24 0) (value 0x3023 24 0) after-begun after-says load-right tt
 
--- ---- own bit writes drop nothing: with a mark of level 4 the path is the root's frame, and the second load finds it held
+-- ---- own bit writes drop nothing
 
-abbrev filled : List Call
-filled = setMark 0 4 ∷ loadWord 0 ∷ []
+-- With a mark of level 3 the load fills a path that read entry 0 of the top table, and sets its bit 5. The path stays held, so that a device
+-- store into the top table is an exit; this unit has dropped it.
+abbrev mark3 : List Call
+mark3 = setMark 0 3 ∷ setMark (2 ^ 39) 3 ∷ []
+
+abbrev markedOn : Record
+markedOn = recordBy true fourTables none (3 ∷ 11 ∷ [])
+
+marks-on : afterBy cangrieb mark3 (firstBy true, mappedWords) ≡ (markedOn, mappedWords)
+unfolding calling afterBy
+marks-on = refl
+
+abbrev heldOn : Record
+heldOn = recordBy true fourTables (record { fresh = 1; free = 0; used = 1; top = 0x4001 }) (3 ∷ 11 ∷ [])
+
+abbrev heldSet : List ℕ
+heldSet = placed ((4096, 0x1023) ∷ (4608, 0x3023) ∷ (5632, 0x3023) ∷ []) heldWords
+
+abbrev switched : After Went → After Reply
+switched = loaded markedOn 0 (8 ∷ replicate 7 0) (0 ∷ []) 0x9203 (walked.Arrived (page 11) true 16)
+
+switch-loads : callOf (loadWord 0) markedOn mappedWords ≡ switched (insertOf area (8 ∷ replicate 7 0) none mappedWords (0 ∷ []) 0x9203)
+unfolding besides
+switch-loads = refl
+
+switch-sets : switched (end (heldOn .pools .shadow) (To 4) heldWords) ≡ ended heldOn (answer.Value 0x3023 16 1) heldSet
+unfolding calling
+switch-sets = refl
+
+fills-on : callOf (loadWord 0) markedOn mappedWords ≡ ended heldOn (answer.Value 0x3023 16 1) heldSet
+fills-on = switch-loads ∙ ap switched filled.inserts ∙ switch-sets
 
 drop-begun : Begun bitsDrop
 unfolding bitsDrop afterBy
 drop-begun = begins-by true bitsDrop refl maps-on
 
-drop-says : ((unitBy bitsDrop) .call (loadWord 0) (afterBy (unitBy bitsDrop) filled (firstBy true, mappedWords))) .0 ≡ value 0x3023 20 1
-unfolding bitsDrop afterBy calling
-drop-says = refl
+drop-comes : ComesBy true bitsDrop (begin ++ mark3) (markedOn, mappedWords)
+unfolding bitsDrop afterBy
+drop-comes = goes-on true bitsDrop begin mark3 (firstBy true, mappedWords) (markedOn, mappedWords) drop-begun marks-on
 
-filled-right : (step (loadWord 0) (specified memory 4 4 true (begin ++ filled))) .0 ≡ value 0x3023 20 0
+-- what it says to the device store, by what our load leaves
+abbrev afterLoad : After Reply → Line
+afterLoad e = let d : After Reply = ownDropped markedOn mappedWords 0 e in ((told (callOf (deviceWord 0x18 7) (d .result .unit) (d .memory))) .0)
+
+drop-ends : afterLoad (ended heldOn (answer.Value 0x3023 16 1) heldSet) ≡ done 4 0
+unfolding calling freeWords withFreed
+drop-ends = refl
+
+drop-says : ((unitBy bitsDrop) .call (deviceWord 0x18 7) (afterBy (unitBy bitsDrop) (loadWord 0 ∷ []) (markedOn, mappedWords))) .0 ≡ done 4 0
+unfolding bitsDrop afterBy
+drop-says = ap afterLoad fills-on ∙ drop-ends
+
+drop-right : (step (deviceWord 0x18 7) (specified memory 4 4 true ((begin ++ mark3) ++ (loadWord 0 ∷ [])))) .0 ≡ done 4 1
 unfolding specifying
-filled-right = refl
+drop-right = refl
 
 pub bits-drop-refuted : Demand-3 (unitBy bitsDrop) → ⊥
-bits-drop-refuted = refuted-by true bitsDrop begin filled (loadWord 0) (firstBy true, mappedWords) (value 0x3023 20 1) (value 0x3023 20 0) drop-begun drop-says filled-right tt
+bits-drop-refuted = refuted-by true bitsDrop (begin ++ mark3) (loadWord 0 ∷ []) (deviceWord 0x18 7) (markedOn, mappedWords) (done 4 0) (done 4 1) drop-comes drop-says drop-right tt
 
 -- ---- a fault past the shadow part fills nothing: this one is A at level 1, and the next load pays for the path
 
@@ -221,9 +278,6 @@ shadowWords =
 -- and the four entries have bit 5
 abbrev setWords : List ℕ
 setWords = placed ((4096, 0x1023) ∷ (4608, 0x3023) ∷ (5632, 0x3023) ∷ (5634, 0x2023) ∷ []) shadowWords
-
-abbrev area : Area
-area = shadowArea (configBy 6144 4 4 true)
 
 -- the host frames of the guest tables on the path
 abbrev trail : List ℕ
@@ -299,29 +353,20 @@ inserts =
     ∙ down-clear area trail (inUse 3) hung2 2 6 0 2 [] 0xa003 ready1 none1
     ∙ down-end
 
--- The wrong unit's path has the write right of the walk. What its load does with the table that the path came into is taken apart from how it
--- came there.
-abbrev went : After Went → After Went
-went t = againBy (t .result .way) t (insertOf area trail noneOf (t .memory) (0 ∷ 0 ∷ 0 ∷ 2 ∷ []) 0xa003)
+-- the wrong unit's path has the write right of the walk
+abbrev passed : After Went → After Reply
+passed = loaded (firstBy true) 0x2000 trail (0 ∷ 0 ∷ 0 ∷ 2 ∷ []) 0xa003 (walked.Arrived (page 10) true 4)
 
-abbrev came : After Went → After Translated
-came t = fillBy (heldOf (firstBy true)) 1 (walked.Arrived (page 10) true 4) true (went t) (went t .result .way)
-
-abbrev loaded : After Went → After Reply
-loaded t =
-    let o : After Translated = came t in
-    servedBy (firstBy true) (loadBy (heldOf (firstBy true)) 0x2000 8 (ourSets (firstBy true) false 0x2000 (o .result .sets)) o (o .result .walked))
-
-passes-loads : storesPass (loadWord 0x2000) (firstBy true) named ≡ loaded (insertOf area trail none named (0 ∷ 0 ∷ 0 ∷ 2 ∷ []) 0xa003)
+passes-loads : storesPass (loadWord 0x2000) (firstBy true) named ≡ passed (insertOf area trail none named (0 ∷ 0 ∷ 0 ∷ 2 ∷ []) 0xa003)
 unfolding storesPass loadArriving arrivePassing besides
 passes-loads = refl
 
-passes-sets : loaded (end (inUse 4) (To 7) shadowWords) ≡ ended shadowed (answer.Value 0x2003 4 1) setWords
+passes-sets : passed (end (inUse 4) (To 7) shadowWords) ≡ ended shadowed (answer.Value 0x2003 4 1) setWords
 unfolding calling
 passes-sets = refl
 
 passes-fills : storesPass (loadWord 0x2000) (firstBy true) named ≡ ended shadowed (answer.Value 0x2003 4 1) setWords
-passes-fills = passes-loads ∙ ap loaded inserts ∙ passes-sets
+passes-fills = passes-loads ∙ ap passed inserts ∙ passes-sets
 
 abbrev page2 : List Call
 page2 = deviceWord 0x3010 0x2003 ∷ loadWord 0x2000 ∷ []

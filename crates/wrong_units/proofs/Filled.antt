@@ -71,7 +71,7 @@ place-end : placeOf area trail none mappedWords 0 [] 0x9203 ≡ end (heldRecord 
 unfolding besides placeOf downOf
 place-end = rw (enter-clear area none mappedWords 8 ready no-top)
 
-inserts : insertOf area trail none mappedWords (0 ∷ []) 0x9203 ≡ end (heldRecord .pools .shadow) (To 4) heldWords
+pub inserts : insertOf area trail none mappedWords (0 ∷ []) 0x9203 ≡ end (heldRecord .pools .shadow) (To 4) heldWords
 inserts = insert-place ∙ place-end
 
 pub fills : callOf (loadWord 0) marked mappedWords ≡ ended heldRecord (answer.Value 0x3003 16 1) heldWords

@@ -4,7 +4,7 @@ use Prim.Native.Nat.{ℕ, suc}
 use mathlib.Core.Bool.{Bool, true, false, _&&_, _||_, cond}
 use mathlib.Core.List.{List, [], _∷_}
 use mathlib.Core.Option.{Option, none, some}
-use lib.Dec.{leb, ltb}
+use lib.Dec.{eqb, leb, ltb}
 use lib.ListN.{length, replicate}
 use Rattle.spec.specs.declared.Fault.{Fault}
 use Rattle.spec.specs.declared.Fault.the-variants.{HostReadOnly}
@@ -22,6 +22,7 @@ use Rattle.words.specs.After.{After, yields}
 use Rattle.words.specs.Words.{wordIn, setIn}
 use Rattle.layout.specs.declared.HostWalk.{HostWalk}
 use Rattle.layout.specs.declared.HostWalk.the-variants as host
+use Rattle.pool.specs.declared.Pool.{Pool}
 use Rattle.walk.specs.declared.Walked.{Walked}
 use Rattle.walk.specs.declared.Walked.the-variants as walked
 use Rattle.walk.specs.declared.Trail.{Trail}
@@ -34,11 +35,12 @@ use Rattle.translate.specs.declared.Translated.{Translated}
 use Rattle.translate.specs.declared.Checked.{Checked}
 use Rattle.translate.specs.declared.Checked.the-variants as checked
 use Rattle.translate.specs.Translate.{pathIndexes, whole, translation, damaged, faulted, directOf, checkedOf, throughOf, unshadowedOf, servesOf, foundOf, filledOf, laxOf, arrivedOf}
+use Rattle.request.specs.declared.Put.{Put}
 use Rattle.request.specs.declared.Served.{Served}
 use Rattle.request.specs.Access as access
-use Rattle.request.specs.Access.{serving, settledOf}
+use Rattle.request.specs.Access.{serving, settledOf, put}
 use Rattle.calls.specs.declared.Reply.{Reply}
-use Rattle.calls.specs.Calls.{hostTop, heldOf, rootOf, withHeld, nothing, ended, refused, judged, placed, servedBy, depthAt, addressOk, translatedOf, callOf}
+use Rattle.calls.specs.Calls.{hostTop, heldOf, rootOf, withHeld, ended, refused, judged, placed, servedBy, depthAt, addressOk, translatedOf, callOf}
 use Rattle.forecast.specs.Forecast.{start}
 use Rattle.wrong_units.specs.Unit.{Calls}
 use Rattle.wrong_units.specs.Changed.{Does, onLoads, onStores, onForecasts}
@@ -138,14 +140,20 @@ setsAfter = onLoads loadLate callOf
 
 -- ---- held paths
 
--- a load that sets a bit drops all that is held
-abbrev pub loadDropping : ℕ → ℕ → Does
-loadDropping a w r m =
-    let e : After Reply = callOf (load a w) r m in
-    cond (translatedOf r m false a .result .sets) (ended (withHeld (e .result .unit) nothing) (e .result .answer) (e .memory)) e
+-- a load's own bit writes drop what a store to the word would drop. m: the memory before it, k: after it
+abbrev pub dropChanged : Config → List ℕ → List ℕ → Pool → List (ℕ × ℕ) → After Put
+dropChanged c m k p [] = put p 0 true k
+dropChanged c m k p (x ∷ xs) =
+    let s : After Put = access.droppedOf c k p (x .0) (x .1) in
+    cond (eqb (wordIn m (x .0) (x .1)) (wordIn k (x .0) (x .1))) (dropChanged c m k p xs) (dropChanged c m (s .memory) (s .result .pool) xs)
+
+abbrev pub ownDropped : Record → List ℕ → ℕ → After Reply → After Reply
+ownDropped r m a e =
+    let s : After Put = dropChanged (configOf r) m (e .memory) (e .result .unit .pools .shadow) ((walkOf r m false a) .reads) in
+    ended (withHeld (e .result .unit) (record { pool = s .result .pool; frame = e .result .unit .guest .held })) (e .result .answer) (s .memory)
 
 unfoldable pub bitsDrop : Calls
-bitsDrop = onLoads loadDropping callOf
+bitsDrop = onLoads (λ a w r m. ownDropped r m a (callOf (load a w) r m)) callOf
 
 -- a translation is ours with what a request does past its shadow part as an argument
 abbrev pub Arrives : Type 0
