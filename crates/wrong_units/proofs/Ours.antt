@@ -3,34 +3,37 @@
 -- Assumes nothing.
 use mathlib.Core.Path.{_≡_, refl, sym, ap, _∙_, subst}
 use Prim.Native.Nat.{ℕ}
-use mathlib.Core.Bool.{true, false, not, cond}
+use mathlib.Core.Bool.{Bool, true, false, not, cond}
 use mathlib.Core.List.{List, [], _∷_}
-use lib.Dec.{leb}
+use lib.Dec.{leb, ltb}
 use lib.ListN.{length, replicate}
 use Rattle.spec.specs.Answer.{Line, line}
-use Rattle.spec.specs.Call.{Call, store, device, forecast}
+use Rattle.spec.specs.Call.{Call, load, store, device, forecast}
 use Rattle.spec.specs.Config.{Config}
 use Rattle.spec.specs.Entry.{pageOf}
-use Rattle.spec.specs.Plain.{next}
+use Rattle.spec.specs.Plain.{next, walk}
 use Rattle.spec.specs.Refusal.{forecastRoom}
 use Rattle.spec.specs.Run.{State, step, opened}
 use Rattle.spec.specs.Serving.{exitsPaid, allPaid}
-use Rattle.words.specs.After.{After}
+use Rattle.words.specs.After.{After, yields}
+use Rattle.layout.specs.declared.HostWalk.{HostWalk}
+use Rattle.layout.specs.declared.HostWalk.the-variants as host
 use Rattle.walk.specs.declared.Walked.{Walked}
 use Rattle.walk.specs.declared.Walked.the-variants as walked
-use Rattle.walk.specs.Memory.{walkedOf}
+use Rattle.walk.specs.Memory.{walkedOf, trailOf}
 use Rattle.record.specs.declared.Record.{Record}
 use Rattle.record.specs.Record.{configOf, configBy}
 use Rattle.record.specs.Open.{grantedOf}
 use Rattle.translate.specs.declared.Held.{Held}
 use Rattle.translate.specs.declared.Translated.{Translated}
-use Rattle.request.specs.Access.{settledOf, bytesIn, storeBy, storeOf, deviceBy, deviceOf}
+use Rattle.translate.specs.Translate.{pathIndexes, throughOf, unshadowedOf, servesOf, foundOf, arrivedOf, missedBy, missedOf, foundBy, translateOf}
+use Rattle.request.specs.Access.{settledOf, bytesIn, loadFrom, loadOf, storeBy, storeOf, deviceBy, deviceOf}
 use Rattle.calls.specs.declared.Reply.{Reply}
 use Rattle.forecast.specs.declared.Outlook.{Outlook}
 use Rattle.forecast.specs.declared.Next.{Next}
 use Rattle.forecast.specs.declared.Next.the-variants.{Go, Damaged}
 use Rattle.forecast.specs.Forecast.{addressOf, onward, listOf, start, forecastOf}
-use Rattle.calls.specs.Calls.{hostTop, heldOf, rootOf, keysOf, ended, judged, placed, refused, servedBy, addressOk, lookupAt, translatedOf, openCall, callOf, loadCall, storeCall, deviceCall, forecastCall}
+use Rattle.calls.specs.Calls.{hostTop, heldOf, rootOf, keysOf, ended, judged, placed, refused, servedBy, addressOk, lookupAt, depthAt, translatedOf, openCall, callOf, loadCall, storeCall, deviceCall, forecastCall}
 use Rattle.claims.specs.Run.{guestArea, unitRun, unitAfter}
 use Rattle.claims.specs.Counted.{SameWords, SetsNone, countedOf, touchedOf}
 use Rattle.claims.proofs.Invariant.{Inv}
@@ -44,6 +47,7 @@ use Rattle.claims.proofs.Lookups.{run-lookup}
 use Rattle.claims.proofs.Quiet.{quiet-day}
 use Rattle.wrong_units.specs.Unit.{runBy, afterBy, specified, Demand-3, Demand-2, QuietDay, Calls, told, unitBy, cangrieb, WordsCounted, Lookups}
 use Rattle.wrong_units.specs.Wrong.{ourDrops, storeAs, storeWith, deviceAs, deviceWith, ourStep, ourEnd, listWith, forecastWith}
+use Rattle.wrong_units.specs.WrongBits.{ourSets, loadSetting, storeSetting, missedAs, missedWith, foundAs, translateWith, loadArriving}
 
 -- a table of calls that does what ours does on every record and memory that stand for a machine and a book
 abbrev pub AsOurs : Calls → Type 0
@@ -136,7 +140,7 @@ pub store-with-ours : (r : Record) (m : List ℕ) (a w v : ℕ) → storeWith ou
 unfolding storeWith callOf storeCall storeOf translatedOf
 store-with-ours r m a w v =
     let o = translatedOf r m true a in
-    ap (λ s. placed r m w (addressOk false (configOf r) a w) (servedBy r s)) 
+    ap (λ s. placed r m w (addressOk false (configOf r) a w) (servedBy r s))
     (store-as-ours (configOf r) (heldOf r) a w v (settledOf (configOf r) (hostTop r) (rootOf r) true a (o .result .sets)) o (o .result .walked))
 
 device-as-ours : (c : Config) (m : List ℕ) (h : Held) (a w v : ℕ) (y : Walked) → deviceAs ourDrops bytesIn c m h a w v y ≡ deviceBy c m h a w v y
@@ -169,3 +173,39 @@ unfolding forecastWith callOf forecastCall forecastOf
 forecast-with-ours r m xs =
     ap (λ x. judged r m (cond (not (configOf r .bits)) (cond (leb (length xs) forecastRoom) (ended r x m) (refused r 14 m)) (refused r 16 m)))
     (list-as-ours r m (replicate forecastRoom 0) (start (r .pools .shadow .used)) xs)
+
+-- ---- and so are those of specs/WrongBits.antt
+
+pub load-setting-ours : (r : Record) (m : List ℕ) (a w : ℕ) → loadSetting ourSets a w r m ≡ callOf (load a w) r m
+unfolding loadSetting callOf loadCall loadOf translatedOf
+load-setting-ours r m a w = refl
+
+pub store-setting-ours : (r : Record) (m : List ℕ) (a w v : ℕ) → storeSetting ourSets a w v r m ≡ callOf (store a w v) r m
+unfolding storeSetting callOf storeCall storeOf translatedOf
+store-setting-ours r m a w v = refl
+
+missed-as-ours : (c : Config) (ht : ℕ) (m : List ℕ) (h : Held) (root : ℕ) (st : Bool) (a d : ℕ) (gs : List ℕ) (x : Walked)
+    → missedAs arrivedOf c ht m h root st a d gs x ≡ missedBy c ht m h root st a d gs x
+missed-as-ours c ht m h root st a d gs (walked.Arrived t w n) = refl
+missed-as-ours c ht m h root st a d gs (walked.Faulted x n) = refl
+missed-as-ours c ht m h root st a d gs walked.Damaged = refl
+
+missed-with-ours : (c : Config) (ht : ℕ) (m : List ℕ) (h : Held) (root : ℕ) (st : Bool) (a d : ℕ) → missedWith arrivedOf c ht m h root st a d ≡ missedOf c ht m h root st a d
+unfolding missedOf
+missed-with-ours c ht m h root st a d = let r = trailOf c ht m 0 (walk c st root (pathIndexes c d a)) in missed-as-ours c ht m h root st a d (r .tables) (r .walked)
+
+found-as-ours : (c : Config) (ht : ℕ) (m : List ℕ) (h : Held) (root : ℕ) (st : Bool) (a d : ℕ) (x : HostWalk)
+    → foundAs arrivedOf c ht m h root st a d x ≡ foundBy c ht m h root st a d x
+found-as-ours c ht m h root st a d (host.Found t w) = ap (cond (servesOf st d w) (yields (throughOf c ht m h root st a d (t .0) w) m)) (missed-with-ours c ht m h root st a d)
+found-as-ours c ht m h root st a d (host.Absent n) = missed-with-ours c ht m h root st a d
+found-as-ours c ht m h root st a d host.Damaged = refl
+
+translate-with-ours : (c : Config) (ht : ℕ) (m : List ℕ) (h : Held) (root : ℕ) (st : Bool) (a d : ℕ) → translateWith arrivedOf c ht m h root st a d ≡ translateOf c ht m h root st a d
+unfolding translateOf
+translate-with-ours c ht m h root st a d = ap (cond (ltb (c .levels) d) (yields (unshadowedOf c ht m h root st a d) m)) (found-as-ours c ht m h root st a d (foundOf c m h a d))
+
+pub load-arriving-ours : (r : Record) (m : List ℕ) (a w : ℕ) → loadArriving arrivedOf a w r m ≡ callOf (load a w) r m
+unfolding loadArriving callOf loadCall loadOf
+load-arriving-ours r m a w =
+    ap (λ (o : After Translated). placed r m w (addressOk false (configOf r) a w) (servedBy r (loadFrom (configOf r) (hostTop r) (rootOf r) (heldOf r) a w o)))
+    (translate-with-ours (configOf r) (hostTop r) m (heldOf r) (rootOf r) false a (depthAt r a))
