@@ -341,7 +341,17 @@ fn written(
     if !put.ok {
         return refused(before, 11);
     }
-    finish(mem, held, put, page, address, width, value, references, exits)
+    finish(
+        mem,
+        held,
+        put,
+        page,
+        address,
+        width,
+        value,
+        references,
+        exits,
+    )
 }
 
 // What a store does that came so far, with no bit to set.
@@ -365,7 +375,16 @@ fn stored(
             writable,
             reads,
         } => written(
-            mem, layout, before, held, page, address, width, value, reads, exits,
+            mem,
+            layout,
+            before,
+            held,
+            page,
+            address,
+            width,
+            value,
+            reads,
+            exits,
         ),
         Walked::Faulted { fault, reads } => Served {
             held: held,
@@ -406,19 +425,26 @@ fn stored_by_bits(
                 return refused(before, 11);
             }
             settle(mem, space, root, true, address, walked, t.sets);
-            finish(mem, held, put, page, address.0, width, value, reads, t.exits)
+            finish(
+                mem,
+                held,
+                put,
+                page,
+                address.0,
+                width,
+                value,
+                reads,
+                t.exits,
+            )
         }
-        Walked::Faulted { fault, reads } => stored(
-            mem,
-            space.layout,
-            before,
-            held,
-            walked,
-            t.exits,
-            address.0,
-            width,
-            value,
-        ),
+        Walked::Faulted { fault, reads } => Served {
+            held: held,
+            answer: Answer::Faulted {
+                fault: fault,
+                references: reads,
+                exits: t.exits,
+            },
+        },
         Walked::Damaged => refused(before, 11),
     }
 }
@@ -460,23 +486,7 @@ pub fn store(
                         value,
                     );
                 }
-                let part = translate::direct_part(mem, space, request, page, writable);
-                let walked = part.walked;
-                if !part.lack {
-                    let exits = translate::exit_of(walked);
-                    return stored(
-                        mem,
-                        space.layout,
-                        held,
-                        held,
-                        walked,
-                        exits,
-                        address.0,
-                        width,
-                        value,
-                    );
-                }
-                let t = translate::judged(mem, space, root, held, request, walked);
+                let t = translate::through(mem, space, root, held, request, page, writable);
                 return stored_by_bits(mem, space, root, held, t, address, width, value);
             }
             HostWalk::Absent { reads } => {}

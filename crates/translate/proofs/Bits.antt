@@ -203,6 +203,10 @@ module _ (c : Config) (ht : ℕ) (m : List ℕ) (h : Held) (root : ℕ) (st : Bo
         ap (λ b. cond b (judgedBy h (lack c ht m st a d t v) (checkedOf c ht m root st a d) (directOf c ht m st a d t v)) (servedOf c ht m h st a d t v 0)) e
         ∙ ap₂ (λ b y. judgedBy h b (checkedOf c ht m root st a d) y) x k
 
+    -- an end before the word is said as it is, whatever lacks
+    pub through-end : (r : Walked) → c .bits ≡ true → directOf c ht m st a d t v ≡ r → throughOf c ht m h root st a d t v ≡ judgedBy h (lack c ht m st a d t v) (checkedOf c ht m root st a d) r
+    through-end r e k = through-on (lack c ht m st a d t v) r e refl k
+
     -- judged where a bit lacks, and otherwise served as ever
     pub through-part : throughOf c ht m h root st a d t v
         ≡ cond (partOf c ht m st a d t v .lack) (judgedBy h true (checkedOf c ht m root st a d) (directOf c ht m st a d t v)) (servedOf c ht m h st a d t v 0)
@@ -218,6 +222,15 @@ module _ (c : Config) (ht : ℕ) (m : List ℕ) (h : Held) (root : ℕ) (st : Bo
         by true false (walked.Arrived p x n) = refl
         by true l (walked.Faulted x n) = ap (λ e. translation h e (walked.Faulted x n) false) (sym (zero-add (exitBy (walked.Faulted x n))))
         by true l walked.Damaged = refl
+
+    -- by the part that was walked
+    pub through-by : (x : Part) → x ≡ partOf c ht m st a d t v
+        → throughOf c ht m h root st a d t v ≡ cond (x .lack) (judgedBy h true (checkedOf c ht m root st a d) (x .walked)) (translation h (exitBy (x .walked)) (x .walked) false)
+    unfolding partOf servedOf
+    through-by x e =
+        through-part
+        ∙ ap (λ k. cond (partOf c ht m st a d t v .lack) (judgedBy h true (checkedOf c ht m root st a d) (directOf c ht m st a d t v)) (translation h k (directOf c ht m st a d t v) false)) (zero-add (exitBy (directOf c ht m st a d t v)))
+        ∙ sym (ap (λ (y : Part). cond (y .lack) (judgedBy h true (checkedOf c ht m root st a d) (y .walked)) (translation h (exitBy (y .walked)) (y .walked) false)) e)
 
     module _ (gs : List ℕ) (n : ℕ) where
       pub arrived-off : c .bits ≡ false → arrivedOf c ht m h root gs st a d n t v ≡ laxOf c m h gs a d t v (directOf c ht m st a d t v)

@@ -5,7 +5,7 @@ ghost use Prim.Native.Nat.{_-_, _<_, _≤_};
 ghost use Rattle.spec.specs.Entry.{indexes, pageOf, frameLimit};
 ghost use Rattle.words.specs.After.{yields};
 ghost use Rattle.layout.specs.Layout.{LayoutFits, config};
-ghost use Rattle.translate.specs.Translate.{exitBy, ReadsFrom, translation, whole, directOf, servedOf, plainOf, checkedOf, debtBy, entriesOf, settledBy, judgedBy, bitlessOf, partOf, unshadowedOf, servesOf, pathOf, foundOf, filledOf, passesOf, faulted, strictBy, brokenBy, laxOf, missedOf, unservedOf};
+ghost use Rattle.translate.specs.Translate.{exitBy, ReadsFrom, translation, whole, directOf, servedOf, plainOf, checkedOf, debtBy, entriesOf, settledBy, judgedBy, bitlessOf, partOf, throughOf, unshadowedOf, servesOf, pathOf, foundOf, filledOf, passesOf, faulted, strictBy, brokenBy, laxOf, missedOf, unservedOf};
 ghost use Rattle.walk.specs.Memory.{trailOf};
 ghost use Rattle.accessed.specs.Entries.{entries, Frames};
 use accessed::Debt;
@@ -363,6 +363,27 @@ pub fn judged(
         Walked::Faulted { fault, reads } => stopped(held, walked),
         Walked::Damaged => damaged(held),
     }
+}
+
+// A request that a held path serves, which leads to that page or table: judged by its bits where one lacks.
+pub fn through(
+    mem: &[u64],
+    space: Space,
+    root: GuestPhysical,
+    held: Held,
+    request: Request,
+    page: HostPhysical,
+    writable: bool,
+) -> Translated
+    requires { ⌜ (LayoutFits (space .layout)) × (request .depth ≤ space .layout .levels) × (page .0 < frameLimit) ⌝ }
+    ensures { λ r. ⌜ r ≡ throughOf (config (space .layout)) (space .top) (now (mem .entry)) held (root .0) (request .store) (request .address .0) (request .depth) (page .0) writable ⌝ }
+{
+    let part = direct_part(mem, space, request, page, writable);
+    let walked = part.walked;
+    if part.lack {
+        return judged(mem, space, root, held, request, walked);
+    }
+    stopped(held, walked)
 }
 
 // A request at the depth where nothing is shadowed.

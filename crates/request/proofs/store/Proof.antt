@@ -4,16 +4,14 @@ use mathlib.Core.Logic.{⊎-elim}
 use mathlib.Core.Bool.{true, false}
 use Prim.Native.Nat.{_≤_}
 use native.Mathlib.Omega.{arith}
-use borrow.Author.Tests.{not-true, not-false}
 use Rattle.words.specs.After.{After, yields}
 use Rattle.layout.specs.Layout.{config}
-use Rattle.translate.specs.declared.Part.{Part}
 use Rattle.translate.specs.declared.Translated.{Translated}
-use Rattle.translate.specs.Translate.{translation, exitBy, partOf, judgedBy}
+use Rattle.translate.specs.Translate.{translation, exitBy}
 use Rattle.translate.proofs.Fits.{exit-few, held-small}
 use Rattle.translate.proofs.Bits.{part-bitless}
 use Rattle.request.specs.Access.{ReachesFrame, storeFrom, storeOf}
-use Rattle.request.proofs.Held.{path-plainly, path-judged, path-small, path-missed, path-none, path-broken, reaches-as, leaves-as, store-plainly}
+use Rattle.request.proofs.Held.{path-plainly, path-serves, path-small, path-missed, path-none, path-broken, reaches-as, leaves-as, store-plainly}
 use borrow.Author.Needs.{needs}
 use Rattle.request.proofs.store.Statement.{statement}
 use Rattle.request.proofs.store.Tie as tie
@@ -60,7 +58,7 @@ same-length : tie.Need-same-length
 same-length c = search needs
 
 returns : tie.Need-returns
-unfolding storeOf partOf
+unfolding storeOf
 returns c =
     let mem = c .before .mem in
     let stored = c .before .before .stored in
@@ -80,8 +78,8 @@ returns c =
     ∙ ap (λ e. (storeFrom (config (args .space .layout)) (args .space .top) (args .root .0) (args .held) (args .address .0) (args .width) (args .value)) (yields (translation (args .held) e end false) (args .mem .now))) (exit-of .ensures)
     ∙ ap (λ r. (storeFrom (config (args .space .layout)) (args .space .top) (args .root .0) (args .held) (args .address .0) (args .width) (args .value)) (yields (translation (args .held) (exitBy r) r false) (args .mem .now))) (direct .ensures) ∙ sym (ap (storeFrom (config (args .space .layout)) (args .space .top) (args .root .0) (args .held) (args .address .0) (args .width) (args .value)) went)
 
-direct-part-requires : tie.Need-direct-part-requires
-direct-part-requires c κs =
+through-requires : tie.Need-through-requires
+through-requires c κs =
     let page = c .before .before .before .before .page in
     let path-held = c .before .before .before .before .before .before .path-held in
     let if1 = c .before .before .before .before .before .before .before .before .if1 in
@@ -90,90 +88,33 @@ direct-part-requires c κs =
     let found = sym (path-held .ensures) ∙ page .given .1 in
     (pre .0, if1 .taken, path-small (config (args .space .layout)) (args .space .top) (args .mem .now) (args .held) (args .root .0) true (args .address .0) (args .depth) (pre .0 .3) (held-small (config (args .space .layout)) (args .held) (pre .1) (pre .0 .3)) _ _ found)
 
-exit-of-requires-2 : tie.Need-exit-of-requires-2
-exit-of-requires-2 c κs = search needs
-
-stored-requires-2 : tie.Need-stored-requires-2
-unfolding partOf
-stored-requires-2 c κs =
-    let exit-of2 = c .before .exit-of2 in
-    let if3 = c .before .before .if3 in
-    let direct-part = c .before .before .before .before .direct-part in
-    let page = c .before .before .before .before .before .before .before .before .before .page in
-    let path-held = c .before .before .before .before .before .before .before .before .before .before .before .path-held in
-    let if1 = c .before .before .before .before .before .before .before .before .before .before .before .before .before .if1 in
-    let args = c .before .before .before .before .before .before .before .before .before .before .before .before .before .before .before .before .args in
-    let pre = c .before .before .before .before .before .before .before .before .before .before .before .before .before .before .before .before .pre in
+stored-by-bits-requires : tie.Need-stored-by-bits-requires
+stored-by-bits-requires c κs =
+    let through = c .before .through in
+    let page = c .before .before .before .before .before .before .page in
+    let path-held = c .before .before .before .before .before .before .before .before .path-held in
+    let if1 = c .before .before .before .before .before .before .before .before .before .before .if1 in
+    let args = c .before .before .before .before .before .before .before .before .before .before .before .before .before .args in
+    let pre = c .before .before .before .before .before .before .before .before .before .before .before .before .before .pre in
     let found = sym (path-held .ensures) ∙ page .given .1 in
-    let none = sym (ap (λ (x : Part). x .lack) (direct-part .ensures)) ∙ not-true (direct-part .result .lack) (if3 .taken) in
-    let came = ap (λ (x : Part). x .walked) (direct-part .ensures) in
-    let went = path-plainly (config (args .space .layout)) (args .space .top) (args .mem .now) (args .held) (args .root .0) true (args .address .0) (args .depth) _ _ none (if1 .taken) found in
-    (pre .0, pre .1 .0, subst ReachesFrame (sym came) (reaches-as (config (args .space .layout)) (args .space .top) (args .mem .now) (args .held) (args .root .0) true (args .address .0) (args .depth) (pre .1) _ (pre .0 .3) went), pre .2, rw (exit-of2 .ensures) (exit-few (direct-part .result .walked)))
+    let went = path-serves (config (args .space .layout)) (args .space .top) (args .mem .now) (args .held) (args .root .0) true (args .address .0) (args .depth) _ _ (if1 .taken) found in
+    (pre .0, subst (λ (o : Translated). o .held .pool .fresh ≤ args .space .layout .shadows) (sym (through .ensures)) (leaves-as (config (args .space .layout)) (args .space .top) (args .mem .now) (args .held) (args .root .0) true (args .address .0) (args .depth) (pre .1) _ went .held .0), subst (λ (o : Translated). ReachesFrame (o .walked)) (sym (through .ensures)) (reaches-as (config (args .space .layout)) (args .space .top) (args .mem .now) (args .held) (args .root .0) true (args .address .0) (args .depth) (pre .1) _ (pre .0 .3) went), pre .2, subst (λ (o : Translated). o .exits ≤ 65536) (sym (through .ensures)) (let k = leaves-as (config (args .space .layout)) (args .space .top) (args .mem .now) (args .held) (args .root .0) true (args .address .0) (args .depth) (pre .1) _ went .exits in omega (arith, k)))
 
 same-length-2 : tie.Need-same-length-2
 same-length-2 c = search needs
 
 returns-2 : tie.Need-returns-2
-unfolding storeOf partOf
+unfolding storeOf
 returns-2 c =
-    let stored2 = c .before .before .stored2 in
-    let exit-of2 = c .before .before .before .before .exit-of2 in
-    let if3 = c .before .before .before .before .before .if3 in
-    let direct-part = c .before .before .before .before .before .before .before .direct-part in
-    let page = c .before .before .before .before .before .before .before .before .before .before .before .before .page in
-    let path-held = c .before .before .before .before .before .before .before .before .before .before .before .before .before .before .path-held in
-    let if1 = c .before .before .before .before .before .before .before .before .before .before .before .before .before .before .before .before .if1 in
-    let args = c .before .before .before .before .before .before .before .before .before .before .before .before .before .before .before .before .before .before .before .args in
-    let found = sym (path-held .ensures) ∙ page .given .1 in
-    let none = sym (ap (λ (x : Part). x .lack) (direct-part .ensures)) ∙ not-true (direct-part .result .lack) (if3 .taken) in
-    let came = ap (λ (x : Part). x .walked) (direct-part .ensures) in
-    let went = path-plainly (config (args .space .layout)) (args .space .top) (args .mem .now) (args .held) (args .root .0) true (args .address .0) (args .depth) _ _ none (if1 .taken) found in
-    let end = direct-part .result .walked in
-    stored2 .ensures ∙ store-plainly (config (args .space .layout)) (args .space .top) (args .root .0) (args .held) (args .held) (args .address .0) (args .width) (args .value) (exit-of2 .result) end (args .mem .now)
-    ∙ ap (λ e. (storeFrom (config (args .space .layout)) (args .space .top) (args .root .0) (args .held) (args .address .0) (args .width) (args .value)) (yields (translation (args .held) e end false) (args .mem .now))) (exit-of2 .ensures)
-    ∙ ap (λ r. (storeFrom (config (args .space .layout)) (args .space .top) (args .root .0) (args .held) (args .address .0) (args .width) (args .value)) (yields (translation (args .held) (exitBy r) r false) (args .mem .now))) came ∙ sym (ap (storeFrom (config (args .space .layout)) (args .space .top) (args .root .0) (args .held) (args .address .0) (args .width) (args .value)) went)
-
-judged-requires : tie.Need-judged-requires
-judged-requires c κs = search needs
-
-stored-by-bits-requires : tie.Need-stored-by-bits-requires
-unfolding partOf
-stored-by-bits-requires c κs =
-    let judged = c .before .judged in
-    let if3 = c .before .before .before .if3 in
-    let direct-part = c .before .before .before .before .before .direct-part in
-    let page = c .before .before .before .before .before .before .before .before .before .before .page in
-    let path-held = c .before .before .before .before .before .before .before .before .before .before .before .before .path-held in
-    let if1 = c .before .before .before .before .before .before .before .before .before .before .before .before .before .before .if1 in
-    let args = c .before .before .before .before .before .before .before .before .before .before .before .before .before .before .before .before .before .args in
-    let pre = c .before .before .before .before .before .before .before .before .before .before .before .before .before .before .before .before .before .pre in
-    let found = sym (path-held .ensures) ∙ page .given .1 in
-    let some = sym (ap (λ (x : Part). x .lack) (direct-part .ensures)) ∙ not-false (direct-part .result .lack) (if3 .left) in
-    let came = ap (λ (x : Part). x .walked) (direct-part .ensures) in
-    let went = path-judged (config (args .space .layout)) (args .space .top) (args .mem .now) (args .held) (args .root .0) true (args .address .0) (args .depth) _ _ some (if1 .taken) found in
-    let leads = judged .ensures ∙ ap (judgedBy (args .held) true _) came in
-    (pre .0, subst (λ (o : Translated). o .held .pool .fresh ≤ args .space .layout .shadows) (sym leads) (leaves-as (config (args .space .layout)) (args .space .top) (args .mem .now) (args .held) (args .root .0) true (args .address .0) (args .depth) (pre .1) _ went .held .0), subst (λ (o : Translated). ReachesFrame (o .walked)) (sym leads) (reaches-as (config (args .space .layout)) (args .space .top) (args .mem .now) (args .held) (args .root .0) true (args .address .0) (args .depth) (pre .1) _ (pre .0 .3) went), pre .2, subst (λ (o : Translated). o .exits ≤ 65536) (sym leads) (let k = leaves-as (config (args .space .layout)) (args .space .top) (args .mem .now) (args .held) (args .root .0) true (args .address .0) (args .depth) (pre .1) _ went .exits in omega (arith, k)))
-
-same-length-3 : tie.Need-same-length-3
-same-length-3 c = search needs
-
-returns-3 : tie.Need-returns-3
-unfolding storeOf partOf
-returns-3 c =
     let stored-by-bits = c .before .before .stored-by-bits in
-    let judged = c .before .before .before .before .judged in
-    let if3 = c .before .before .before .before .before .before .if3 in
-    let direct-part = c .before .before .before .before .before .before .before .before .direct-part in
-    let page = c .before .before .before .before .before .before .before .before .before .before .before .before .before .page in
-    let path-held = c .before .before .before .before .before .before .before .before .before .before .before .before .before .before .before .path-held in
-    let if1 = c .before .before .before .before .before .before .before .before .before .before .before .before .before .before .before .before .before .if1 in
-    let args = c .before .before .before .before .before .before .before .before .before .before .before .before .before .before .before .before .before .before .before .before .args in
+    let through = c .before .before .before .before .through in
+    let page = c .before .before .before .before .before .before .before .before .before .page in
+    let path-held = c .before .before .before .before .before .before .before .before .before .before .before .path-held in
+    let if1 = c .before .before .before .before .before .before .before .before .before .before .before .before .before .if1 in
+    let args = c .before .before .before .before .before .before .before .before .before .before .before .before .before .before .before .before .args in
     let found = sym (path-held .ensures) ∙ page .given .1 in
-    let some = sym (ap (λ (x : Part). x .lack) (direct-part .ensures)) ∙ not-false (direct-part .result .lack) (if3 .left) in
-    let came = ap (λ (x : Part). x .walked) (direct-part .ensures) in
-    let went = path-judged (config (args .space .layout)) (args .space .top) (args .mem .now) (args .held) (args .root .0) true (args .address .0) (args .depth) _ _ some (if1 .taken) found in
-    let leads = judged .ensures ∙ ap (judgedBy (args .held) true _) came in
-    stored-by-bits .ensures ∙ ap (λ (o : Translated). (storeFrom (config (args .space .layout)) (args .space .top) (args .root .0) (args .held) (args .address .0) (args .width) (args .value)) (yields o (args .mem .now))) leads ∙ sym (ap (storeFrom (config (args .space .layout)) (args .space .top) (args .root .0) (args .held) (args .address .0) (args .width) (args .value)) went)
+    let went = path-serves (config (args .space .layout)) (args .space .top) (args .mem .now) (args .held) (args .root .0) true (args .address .0) (args .depth) _ _ (if1 .taken) found in
+    stored-by-bits .ensures ∙ ap (λ (o : Translated). (storeFrom (config (args .space .layout)) (args .space .top) (args .root .0) (args .held) (args .address .0) (args .width) (args .value)) (yields o (args .mem .now))) (through .ensures) ∙ sym (ap (storeFrom (config (args .space .layout)) (args .space .top) (args .root .0) (args .held) (args .address .0) (args .width) (args .value)) went)
 
 enum-known-reads : tie.Need-enum-known-reads
 enum-known-reads c = search needs
@@ -184,12 +125,12 @@ enum-told c = search needs
 refused-requires : tie.Need-refused-requires
 refused-requires c κs = search needs
 
-same-length-4 : tie.Need-same-length-4
-same-length-4 c = search needs
+same-length-3 : tie.Need-same-length-3
+same-length-3 c = search needs
 
-returns-4 : tie.Need-returns-4
+returns-3 : tie.Need-returns-3
 unfolding storeOf
-returns-4 c =
+returns-3 c =
     let refused = c .refused in
     let enum-told = c .before .enum-told in
     let path-held = c .before .before .before .path-held in
@@ -210,12 +151,12 @@ stored-by-bits-requires-2 c κs =
     let unserved-is = ⊎-elim (λ w. path-missed (config (args .space .layout)) (args .space .top) (args .mem .now) (args .held) (args .root .0) true (args .address .0) (args .depth) _ (w .0 .taken) (sym (w .2 .ensures) ∙ w .4 .given .1)) (λ w. path-none (config (args .space .layout)) (args .space .top) (args .mem .now) (args .held) (args .root .0) true (args .address .0) (args .depth) (w .left)) (if1 .came) in
     (pre .0, subst (λ (o : After Translated). o .result .held .pool .fresh ≤ args .space .layout .shadows) (sym (unserved .ensures)) (leaves-as (config (args .space .layout)) (args .space .top) (args .mem .now) (args .held) (args .root .0) true (args .address .0) (args .depth) (pre .1) _ unserved-is .held .0), subst (λ (o : After Translated). ReachesFrame (o .result .walked)) (sym (unserved .ensures)) (reaches-as (config (args .space .layout)) (args .space .top) (args .mem .now) (args .held) (args .root .0) true (args .address .0) (args .depth) (pre .1) _ (pre .0 .3) unserved-is), pre .2, subst (λ (o : After Translated). o .result .exits ≤ 65536) (sym (unserved .ensures)) (let k = leaves-as (config (args .space .layout)) (args .space .top) (args .mem .now) (args .held) (args .root .0) true (args .address .0) (args .depth) (pre .1) _ unserved-is .exits in omega (arith, k)))
 
-same-length-5 : tie.Need-same-length-5
-same-length-5 c = search needs
+same-length-4 : tie.Need-same-length-4
+same-length-4 c = search needs
 
-returns-5 : tie.Need-returns-5
+returns-4 : tie.Need-returns-4
 unfolding storeOf
-returns-5 c =
+returns-4 c =
     let stored-by-bits2 = c .before .before .stored-by-bits2 in
     let unserved = c .before .before .before .before .before .before .unserved in
     let if1 = c .before .before .before .before .before .before .before .before .if1 in
@@ -235,21 +176,16 @@ store-spec =
     stored-requires
     same-length
     returns
-    direct-part-requires
-    exit-of-requires-2
-    stored-requires-2
+    through-requires
+    stored-by-bits-requires
     same-length-2
     returns-2
-    judged-requires
-    stored-by-bits-requires
-    same-length-3
-    returns-3
     enum-known-reads
     enum-told
     refused-requires
-    same-length-4
-    returns-4
+    same-length-3
+    returns-3
     unserved-requires
     stored-by-bits-requires-2
-    same-length-5
-    returns-5)
+    same-length-4
+    returns-4)

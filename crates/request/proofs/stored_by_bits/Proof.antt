@@ -48,9 +48,6 @@ finish-requires c κs =
 enum-known-walked-2 : tie.Need-enum-known-walked-2
 enum-known-walked-2 c = search needs
 
-stored-requires : tie.Need-stored-requires
-stored-requires c κs = search needs
-
 enum-told : tie.Need-enum-told
 enum-told c = search needs
 
@@ -69,14 +66,10 @@ returns-2 c =
     let walked = c .before .before .before .before .before .before .before .before .before .before .before .before .before .before .before .walked in
     rw (walked .given .1, ← drop-readers .ensures, not-false (drop-readers .result .ok) (if1 .left), ← settle .ensures) (finish .ensures)
 
-same-length-3 : tie.Need-same-length-3
-same-length-3 c = search needs
-
 returns-3 : tie.Need-returns-3
 returns-3 c =
-    let stored = c .before .before .stored in
-    let walked2 = c .before .before .before .before .before .walked2 in
-    rw (walked2 .given .1) (stored .ensures)
+    let walked2 = c .before .walked2 in
+    rw (walked2 .given .1)
 
 returns-4 : tie.Need-returns-4
 returns-4 c =
@@ -96,11 +89,9 @@ stored-by-bits-spec =
     settle-requires
     finish-requires
     enum-known-walked-2
-    stored-requires
     enum-told
     refused-requires-2
     same-length-2
     returns-2
-    same-length-3
     returns-3
     returns-4)
