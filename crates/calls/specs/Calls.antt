@@ -2,7 +2,7 @@
 -- Assumes nothing.
 use Prim.Native.Nat.{ℕ, _-_, _*_, _/_, _^_, _≤_}
 use mathlib.Core.Path.{_≡_}
-use mathlib.Core.Bool.{Bool, true, false, _&&_, cond}
+use mathlib.Core.Bool.{Bool, true, false, not, _&&_, cond}
 use mathlib.Core.List.{List}
 use lib.Dec.{eqb, leb, ltb}
 use lib.ListN.{length}
@@ -129,8 +129,9 @@ answerOf n = cond (eqb n 0) answer.Ok (answer.Refused n)
 abbrev pub openedBy : Record → ℕ → List ℕ → After Reply
 openedBy r n m = ended r (answerOf n) m
 
-unfoldable pub openCall : List ℕ → ℕ → ℕ → After Reply
-openCall m h s = let t = openOf m h s in openedBy (t .result .unit) (t .result .refusal) (t .memory)
+-- bits: whether it chooses accessed and dirty bits
+unfoldable pub openCall : List ℕ → ℕ → ℕ → Bool → After Reply
+openCall m h s bits = let t = openOf m h s bits in openedBy (t .result .unit) (t .result .refusal) (t .memory)
 
 -- ---- load, store, device store
 
@@ -235,10 +236,12 @@ clearMarkCall r m a n = markCall false r m a n
 
 -- ---- forecast
 
--- record and memory are handed back as they were, whatever the answer: 3, 14, then figures or 11
+-- record and memory are handed back as they were, whatever the answer: 3, 16 with bits on, 14, then figures or 11
 unfoldable pub forecastCall : Record → List ℕ → List ℕ → After Reply
 forecastCall r m xs =
-    judged r m (cond (leb (length xs) forecastRoom) (ended r (forecastOf (configOf r) (hostTop r) m (heldOf r) (rootOf r) (keysOf r) xs) m) (refused r 14 m))
+    judged r m (cond (not (configOf r .bits))
+    (cond (leb (length xs) forecastRoom) (ended r (forecastOf (configOf r) (hostTop r) m (heldOf r) (rootOf r) (keysOf r) xs) m) (refused r 14 m))
+    (refused r 16 m))
 
 -- ---- any call
 

@@ -207,12 +207,15 @@ pub fn device_store_at(
 
 // ---- forecast
 
-// What loading these addresses one after the other would cost: 3, 14, 11. Nothing is changed, so that record and memory are only lent.
+// What loading these addresses one after the other would cost: 3, 16, 14, 11. Nothing is changed, so that record and memory are only lent.
 pub fn forecast_at(head: Head, place: &[u64; 64], mem: &[u64], addresses: &[u64]) -> Answer
     ensures { λ r. ⌜ ended (recordBy head (now (place .entry))) r (now (mem .entry)) ≡ forecastCall (recordBy head (now (place .entry))) (now (mem .entry)) (now (addresses .entry)) ⌝ }
 {
     if !head.fits(place, mem.len()) {
         return Answer::Refused(3);
+    }
+    if head.layout.bits != 0 {
+        return Answer::Refused(16);
     }
     if forecast::MOST < addresses.len() {
         return Answer::Refused(14);

@@ -24,8 +24,8 @@ all-first (suc n) [] e = absurd (omega arith)
 all-first (suc n) (w ∷ ws) e = ap (λ xs. w ∷ xs) (all-first n ws (omega arith))
 
 abbrev putHeld : List ℕ → Held → List ℕ
-putHeld ws h = set (set (set (set (set ws 8 (h .pool .fresh)) 9 (h .pool .free)) 10 (h .pool .used)) 11 (h .pool .top)) 13 (h .frame .0)
+putHeld ws h = set (set (set (set (set ws 9 (h .pool .fresh)) 10 (h .pool .free)) 11 (h .pool .used)) 12 (h .pool .top)) 14 (h .frame .0)
 
-pub put-held : (ws : List ℕ) (h : Held) → length ws ≡ 15 → putHeld ws h ≡ headWords (headHeld (headIn ws) h)
+pub put-held : (ws : List ℕ) (h : Held) → length ws ≡ 16 → putHeld ws h ≡ headWords (headHeld (headIn ws) h)
 unfolding headHeld headTables firstOf
-put-held ws h e = subst (λ xs. putHeld xs h ≡ headWords (headHeld (headIn xs) h)) (sym (all-first 15 ws e)) refl
+put-held ws h e = subst (λ xs. putHeld xs h ≡ headWords (headHeld (headIn xs) h)) (sym (all-first 16 ws e)) refl

@@ -14,7 +14,7 @@ use Rattle.record.specs.Record.{recordBy, headOf}
 use Rattle.calls.specs.declared.Reply.{Reply}
 use Rattle.cangrieb.specs.declared.FlatAnswer.{FlatAnswer}
 
--- ---- the head, in 15 words
+-- ---- the head, in 16 words
 
 -- the pool whose words stand at these places
 abbrev pub poolIn : List ℕ → ℕ → ℕ → ℕ → ℕ → Pool
@@ -22,11 +22,11 @@ poolIn ws i j k l = record { fresh = getD ws i 0; free = getD ws j 0; used = get
 
 abbrev pub headIn : List ℕ → Head
 headIn ws = record {
-  layout = record { levels = getD ws 0 0; hosts = getD ws 1 0; shadows = getD ws 2 0; frames = getD ws 3 0 };
-  pools = record { host = poolIn ws 4 5 6 7; shadow = poolIn ws 8 9 10 11 };
-  root = record { 0 = getD ws 12 0 };
-  held = record { 0 = getD ws 13 0 };
-  set = getD ws 14 0;
+  layout = record { levels = getD ws 0 0; hosts = getD ws 1 0; shadows = getD ws 2 0; frames = getD ws 3 0; bits = getD ws 4 0 };
+  pools = record { host = poolIn ws 5 6 7 8; shadow = poolIn ws 9 10 11 12 };
+  root = record { 0 = getD ws 13 0 };
+  held = record { 0 = getD ws 14 0 };
+  set = getD ws 15 0;
 }
 
 -- and back
@@ -35,7 +35,7 @@ headWords h =
     let l = h .layout in
     let p = h .pools .host in
     let q = h .pools .shadow in
-    l .levels ∷ l .hosts ∷ l .shadows ∷ l .frames ∷ p .fresh ∷ p .free ∷ p .used ∷ p .top ∷ q .fresh ∷ q .free ∷ q .used ∷ q .top ∷ h .root .0 ∷ h .held .0 ∷ h .set ∷ []
+    l .levels ∷ l .hosts ∷ l .shadows ∷ l .frames ∷ l .bits ∷ p .fresh ∷ p .free ∷ p .used ∷ p .top ∷ q .fresh ∷ q .free ∷ q .used ∷ q .top ∷ h .root .0 ∷ h .held .0 ∷ h .set ∷ []
 
 -- the record that head and places say
 abbrev pub recordIn : List ℕ → List ℕ → Record

@@ -1,4 +1,4 @@
-// The unit's calls for C and for Rust. The record is lent in two parts, its head of 15 words and the places of its marks, and
+// The unit's calls for C and for Rust. The record is lent in two parts, its head of 16 words and the places of its marks, and
 // the memory beside it; the answer is numbers. Nothing is asked of the caller but that those words are at those places.
 ghost use mathlib.Core.Path.{_≡_};
 ghost use Rattle.words.specs.After.{yields};
@@ -33,8 +33,8 @@ pub struct FlatAnswer {
 
 // ---- the record in numbers
 
-// The head that 15 words say.
-fn head_in(w: &[u64; 15]) -> Head
+// The head that 16 words say.
+fn head_in(w: &[u64; 16]) -> Head
     ensures { λ r. ⌜ r ≡ headIn (now (w .entry)) ⌝ }
 {
     Head {
@@ -43,29 +43,30 @@ fn head_in(w: &[u64; 15]) -> Head
             hosts: w[1],
             shadows: w[2],
             frames: w[3],
+            bits: w[4],
         },
         pools: Pools {
             host: Pool {
-                fresh: w[4],
-                free: w[5],
-                used: w[6],
-                top: w[7],
+                fresh: w[5],
+                free: w[6],
+                used: w[7],
+                top: w[8],
             },
             shadow: Pool {
-                fresh: w[8],
-                free: w[9],
-                used: w[10],
-                top: w[11],
+                fresh: w[9],
+                free: w[10],
+                used: w[11],
+                top: w[12],
             },
         },
-        root: GuestPhysical(w[12]),
-        held: HostPhysical(w[13]),
-        set: w[14],
+        root: GuestPhysical(w[13]),
+        held: HostPhysical(w[14]),
+        set: w[15],
     }
 }
 
 // And back.
-fn head_words(h: Head) -> [u64; 15]
+fn head_words(h: Head) -> [u64; 16]
     ensures { λ r. ⌜ r ≡ headWords h ⌝ }
 {
     let l = h.layout;
@@ -76,6 +77,7 @@ fn head_words(h: Head) -> [u64; 15]
         l.hosts,
         l.shadows,
         l.frames,
+        l.bits,
         host.fresh,
         host.free,
         host.used,
@@ -91,7 +93,7 @@ fn head_words(h: Head) -> [u64; 15]
 }
 
 // The whole record, for a call that changes the marks.
-fn record_in(head: &[u64; 15], place: &[u64; 64]) -> Record
+fn record_in(head: &[u64; 16], place: &[u64; 64]) -> Record
     ensures { λ r. ⌜ r ≡ recordIn (now (head .entry)) (now (place .entry)) ⌝ }
 {
     let h = head_in(head);
@@ -115,28 +117,28 @@ fn record_in(head: &[u64; 15], place: &[u64; 64]) -> Record
 }
 
 // The words of a head.
-fn words_in(head: &[u64; 15]) -> [u64; 15]
+fn words_in(head: &[u64; 16]) -> [u64; 16]
     ensures { λ r. ⌜ r ≡ now (head .entry) ⌝ }
 {
     *head
 }
 
 // What is held takes the place of what was; a request changes no other word of a head.
-fn put_held(head: &mut [u64; 15], held: Held)
+fn put_held(head: &mut [u64; 16], held: Held)
     ensures { λ _. ⌜ now (head .exit) ≡ headWords (headHeld (headIn (now (head .entry))) held) ⌝ }
 {
     let mut words = words_in(head);
     let pool = held.pool;
-    words[8] = pool.fresh;
-    words[9] = pool.free;
-    words[10] = pool.used;
-    words[11] = pool.top;
-    words[13] = held.frame.0;
+    words[9] = pool.fresh;
+    words[10] = pool.free;
+    words[11] = pool.used;
+    words[12] = pool.top;
+    words[14] = held.frame.0;
     *head = words;
 }
 
 // A record takes the place of the one lent.
-fn put_back(head: &mut [u64; 15], place: &mut [u64; 64], unit: Record)
+fn put_back(head: &mut [u64; 16], place: &mut [u64; 64], unit: Record)
     ensures { λ _. ⌜ (now (head .exit) ≡ headWords (headOf unit)) × (now (place .exit) ≡ unit .guest .marks .place) ⌝ }
 {
     let places = unit.guest.marks.place;
@@ -221,18 +223,19 @@ fn answer_of(a: Answer) -> FlatAnswer
 
 // ---- the calls
 
-// Opens the memory: 1, 2.
+// Opens the memory, with or without accessed and dirty bits: 1, 2.
 #[no_mangle]
 pub extern "C" fn cangrieb_open(
-    head: &mut [u64; 15],
+    head: &mut [u64; 16],
     place: &mut [u64; 64],
     mem: &mut [u64],
     hosts: u64,
     shadows: u64,
+    bits: bool,
 ) -> FlatAnswer
-    ensures { λ r. ⌜ yields (flat (now (head .exit)) (now (place .exit)) r) (now (mem .exit)) ≡ leftOf (openCall (now (mem .entry)) hosts shadows) ⌝ }
+    ensures { λ r. ⌜ yields (flat (now (head .exit)) (now (place .exit)) r) (now (mem .exit)) ≡ leftOf (openCall (now (mem .entry)) hosts shadows bits) ⌝ }
 {
-    let r = unit::open(mem, hosts, shadows);
+    let r = unit::open(mem, hosts, shadows, bits);
     let answer = r.answer;
     put_back(head, place, r.unit);
     answer_of(answer)
@@ -241,7 +244,7 @@ pub extern "C" fn cangrieb_open(
 // Loads so many bytes: 3, 15, 4, 11.
 #[no_mangle]
 pub extern "C" fn cangrieb_load(
-    head: &mut [u64; 15],
+    head: &mut [u64; 16],
     place: &[u64; 64],
     mem: &mut [u64],
     address: u64,
@@ -260,7 +263,7 @@ pub extern "C" fn cangrieb_load(
 // Stores the low bytes of a value; the paths whose shadow part read the word around them are dropped: 3, 15, 4, 11.
 #[no_mangle]
 pub extern "C" fn cangrieb_store(
-    head: &mut [u64; 15],
+    head: &mut [u64; 16],
     place: &[u64; 64],
     mem: &mut [u64],
     address: u64,
@@ -280,7 +283,7 @@ pub extern "C" fn cangrieb_store(
 // A device stores at a guest-physical address: 3, 15, 4, 11.
 #[no_mangle]
 pub extern "C" fn cangrieb_device_store(
-    head: &mut [u64; 15],
+    head: &mut [u64; 16],
     place: &[u64; 64],
     mem: &mut [u64],
     address: u64,
@@ -300,7 +303,7 @@ pub extern "C" fn cangrieb_device_store(
 // Another root; all held paths are dropped: 3, 8.
 #[no_mangle]
 pub extern "C" fn cangrieb_root(
-    head: &mut [u64; 15],
+    head: &mut [u64; 16],
     place: &[u64; 64],
     mem: &[u64],
     guest: u64,
@@ -318,7 +321,7 @@ pub extern "C" fn cangrieb_root(
 // Maps a guest frame to a host frame, or maps it anew: 3, 8, 9, 10, 11.
 #[no_mangle]
 pub extern "C" fn cangrieb_map(
-    head: &mut [u64; 15],
+    head: &mut [u64; 16],
     place: &[u64; 64],
     mem: &mut [u64],
     guest: u64,
@@ -338,7 +341,7 @@ pub extern "C" fn cangrieb_map(
 // Unmaps a guest frame: 3, 8, 12, 11.
 #[no_mangle]
 pub extern "C" fn cangrieb_unmap(
-    head: &mut [u64; 15],
+    head: &mut [u64; 16],
     place: &[u64; 64],
     mem: &mut [u64],
     guest: u64,
@@ -356,7 +359,7 @@ pub extern "C" fn cangrieb_unmap(
 // Sets a mark: 3, 4, 5, 6, 7, 11.
 #[no_mangle]
 pub extern "C" fn cangrieb_set_mark(
-    head: &mut [u64; 15],
+    head: &mut [u64; 16],
     place: &mut [u64; 64],
     mem: &mut [u64],
     address: u64,
@@ -373,7 +376,7 @@ pub extern "C" fn cangrieb_set_mark(
 // Clears a mark: 3, 4, 5, 6, 11.
 #[no_mangle]
 pub extern "C" fn cangrieb_clear_mark(
-    head: &mut [u64; 15],
+    head: &mut [u64; 16],
     place: &mut [u64; 64],
     mem: &mut [u64],
     address: u64,
@@ -387,10 +390,10 @@ pub extern "C" fn cangrieb_clear_mark(
     answer_of(answer)
 }
 
-// What loading these addresses one after the other would cost: 3, 14, 11. Record and memory are lent to be read.
+// What loading these addresses one after the other would cost: 3, 16, 14, 11. Record and memory are lent to be read.
 #[no_mangle]
 pub extern "C" fn cangrieb_forecast(
-    head: &[u64; 15],
+    head: &[u64; 16],
     place: &[u64; 64],
     mem: &[u64],
     addresses: &[u64],
@@ -404,7 +407,7 @@ pub extern "C" fn cangrieb_forecast(
 
 // The depth of an address, and how many marks were read for it. It judges neither the record nor the address, and is no call of a run.
 #[no_mangle]
-pub extern "C" fn cangrieb_depth(head: &[u64; 15], place: &[u64; 64], address: u64) -> Lookup
+pub extern "C" fn cangrieb_depth(head: &[u64; 16], place: &[u64; 64], address: u64) -> Lookup
     ensures { λ r. ⌜ r ≡ lookupAt (recordIn (now (head .entry)) (now (place .entry))) address ⌝ }
 {
     let h = head_in(head);

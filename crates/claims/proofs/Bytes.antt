@@ -21,11 +21,14 @@ use Rattle.spec.specs.Bytes.{widthFits, aligned, bytesAt, withBytes}
 use Rattle.spec.specs.Walk.{Result, granted, failed}
 use Rattle.spec.specs.Plain.{Place}
 use Rattle.spec.specs.Machine.{Machine, place, wordIn}
-use Rattle.spec.specs.Call.{Call, load, store, device, plain, deviceWalk, access}
+use Rattle.spec.specs.Bits.{bitsSet}
+use Rattle.spec.specs.Call.{Call, load, store, device, plain, verdict, deviceWalk, access}
 use Rattle.spec.specs.Refusal.{addressFits, deviceFits}
 use Rattle.spec.specs.Run.{State, lineOf, after, opened}
 use Rattle.spec_laws.proofs.Bytes.{part-lt, width-inside, byte-got, byte-put, byte-kept}
 use Rattle.spec_laws.proofs.Lists.{and-right}
+use Rattle.spec_laws.proofs.Counts.{verdict-granted}
+use Rattle.spec_laws.proofs.SetBits.{bits-more}
 use Rattle.entry.proofs.Entries.{word-fits}
 use Rattle.layout.proofs.Laws.{InGuestArea}
 use Rattle.record.specs.declared.Record.{Record}
@@ -37,9 +40,9 @@ use Rattle.claims.specs.Plain.{Unrefused}
 use Rattle.claims.proofs.Invariant.{Inv}
 use Rattle.claims.proofs.Found.{rules}
 use Rattle.claims.proofs.Requests.{page-in, device-in, load-step, store-step, device-step}
-use Rattle.claims.proofs.Demands.{follows, after-run, run-config}
+use Rattle.claims.proofs.Demands.{Set, follows, after-run, run-config}
 use Rattle.claims.proofs.Plain.{tests-passed, device-passed}
-use Rattle.claims.specs.Bytes.{byteOf, byteIn, firstByte, Loads, Stores, storeAt, storeWalk, GrantedAt}
+use Rattle.claims.specs.Bytes.{byteOf, byteIn, firstByte, Loads, Stores, storeAt, storeComesTo, storeFinds, GrantedAt}
 
 -- ---- a word of a list of words
 
@@ -82,7 +85,7 @@ module _ (ws : List ℕ) (k a w : ℕ) (in-word : a % 8 + w ≤ 8) where
 
 -- ---- one request, where the invariant holds
 
-module _ (s : State) (r : Record) (m : List ℕ) (inv : Inv s r m) (a w : ℕ) where
+module _ (s : State) (r : Record) (m : List ℕ) (inv : Inv s r m) (covered : Set s r) (a w : ℕ) where
   abbrev c : Config
   c = configOf r
 
@@ -93,89 +96,96 @@ module _ (s : State) (r : Record) (m : List ℕ) (inv : Inv s r m) (a w : ℕ) w
   unfolding wordOf
   first-is t = omega arith
 
-  -- every word of a page is in the guest area
-  inside : (t : ℕ) → InGuestArea c t → place c t (wordOf a) < length (mach .area)
-  inside t g =
+  -- every word of a page is in the guest area, whatever bits are set there
+  inside : (n : Machine) → length (n .area) ≡ length (mach .area) → (t : ℕ) → InGuestArea c t → place c t (wordOf a) < length (n .area)
+  inside n same t g =
       let e : length (guestArea r m) ≡ length m - 512 * guestBase c = length-drop (512 * guestBase c) m in
-      subst (λ xs. place c t (wordOf a) < length xs) (inv .area) (omega (arith, e, g .0, g .1, rules s r m inv .long, word-fits a))
+      let k : length (guestArea r m) ≡ length (mach .area) = ap length (inv .area) in
+      omega (arith, e, k, same, g .0, g .1, rules s r m inv .long, word-fits a)
 
   in-word : widthFits w ≡ true → (legal : Bool) → (legal && aligned a w) ≡ true → a % 8 + w ≤ 8
   in-word wide legal ok = width-inside a w (subst T (sym wide) tt) (and-right legal (aligned a w) (subst T (sym ok) tt))
 
-  loaded : a % 8 + w ≤ 8 → (v k x i j : ℕ) (o : Result Fault Place) → say.value v k x ≡ lineOf ((access c mach a w none o) .0) i j
-      → GrantedAt o (λ t. Loads (guestArea r m) (firstByte c t a) w v)
+  -- n: the machine with the request's bits
+  loaded : a % 8 + w ≤ 8 → (n : Machine) (v k x i j : ℕ) (o : Result Fault Place) → say.value v k x ≡ lineOf ((access c mach n a w none o) .0) i j
+      → (l : List ℕ) → l ≡ (access c mach n a w none o) .1 .area → GrantedAt o (λ t. Loads l (firstByte c t a) w v)
   unfolding access
-  loaded fit v k x i j (failed y) l = let z : _≡_ {A = ℕ} 0 1 = cc in absurd (omega arith)
-  loaded fit v k x i j (granted p) l =
-      let e : bytesAt a w (wordIn c mach (p .0) (wordOf a)) ≡ v = cc in (
+  loaded fit n v k x i j (failed y) l area q = let z : _≡_ {A = ℕ} 0 1 = cc in absurd (omega arith)
+  loaded fit n v k x i j (granted p) l area q =
+      let e : bytesAt a w (wordIn c n (p .0) (wordOf a)) ≡ v = cc in (
         p,
         refl,
-        subst (λ xs. Loads xs (firstByte c (p .0) a) w v) (sym (inv .area))
-            (subst (λ f. Loads (mach .area) f w v) (first-is (p .0)) (subst (Loads (mach .area) (8 * place c (p .0) (wordOf a) + a % 8) w) e (loads (mach .area) (place c (p .0) (wordOf a)) a w fit))),
+        subst (λ xs. Loads xs (firstByte c (p .0) a) w v) (sym q)
+            (subst (λ f. Loads (n .area) f w v) (first-is (p .0)) (subst (Loads (n .area) (8 * place c (p .0) (wordOf a) + a % 8) w) e (loads (n .area) (place c (p .0) (wordOf a)) a w fit))),
       )
 
-  written : a % 8 + w ≤ 8 → (v k x i j : ℕ) (o : Result Fault Place) → ((p : Place) → o ≡ granted p → InGuestArea c (p .0)) → say.done k x ≡ lineOf ((access c mach a w (some v) o) .0) i j
-      → (n : List ℕ) → n ≡ (access c mach a w (some v) o) .1 .area → GrantedAt o (λ t. Stores (guestArea r m) n (firstByte c t a) w v)
+  written : a % 8 + w ≤ 8 → (n : Machine) → length (n .area) ≡ length (mach .area) → (v k x i j : ℕ) (o : Result Fault Place) → ((p : Place) → o ≡ granted p → InGuestArea c (p .0))
+      → say.done k x ≡ lineOf ((access c mach n a w (some v) o) .0) i j → (l : List ℕ) → l ≡ (access c mach n a w (some v) o) .1 .area → GrantedAt o (λ t. Stores (n .area) l (firstByte c t a) w v)
   unfolding access
-  written fit v k x i j (failed y) there l n e = let z : _≡_ {A = ℕ} 0 1 = cc in absurd (omega arith)
-  written fit v k x i j (granted p) there l n e = (
+  written fit n same v k x i j (failed y) there l area e = let z : _≡_ {A = ℕ} 0 1 = cc in absurd (omega arith)
+  written fit n same v k x i j (granted p) there l area e = (
     p,
     refl,
-    subst (λ xs. Stores xs n (firstByte c (p .0) a) w v) (sym (inv .area))
-        (subst (λ xs. Stores (mach .area) xs (firstByte c (p .0) a) w v) (sym e)
-        (subst (λ f. Stores (mach .area) (set (mach .area) (place c (p .0) (wordOf a)) (withBytes a w v (wordIn c mach (p .0) (wordOf a)))) f w v) (first-is (p .0))
-        (stores (mach .area) (place c (p .0) (wordOf a)) a w fit v (inside (p .0) (there p refl))))),
+    subst (λ xs. Stores (n .area) xs (firstByte c (p .0) a) w v) (sym e)
+        (subst (λ f. Stores (n .area) (set (n .area) (place c (p .0) (wordOf a)) (withBytes a w v (wordIn c n (p .0) (wordOf a)))) f w v) (first-is (p .0))
+        (stores (n .area) (place c (p .0) (wordOf a)) a w fit v (inside n same (p .0) (there p refl)))),
   )
 
-  load-bytes : (v k x : ℕ) → callOf (load a w) r m .result .answer ≡ answer.Value v k x → GrantedAt ((plain c mach false a) .result) (λ t. Loads (guestArea r m) (firstByte c t a) w v)
+  load-bytes : (v k x : ℕ) → let e = callOf (load a w) r m in e .result .answer ≡ answer.Value v k x
+      → GrantedAt (verdict c mach false a) (λ t. Loads (guestArea (e .result .unit) (e .memory)) (firstByte c t a) w v)
   load-bytes v k x e =
-      let t = tests-passed s r m inv a w none (subst Unrefused (sym e) tt) in
-      loaded (in-word (t .0) (addressFits c a) (t .1)) v k x _ _ ((plain c mach false a) .result)
-      (sym (ap line e) ∙ follows (load a w) s r m inv .says ∙ ap (λ o. o .0) (load-step s r m inv a w (t .0) (t .1)))
+      let t = tests-passed s r m inv covered a w none (subst Unrefused (sym e) tt) in
+      let f = follows (load a w) s r m inv covered in
+      let stepped = load-step s r m inv covered a w (t .0) (t .1) in
+      loaded (in-word (t .0) (addressFits c a) (t .1)) (bitsSet c false mach (plain c mach false a)) v k x _ _ (verdict c mach false a)
+      (sym (ap line e) ∙ f .says ∙ ap (λ o. o .0) stepped) _ (f .next .area ∙ ap (λ o. o .1 .machine .area) stepped)
 
   store-bytes : (d : Bool) (v k x : ℕ) → let e = callOf (storeAt d a w v) r m in e .result .answer ≡ answer.Done k x
-      → GrantedAt ((storeWalk d c mach a) .result) (λ t. Stores (guestArea r m) (guestArea (e .result .unit) (e .memory)) (firstByte c t a) w v)
+      → GrantedAt (storeComesTo d c mach a) (λ t. Stores (storeFinds d c mach a) (guestArea (e .result .unit) (e .memory)) (firstByte c t a) w v)
   store-bytes false v k x e =
-      let t = tests-passed s r m inv a w (some v) (subst Unrefused (sym e) tt) in
-      let f = follows (store a w v) s r m inv in
-      let stepped = store-step s r m inv a w v (t .0) (t .1) in
-      written (in-word (t .0) (addressFits c a) (t .1)) v k x _ _ ((plain c mach true a) .result) (page-in s r m inv true a)
+      let t = tests-passed s r m inv covered a w (some v) (subst Unrefused (sym e) tt) in
+      let f = follows (store a w v) s r m inv covered in
+      let stepped = store-step s r m inv covered a w v (t .0) (t .1) in
+      written (in-word (t .0) (addressFits c a) (t .1)) (bitsSet c true mach (plain c mach true a)) (bits-more c true mach (plain c mach true a) .long) v k x _ _ (verdict c mach true a)
+      (λ p q. page-in s r m inv covered true a p (verdict-granted c mach true a p q))
       (sym (ap line e) ∙ f .says ∙ ap (λ o. o .0) stepped) _ (f .next .area ∙ ap (λ o. o .1 .machine .area) stepped)
   store-bytes true v k x e =
-      let t = device-passed s r m inv a w v (subst Unrefused (sym e) tt) in
-      let f = follows (device a w v) s r m inv in
-      let stepped = device-step s r m inv a w v (t .0) (t .1) in
-      written (in-word (t .0) (deviceFits c a) (t .1)) v k x _ _ ((deviceWalk c mach a) .result) (device-in s r m inv a w v (t .1))
+      let t = device-passed s r m inv covered a w v (subst Unrefused (sym e) tt) in
+      let f = follows (device a w v) s r m inv covered in
+      let stepped = device-step s r m inv covered a w v (t .0) (t .1) in
+      written (in-word (t .0) (deviceFits c a) (t .1)) mach refl v k x _ _ ((deviceWalk c mach a) .result) (device-in s r m inv covered a w v (t .1))
       (sym (ap line e) ∙ f .says ∙ ap (λ o. o .0) stepped) _ (f .next .area ∙ ap (λ o. o .1 .machine .area) stepped)
 
 -- ---- Document 02, 4). After a granted opening on any memory and any list of calls
 
--- a load that is granted yields its own bytes of the page that the plain walk comes to, the first lowest, and zeros above them
-pub run-load-bytes : (m : List ℕ) (h s : ℕ) (xs : List Call) → refusalOf (length m) h s ≡ 0 → (a w v k x : ℕ)
-    → let u = runOf m h s xs in
-    let r = u .result .unit in
-    let c = configBy (length m) h s in
+-- a load that is granted yields its own bytes of the page that its walk comes to, the first lowest, and zeros above them; of the guest area
+-- as the load leaves it, which with bits off is as it was
+pub run-load-bytes : (m : List ℕ) (h s : ℕ) (bits : Bool) (xs : List Call) → refusalOf (length m) h s bits ≡ 0 → (a w v k x : ℕ)
+    → let u = runOf m h s bits xs in
+    let c = configBy (length m) h s bits in
     let mach = (after xs (opened c m)) .machine in
-    callOf (load a w) r (u .memory) .result .answer ≡ answer.Value v k x
-    → GrantedAt ((plain c mach false a) .result) (λ t. Loads (guestArea r (u .memory)) (firstByte c t a) w v)
-run-load-bytes m h s xs g a w v k x e =
-    let u = runOf m h s xs in
-    let t = after xs (opened (configBy (length m) h s) m) in
-    subst (λ y. GrantedAt ((plain y (t .machine) false a) .result) (λ f. Loads (guestArea (u .result .unit) (u .memory)) (firstByte y f a) w v)) (run-config m h s xs g)
-    (load-bytes t (u .result .unit) (u .memory) (after-run m h s xs g .1) a w v k x e)
+    let e = callOf (load a w) (u .result .unit) (u .memory) in
+    e .result .answer ≡ answer.Value v k x → GrantedAt (verdict c mach false a) (λ t. Loads (guestArea (e .result .unit) (e .memory)) (firstByte c t a) w v)
+run-load-bytes m h s bits xs g a w v k x done =
+    let u = runOf m h s bits xs in
+    let i = after-run m h s bits xs g in
+    let t = after xs (opened (configBy (length m) h s bits) m) in
+    let e = callOf (load a w) (u .result .unit) (u .memory) in
+    subst (λ y. GrantedAt (verdict y (t .machine) false a) (λ f. Loads (guestArea (e .result .unit) (e .memory)) (firstByte y f a) w v)) (run-config m h s bits xs g)
+    (load-bytes t (u .result .unit) (u .memory) (i .1) (i .2) a w v k x done)
 
--- a store that is granted, a device's (d) too, leaves its own bytes there, and no other byte of the guest area is changed
-pub run-store-bytes : (m : List ℕ) (h s : ℕ) (xs : List Call) → refusalOf (length m) h s ≡ 0 → (d : Bool) (a w v k x : ℕ)
-    → let u = runOf m h s xs in
-    let r = u .result .unit in
-    let c = configBy (length m) h s in
+-- a store that is granted, a device's (d) too, leaves its own bytes there, and no other byte of the guest area that it finds is changed
+pub run-store-bytes : (m : List ℕ) (h s : ℕ) (bits : Bool) (xs : List Call) → refusalOf (length m) h s bits ≡ 0 → (d : Bool) (a w v k x : ℕ)
+    → let u = runOf m h s bits xs in
+    let c = configBy (length m) h s bits in
     let mach = (after xs (opened c m)) .machine in
-    let e = callOf (storeAt d a w v) r (u .memory) in
-    e .result .answer ≡ answer.Done k x
-    → GrantedAt ((storeWalk d c mach a) .result) (λ t. Stores (guestArea r (u .memory)) (guestArea (e .result .unit) (e .memory)) (firstByte c t a) w v)
-run-store-bytes m h s xs g d a w v k x done =
-    let u = runOf m h s xs in
-    let t = after xs (opened (configBy (length m) h s) m) in
     let e = callOf (storeAt d a w v) (u .result .unit) (u .memory) in
-    subst (λ y. GrantedAt ((storeWalk d y (t .machine) a) .result) (λ f. Stores (guestArea (u .result .unit) (u .memory)) (guestArea (e .result .unit) (e .memory)) (firstByte y f a) w v)) (run-config m h s xs g)
-    (store-bytes t (u .result .unit) (u .memory) (after-run m h s xs g .1) a w d v k x done)
+    e .result .answer ≡ answer.Done k x
+    → GrantedAt (storeComesTo d c mach a) (λ t. Stores (storeFinds d c mach a) (guestArea (e .result .unit) (e .memory)) (firstByte c t a) w v)
+run-store-bytes m h s bits xs g d a w v k x done =
+    let u = runOf m h s bits xs in
+    let i = after-run m h s bits xs g in
+    let t = after xs (opened (configBy (length m) h s bits) m) in
+    let e = callOf (storeAt d a w v) (u .result .unit) (u .memory) in
+    subst (λ y. GrantedAt (storeComesTo d y (t .machine) a) (λ f. Stores (storeFinds d y (t .machine) a) (guestArea (e .result .unit) (e .memory)) (firstByte y f a) w v)) (run-config m h s bits xs g)
+    (store-bytes t (u .result .unit) (u .memory) (i .1) (i .2) a w d v k x done)

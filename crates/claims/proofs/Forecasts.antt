@@ -1,10 +1,10 @@
--- A forecast follows the specification's step: the keys in its room and the shadow tables, while they are kept, stand for the paths that the
--- book holds as the list is served, and each address costs what the book's load costs.
+-- A forecast follows the specification's step. With bits off the keys in its room and the shadow tables, while they are kept, stand for the
+-- paths that the book holds as the list is served, and each address costs what the book's load costs; with bits on it is refused.
 -- Assumes nothing.
 use mathlib.Core.Path.{_≡_, refl, sym, ap, ap₂, _∙_, subst}
 use Prim.Native.Nat.{ℕ, suc, _+_, _-_, _<_, _≤_, max}
 use native.Mathlib.Omega.{arith}
-use mathlib.Core.Bool.{Bool, true, false, not, _&&_, _||_, cond}
+use mathlib.Core.Bool.{Bool, true, false, not, _&&_, _||_, cond, false≢true}
 use mathlib.Core.List.{List, [], _∷_, _++_, map}
 use mathlib.Core.Option.{Option, none, some}
 use lib.Dec.{eqb, leb, ltb}
@@ -26,18 +26,22 @@ use Rattle.spec.specs.Bytes.{aligned}
 use Rattle.spec.specs.Refusal.{addressFits, forecastRoom, tests, refusal, firstFailed}
 use Rattle.spec.specs.Forecast.{Figures, served, servedBy, figuresOf}
 use Rattle.spec.specs.Run.{State, figuresLine, answered, step}
+use Rattle.spec_laws.proofs.Lists.{all-any}
 use Rattle.spec_laws.proofs.Indexes.{indexes-all}
 use Rattle.spec.specs.Entry.{pageOf}
 use Rattle.spec_laws.proofs.Added.{standing, any-append, tables-added, tables-alone, standing-append}
+use Rattle.spec_laws.proofs.Keeps.{right-off}
+use Rattle.spec_laws.proofs.Covered.{Covered}
 use Rattle.spec_laws.proofs.Price.{Price, shadowPrice, plainPrice, price, Priced, load-priced, filled, serves-load}
 use Rattle.area_laws.proofs.Paths.{onto}
+use Rattle.layout.proofs.Laws.{InGuestArea}
 use Rattle.layout.specs.declared.HostWalk.the-variants as host
 use Rattle.walk.specs.Memory.{walkedOf}
 use Rattle.walk.proofs.Stands.{plainWalked, root-walked}
 use Rattle.marks.specs.Key.{keyAt}
 use Rattle.marks.proofs.Book.{depth-book}
 use Rattle.translate.specs.declared.Held.{Held as Holding}
-use Rattle.translate.specs.Translate.{translation, exitBy, servesOf, foundOf, plainOf}
+use Rattle.translate.specs.Translate.{translation, exitBy, directOf, servedOf, servesOf, foundOf, plainOf}
 use Rattle.forecast.specs.declared.Sum.{Sum}
 use Rattle.forecast.specs.declared.Paths.{Paths}
 use Rattle.forecast.specs.declared.Outlook.{Outlook}
@@ -49,17 +53,18 @@ use Rattle.drops_laws.proofs.Tables.{tables-used}
 use Rattle.words.specs.After.{After, yields}
 use Rattle.record.specs.declared.Record.{Record}
 use Rattle.record.specs.Record.{configOf}
-use Rattle.calls.specs.Calls.{hostTop, heldOf, rootOf, keysOf, depthAt, forecastCall, ended}
+use Rattle.calls.specs.Calls.{hostTop, heldOf, rootOf, keysOf, depthAt, forecastCall, ended, refused}
 use Rattle.claims.proofs.Invariant.{frames, Inv, Follows, at}
 use Rattle.claims.proofs.Paths.{path-upper, exit-is}
-use Rattle.claims.proofs.Moves.{at-inv}
+use Rattle.claims.proofs.Moves.{at-inv, follows-no}
 use Rattle.claims.proofs.Found as found
+use Rattle.claims.proofs.Fills as fills
 use Rattle.claims.proofs.Translates as translates
-use Rattle.claims.proofs.Requests.{follows-by, judged-by, tested}
+use Rattle.claims.proofs.Requests.{follows-by, judged-by}
 
 -- a load that came to a word or a fault is paid for, whichever it is
 paid-is : (s : Sum) (p : Paths) (h : Holding) (e n : ℕ) (x : Result Fault Place)
-    → paid s p (translation h e (plainWalked x n)) ≡ Go (record { sum = added s n e (p .used); paths = p })
+    → paid s p (translation h e (plainWalked x n) false) ≡ Go (record { sum = added s n e (p .used); paths = p })
 unfolding paid
 paid-is s p h e n (granted y) = refl
 paid-is s p h e n (failed y) = refl
@@ -74,7 +79,16 @@ unfolding figuresOf
 figures-from c m [] b = omega arith
 figures-from c m (a ∷ xs) b = omega arith
 
-module _ (s : State) (r : Record) (m : List ℕ) (inv : Inv s r m) where
+-- with bits off no entry needs its bits
+covered-off : (c : Config) (m : Machine) (hs : List Held) → c .bits ≡ false → All (Covered c m) hs
+covered-off c m hs off = all-any (Covered c m) hs (λ h. record { five = λ on. absurd (false≢true (sym off ∙ on)); six = λ on. absurd (false≢true (sym off ∙ on)) })
+
+-- the record's own number of shadow tables in use is the book's
+pub used-is : (s : State) (r : Record) (m : List ℕ) → Inv s r m → r .pools .shadow .used ≡ shadowTables (s .book .held)
+used-is s r m inv = tables-used (inv .shadow) (found.held-entries s r m inv) ∙ ap distinct (found.propers-longer (s .book .held))
+
+-- ---- with bits off
+module _ (s : State) (r : Record) (m : List ℕ) (inv : Inv s r m) (off : configOf r .bits ≡ false) where
   abbrev c : Config
   c = configOf r
 
@@ -93,6 +107,9 @@ module _ (s : State) (r : Record) (m : List ℕ) (inv : Inv s r m) where
   -- the paths held before the list
   abbrev ps : List (List ℕ)
   ps = paths (s .book .held)
+
+  covered : All (Covered c mach) (s .book .held)
+  covered = covered-off c mach (s .book .held) off
 
   seven : c .levels < 8
   seven = omega (arith, found.rules s r m inv .sizes .deep)
@@ -156,12 +173,12 @@ module _ (s : State) (r : Record) (m : List ℕ) (inv : Inv s r m) where
         let q : walkedOf c ht m 0 (walk c false (rootOf r) is) ≡ plainWalked (p .result) (p .count) =
         ap (λ x. walkedOf c ht m 0 (walk c false x is)) (inv .root)
         ∙ root-walked c mach ht m (found.memory-stands s r m inv) false (mach .root) is (found.root-small s r m inv) (indexes-all (c .levels) (pageOf a)) in
-        let t : plainOf c ht m hold (rootOf r) false a ≡ translation hold (hostExit (p .result)) (plainWalked (p .result) (p .count)) =
-        ap (λ x. translation hold (exitBy x) x) q ∙ ap (λ x. translation hold x (plainWalked (p .result) (p .count))) (exit-is (p .result) (p .count)) in
+        let t : plainOf c ht m hold (rootOf r) false a ≡ translation hold (hostExit (p .result)) (plainWalked (p .result) (p .count)) false =
+        ap (λ x. translation hold (exitBy x) x false) q ∙ ap (λ x. translation hold x (plainWalked (p .result) (p .count)) false) (exit-is (p .result) (p .count)) in
         let u = trace w (walk c false (mach .root) (upper c deep is)) in
         let x : price c mach false a deep (any (same (upper c deep is)) (paths (b .held))) ≡ plainPrice p =
         ap (λ y. cond y (shadowPrice c mach false deep is (any (same (upper c deep is)) (paths (b .held))) (u .count) (u .result)) (plainPrice p)) (lt-leb deep (c .levels) high) in
-        advances (upper c deep is) (plainPrice p) (subst (λ y. Priced c b (upper c deep is) y k) x (load-priced c mach b a deep)) (o .paths) ks _
+        advances (upper c deep is) (plainPrice p) (subst (λ y. Priced c b (upper c deep is) y k) x (load-priced c mach b a deep off)) (o .paths) ks _
         (ap (λ y. cond y (yields (paid (o .sum) (o .paths) (plainOf c ht m hold (rootOf r) false a)) ks) (foundBy c ht m hold (rootOf r) ks o a deep (keptOf c m hold (o .paths .kept) a deep))) (lt-ltb (c .levels) deep high)
         ∙ ap (λ y. yields (paid (o .sum) (o .paths) y) ks) t ∙ ap (λ y. yields y ks) (paid-is (o .sum) (o .paths) hold (hostExit (p .result)) (p .count) (p .result)))
         kept (omega arith)
@@ -182,7 +199,21 @@ module _ (s : State) (r : Record) (m : List ℕ) (inv : Inv s r m) where
           (ap (λ t. cond t (shadowPrice c mach false deep is (any (same path) (paths (b .held))) (part .count) (part .result)) (plainPrice (plain c mach false a))) (le-leb deep (c .levels) low)
           ∙ ap₂ (λ t y. shadowPrice c mach false deep is t (part .count) y) e q)
           (subst (λ u. Priced c b u (cond (leb deep (c .levels)) (shadowPrice c mach false deep is (any (same u) (paths (b .held))) ((trace w (walk c false (mach .root) u)) .count) ((trace w (walk c false (mach .root) u)) .result)) (plainPrice (plain c mach false a))) k)
-          path-is (load-priced c mach b a deep))
+          path-is (load-priced c mach b a deep off))
+
+      -- a load through a path that leads to t, e exits so far
+      served-paid : (t : ℕ) (right : Bool) → InGuestArea c t → (p : Paths) (e : ℕ)
+          → let d = trace w (directPart c false deep (t, right) is) in
+          paid (o .sum) p (servedOf c ht m hold false a deep t right e) ≡ Go (record { sum = added (o .sum) ((c .levels - deep) + d .count) (e + hostExit (d .result)) (p .used); paths = p })
+      unfolding servedOf
+      served-paid t right here p e =
+          let d = trace w (directPart c false deep (t, right) is) in
+          let n = (c .levels - deep) + d .count in
+          let came : directOf c ht m false a deep t right ≡ plainWalked (d .result) n =
+          translates.direct-is s r m inv covered false a t right low here ∙ sym (translates.came-is (d .result) n) in
+          ap (λ x. paid (o .sum) p (translation hold (e + exitBy x) x false)) came
+          ∙ ap (λ x. paid (o .sum) p (translation hold (e + x) (plainWalked (d .result) n) false)) (exit-is (d .result) n)
+          ∙ paid-is (o .sum) p hold (e + hostExit (d .result)) n (d .result)
 
       -- ---- held before the list, and kept
       found-advances : (h : Held) → find path (s .book .held) ≡ some h → o .paths .kept ≡ true
@@ -190,18 +221,19 @@ module _ (s : State) (r : Record) (m : List ℕ) (inv : Inv s r m) where
       unfolding keptOf servesOf
       found-advances h e q =
           let t = frames r m (onto [] path) in
-          let g = translates.held-granted s r m inv false a h low e (serves-any deep (h .right)) in
-          let d = trace w (directPart c false deep (t, h .right) is) in
+          let sv = serves-any deep (h .right) in
+          let here = translates.held-in s r m inv covered false a h low e sv in
+          let comes : part .result ≡ granted (t, h .right) =
+          translates.held-granted s r m inv covered false a h low e sv ∙ ap (λ y. granted (t, y)) (sym (right-off c mach h (translates.valid s r m inv covered false a h low e sv) off)) in
           let x : any (same path) (paths (b .held)) ≡ true =
           ap (any (same path)) (kept .held) ∙ any-append (same path) (map (keyPath (c .levels)) (newest ks (o .paths .count))) (cond (o .paths .kept) ps [])
           ∙ ap (λ y. any (same path) (map (keyPath (c .levels)) (newest ks (o .paths .count))) || any (same path) (cond y ps [])) q
           ∙ ap (λ y. any (same path) (map (keyPath (c .levels)) (newest ks (o .paths .count))) || y) (found-held path (s .book .held) (some h) e)
           ∙ or-true (any (same path) (map (keyPath (c .levels)) (newest ks (o .paths .count)))) in
-          advances path (shadowPrice c mach false deep is true (part .count) (granted (t, h .right))) (priced true (granted (t, h .right)) x (g .0)) (o .paths) ks _
+          advances path (shadowPrice c mach false deep is true (part .count) (granted (t, h .right))) (priced true (granted (t, h .right)) x comes) (o .paths) ks _
           (ap (λ y. foundBy c ht m hold (rootOf r) ks o a deep (cond y (foundOf c m hold a deep) (host.Absent 0))) q
           ∙ ap (foundBy c ht m hold (rootOf r) ks o a deep) (found.found-some s r m inv a low h e)
-          ∙ ap (λ y. yields (paid (o .sum) (o .paths) y) ks) (translates.served-is s r m inv false a m (found.memory-stands s r m inv) t (h .right) hold 0 low (g .1) (g .0))
-          ∙ ap (λ y. yields y ks) (paid-is (o .sum) (o .paths) hold (0 + hostExit (d .result)) ((c .levels - deep) + d .count) ((plain c mach false a) .result)))
+          ∙ ap (λ y. yields y ks) (served-paid t (h .right) here (o .paths) 0))
           kept (omega arith)
         where
           serves-any : (d : ℕ) (right : Bool) → servesOf false d right ≡ true
@@ -289,7 +321,7 @@ module _ (s : State) (r : Record) (m : List ℕ) (inv : Inv s r m) where
         missed-advances = go (part .result) refl
           where
             came : walkedOf c ht m 0 (walk c false (rootOf r) path) ≡ plainWalked (part .result) (part .count)
-            came = translates.walked-is s r m inv false a low
+            came = translates.walked-is s r m inv covered false a
 
             go : (x : Result Fault Place) → part .result ≡ x → Advances o k (missedBy c ht m hold ks o known n a deep (walkedOf c ht m 0 (walk c false (rootOf r) path)))
             go (failed x) e =
@@ -298,14 +330,12 @@ module _ (s : State) (r : Record) (m : List ℕ) (inv : Inv s r m) where
             go (granted p) e =
                 let t = p .0 in
                 let right = p .1 in
-                let d = trace w (directPart c false deep (t, right) is) in
                 let f = heldAfter c ks (o .paths) known n a deep in
-                let z = translates.new-here s r m inv false a t right e in
+                let here = fills.new-here s r m inv false a t right low e .1 in
                 let g = after-keeps known refl in
                 advances path (shadowPrice c mach false deep is known (part .count) (granted p)) (priced known (granted p) known-is e) (f .result) (f .memory) _
                 (ap (missedBy c ht m hold ks o known n a deep) (came ∙ ap (λ y. plainWalked y (part .count)) e)
-                ∙ ap (λ y. yields (paid (o .sum) (f .result) y) (f .memory)) (translates.served-is s r m inv false a m (found.memory-stands s r m inv) t right hold (one (not known)) low (z .1) e)
-                ∙ ap (λ y. yields y (f .memory)) (paid-is (o .sum) (f .result) hold (one (not known) + hostExit (d .result)) ((c .levels - deep) + d .count) ((plain c mach false a) .result)))
+                ∙ ap (λ y. yields y (f .memory)) (served-paid t right here (f .result) (one (not known))))
                 (g .0) (g .1)
 
       -- by what the shadow tables hold of the path, while they are kept
@@ -404,12 +434,6 @@ module _ (s : State) (r : Record) (m : List ℕ) (inv : Inv s r m) where
   figures-are [] ks o b kept e l most = same-figures _ _ _ _ _ _ (omega arith) (omega arith) (omega (arith, kept .used, most))
   figures-are (a ∷ xs) ks o b kept e l most = one-more a xs ks o b (figures-are xs) kept e l most
 
-  -- ---- the call
-
-  -- the record's own number of shadow tables in use is the book's
-  pub used-is : r .pools .shadow .used ≡ shadowTables (s .book .held)
-  used-is = tables-used (inv .shadow) (found.held-entries s r m inv) ∙ ap distinct (found.propers-longer (s .book .held))
-
   -- before the first address: no key in the room, and the shadow tables have the book's paths
   begins-so : Keeps (replicate forecastRoom 0) (record { used = r .pools .shadow .used; kept = true; count = 0 }) ps
   unfolding newest
@@ -417,19 +441,34 @@ module _ (s : State) (r : Record) (m : List ℕ) (inv : Inv s r m) where
     long = length-replicate {A = ℕ} forecastRoom 0;
     keys = tt;
     held = refl;
-    used = used-is;
+    used = used-is s r m inv;
   }
 
-  pub forecast-follows : (xs : List ℕ) → Follows (forecast xs) s r (forecastCall r m xs)
-  unfolding forecastCall forecastOf step refusal tests machineStep bookStep
-  forecast-follows xs =
-      judged-by (forecast xs) s r m _ inv
-      (tested s r m inv 14 (forecast xs) (leb (length xs) forecastRoom) (ended r (forecastOf c ht m hold (rootOf r) (keysOf r) xs) m) refl (λ e.
-      let few = leb-true (length xs) forecastRoom e in
-      let f = figuresOf c mach xs (s .book) in
+  forecast-figures : (xs : List ℕ) → length xs ≤ forecastRoom
+      → line (forecastOf c ht m hold (rootOf r) (keysOf r) xs) ≡ figuresLine (figuresOf c mach xs (s .book))
+  unfolding forecastOf
+  forecast-figures xs few =
       let o = start (r .pools .shadow .used) in
       let told = figures-are xs (replicate forecastRoom 0) o (s .book) begins-so refl (omega (arith, few)) (omega arith) in
       let from = figures-from c mach xs (s .book) in
-      follows-by (forecast xs) s (at c s) r r (forecastOf c ht m hold (rootOf r) (keysOf r) xs) (figuresLine f) m
-      (ap (λ y. answered (forecast xs) (at c s) (firstFailed ((y, 14) ∷ []))) e) refl
-      (ap line (told ∙ same-figures _ _ _ _ _ _ (omega arith) (omega arith) (omega (arith, from, begins-so .used)))) (at-inv inv)))
+      ap line (told ∙ same-figures _ _ _ _ _ _ (omega arith) (omega arith) (omega (arith, from, begins-so .used)))
+
+-- ---- the call, whatever the bits
+pub forecast-follows : (s : State) (r : Record) (m : List ℕ) → Inv s r m → (xs : List ℕ) → Follows (forecast xs) s r (forecastCall r m xs)
+unfolding forecastCall step refusal tests machineStep bookStep
+forecast-follows s r m inv xs = judged-by (forecast xs) s r m _ inv (go (configOf r .bits) (leb (length xs) forecastRoom) refl refl)
+  where
+    says : Answer
+    says = forecastOf (configOf r) (hostTop r) m (heldOf r) (rootOf r) (keysOf r) xs
+
+    refuses : (b d : Bool) → configOf r .bits ≡ b → leb (length xs) forecastRoom ≡ d
+        → refusal (configOf r) (forecast xs) (s .machine) (s .book) ≡ firstFailed ((not b, 16) ∷ (d, 14) ∷ [])
+    refuses b d p q = ap₂ (λ x y. firstFailed ((not x, 16) ∷ (y, 14) ∷ [])) p q
+
+    go : (b d : Bool) → configOf r .bits ≡ b → leb (length xs) forecastRoom ≡ d
+        → Follows (forecast xs) s r (cond (not b) (cond d (ended r says m) (refused r 14 m)) (refused r 16 m))
+    go true d p q = follows-no (forecast xs) 16 inv (refuses true d p q)
+    go false false p q = follows-no (forecast xs) 14 inv (refuses false false p q)
+    go false true p q =
+        follows-by (forecast xs) s (at (configOf r) s) r r says (figuresLine (figuresOf (configOf r) (s .machine) xs (s .book))) m
+        (ap (answered (forecast xs) (at (configOf r) s)) (refuses false true p q)) refl (forecast-figures s r m inv p xs (leb-true (length xs) forecastRoom q)) (at-inv inv)

@@ -24,7 +24,7 @@ use Rattle.spec_laws.proofs.Local.{Seen, seen}
 use Rattle.spec_laws.proofs.Granted.{granted-is, through}
 use Rattle.spec_laws.proofs.Indexes.{indexes-length}
 use Rattle.spec_laws.proofs.Depth.{PathFits, no-proper-prefix, fill-fits}
-use Rattle.spec_laws.proofs.Keeps.{Valid, again}
+use Rattle.spec_laws.proofs.Keeps.{Valid, again, right-deep}
 use Rattle.spec_laws.proofs.Added.{standing, standing-most, unbroken, unbroken-standing}
 use Rattle.area_laws.proofs.Paths.{onto}
 use Rattle.area_laws.proofs.Find.{steps}
@@ -160,10 +160,10 @@ module _ (s : State) (r : Record) (m : List ℕ) (inv : Inv s r m) where
       empty-right : (h : Held) → Valid cfg mach h → h .path ≡ [] → h .right ≡ true
       unfolding again seen walk levels trace
       empty-right h v e =
-          let z : (trace (world cfg mach) (walk cfg false (mach .root) [])) .result ≡ granted (v .frame, h .right) =
+          let z : (trace (world cfg mach) (walk cfg false (mach .root) [])) .result ≡ granted (v .frame, v .wide) =
           ap (λ p. (trace (world cfg mach) (walk cfg false (mach .root) p)) .result) (sym e) ∙ ap (λ (x : Seen Fault Place). x .result) (v .comes) in
-          let t = through (world cfg mach) (hosted (mach .root)) (λ q. levels cfg false (cfg .levels) (q .0) true []) (v .frame, h .right) z in
-          sym (ap (λ (x : Place). x .1) (granted-is (t .mid .0, true) (v .frame, h .right) (t .next)))
+          let t = through (world cfg mach) (hosted (mach .root)) (λ q. levels cfg false (cfg .levels) (q .0) true []) (v .frame, v .wide) z in
+          right-deep cfg mach h v (λ n. omega (arith, n, ap length e, rules .sizes .deep)) ∙ sym (ap (λ (x : Place). x .1) (granted-is (t .mid .0, true) (v .frame, v .wide) (t .next)))
 
       frame-held : (h : Held) → Valid cfg mach h → InGuestArea cfg (frames r m (onto [] (h .path)))
       frame-held h v =

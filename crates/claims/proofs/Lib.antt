@@ -2,8 +2,11 @@ pub mod Invariant
 pub mod Moves
 pub mod Paths
 pub mod Found
+pub mod Bits
+pub mod Fills
 pub mod Translates
 pub mod Puts
+pub mod OwnBits
 pub mod Requests
 pub mod Remaps
 pub mod Marks

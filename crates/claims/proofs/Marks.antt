@@ -19,7 +19,7 @@ use Rattle.spec.specs.Count.{bookStep}
 use Rattle.spec.specs.Refusal.{tests, refusal}
 use Rattle.spec.specs.Run.{State, told}
 use Rattle.spec.specs.Prefix.{All}
-use Rattle.spec_laws.proofs.Lists.{all-map, all-any}
+use Rattle.spec_laws.proofs.Lists.{all-map, all-any, all-kept}
 use Rattle.spec_laws.proofs.Keeps.{Valid}
 use Rattle.spec_laws.proofs.Runs.{BookFits}
 use Rattle.spec_laws.proofs.Indexes.{indexes-length, indexes-above}
@@ -45,7 +45,7 @@ use Rattle.drops_laws.proofs.Valid.{framesAt, entryOf, valid-entries, stays-sam
 use Rattle.calls.specs.Calls.{hostTop, headHeld, heldAfter, refused, withHeld, judged, markedOf, setMarkCall, clearMarkCall}
 use Rattle.claims.proofs.Invariant.{longer, topBy, Inv, Follows, stands, at}
 use Rattle.drops.specs.declared.Left.{Left}
-use Rattle.claims.proofs.Moves.{Moved, dropped-left, after, follows-no, follows-ok, after-fits, first-positive, invariant, inv-fits, inv-stands, inv-root, inv-shadow, inv-top, fits-held, maps-beside, shadow-drop, shadow-on, top-on, longer-keep, all-longer, all-kept, find-keep}
+use Rattle.claims.proofs.Moves.{Moved, dropped-left, after, follows-no, follows-ok, after-fits, first-positive, invariant, inv-fits, inv-stands, inv-root, inv-shadow, inv-top, fits-held, maps-beside, shadow-drop, shadow-on, top-on, longer-keep, all-longer, find-keep}
 use Rattle.words.specs.After.{After}
 
 -- ---- the prefix of a mark

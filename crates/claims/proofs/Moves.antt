@@ -22,7 +22,7 @@ use Rattle.spec.specs.Count.{bookStep}
 use Rattle.spec.specs.Refusal.{firstFailed, refusal}
 use Rattle.spec.specs.Run.{State, told, step}
 use Rattle.spec.specs.Prefix.{All}
-use Rattle.spec_laws.proofs.Lists.{all-map, all-keep}
+use Rattle.spec_laws.proofs.Lists.{all-map, all-kept}
 use Rattle.spec_laws.proofs.Trail.{frameIn, frameAt}
 use Rattle.spec_laws.proofs.Keeps.{Valid}
 use Rattle.spec_laws.proofs.Runs.{BookFits, step-fits}
@@ -60,6 +60,7 @@ module _ {r : Record} {len : ℕ} (f : Fits r len) where
   unfolding headHeld headTables
   fits-held h pool held = record {
     long = f .long;
+    bits = f .bits;
     sizes = f .sizes;
     root = f .root;
     marks = f .marks;
@@ -74,6 +75,7 @@ module _ {r : Record} {len : ℕ} (f : Fits r len) where
   unfolding headHost headTables
   fits-host p pool top = record {
     long = f .long;
+    bits = f .bits;
     sizes = f .sizes;
     root = f .root;
     marks = f .marks;
@@ -172,9 +174,6 @@ keep-swap f g (x ∷ xs) = keep-front f g x xs (f x) (g x) refl refl (keep-swap 
 -- a drop, then those with an index, is the other way round
 pub longer-keep : (f : Held → Bool) (hs : List Held) → longer (keep f hs) ≡ keep f (longer hs)
 longer-keep f hs = keep-swap (λ (h : Held). ltb 0 (length (h .path))) f hs
-
-pub all-kept : {A : Type 0} (P : A → Type 0) (f : A → Bool) (xs : List A) → All P xs → All P (keep f xs)
-all-kept P f xs a = all-map _ _ (keep f xs) (λ x k. k .0) (all-keep P f xs a)
 
 pub all-longer : (P : Held → Type 0) (hs : List Held) → All P hs → All P (longer hs)
 all-longer P hs a = all-kept P (λ (h : Held). ltb 0 (length (h .path))) hs a

@@ -2,7 +2,7 @@
 -- Assumes nothing.
 use mathlib.Core.Path.{_≡_, refl, sym, subst}
 use Prim.Native.Nat.{ℕ}
-use mathlib.Core.Bool.{not, _&&_}
+use mathlib.Core.Bool.{Bool, not, _&&_}
 use mathlib.Core.List.{List, [], _∷_}
 use mathlib.Core.Option.{Option, none, some}
 use lib.Dec.{T, eqb}
@@ -37,7 +37,7 @@ tests-other c (clearMark a n) m b = (other 4 tt, (other 5 tt, (other 6 tt, tt)))
 tests-other c (load a w) m b = (other 15 tt, (other 4 tt, tt))
 tests-other c (store a w v) m b = (other 15 tt, (other 4 tt, tt))
 tests-other c (device a w v) m b = (other 15 tt, (other 4 tt, tt))
-tests-other c (forecast xs) m b = (other 14 tt, tt)
+tests-other c (forecast xs) m b = (other 16 tt, (other 14 tt, tt))
 
 -- ---- a step, and a run, of the specification
 step-covered : (x : Call) (s : State) → Covered ((step x s) .0)
@@ -77,8 +77,8 @@ run-covered [] s = tt
 run-covered (x ∷ xs) s = (step-covered x s, run-covered xs ((step x s) .1))
 
 -- and so of the unit
-pub never-3-nor-11 : (m : List ℕ) (h s : ℕ) (xs : List Call) → refusalOf (length m) h s ≡ 0
-    → let e = openCall m h s in All (λ o. Covered (o .0)) (unitRun xs (e .result .unit) (e .memory))
-never-3-nor-11 m h s xs g =
-    let c = configBy (length m) h s in
-    subst (All (λ o. Covered (o .0))) (sym (demand-3 m h s xs g)) (run-covered xs (opened c m))
+pub never-3-nor-11 : (m : List ℕ) (h s : ℕ) (bits : Bool) (xs : List Call) → refusalOf (length m) h s bits ≡ 0
+    → let e = openCall m h s bits in All (λ o. Covered (o .0)) (unitRun xs (e .result .unit) (e .memory))
+never-3-nor-11 m h s bits xs g =
+    let c = configBy (length m) h s bits in
+    subst (All (λ o. Covered (o .0))) (sym (demand-3 m h s bits xs g)) (run-covered xs (opened c m))

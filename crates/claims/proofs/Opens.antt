@@ -3,6 +3,7 @@
 use mathlib.Core.Path.{_≡_, refl, sym, subst}
 use Prim.Native.Nat.{ℕ}
 use native.Mathlib.Omega.{arith}
+use mathlib.Core.Bool.{Bool}
 use mathlib.Core.List.{List, [], Permᴰ·refl}
 use native.Mathlib.Decide.{ℕ-discrete}
 use mathlib.Core.Logic.{_≢_}
@@ -29,47 +30,47 @@ use Rattle.calls.specs.Calls.{hostTop, ended, refused, openCall}
 use Rattle.claims.proofs.Invariant.{Inv}
 
 -- a refused opening hands back a record of zeros and leaves the memory
-pub refused-call : (m : List ℕ) (h s : ℕ) → refusalOf (length m) h s ≢ 0 → openCall m h s ≡ refused zeros (refusalOf (length m) h s) m
+pub refused-call : (m : List ℕ) (h s : ℕ) (bits : Bool) → refusalOf (length m) h s bits ≢ 0 → openCall m h s bits ≡ refused zeros (refusalOf (length m) h s bits) m
 unfolding openCall
-refused-call m h s n = rw (refused-open m h s n, ne-eqb (refusalOf (length m) h s) 0 n)
+refused-call m h s bits n = rw (refused-open m h s bits n, ne-eqb (refusalOf (length m) h s bits) 0 n)
 
-pub granted-call : (m : List ℕ) (h s : ℕ) → refusalOf (length m) h s ≡ 0 → openCall m h s ≡ ended (grantedOf m h s .result) answer.Ok (grantedOf m h s .memory)
+pub granted-call : (m : List ℕ) (h s : ℕ) (bits : Bool) → refusalOf (length m) h s bits ≡ 0 → openCall m h s bits ≡ ended (grantedOf m h s bits .result) answer.Ok (grantedOf m h s bits .memory)
 unfolding openCall
-granted-call m h s e = rw (granted-open m h s e)
+granted-call m h s bits e = rw (granted-open m h s bits e)
 
--- whatever the memory and the numbers
-pub open-says : (m : List ℕ) (h s : ℕ) → line (openCall m h s .result .answer) ≡ (opening (configBy (length m) h s) m) .0
-open-says m h s = go (ℕ-discrete (refusalOf (length m) h s) 0)
+-- whatever the memory, the numbers and the choice of bits
+pub open-says : (m : List ℕ) (h s : ℕ) (bits : Bool) → line (openCall m h s bits .result .answer) ≡ (opening (configBy (length m) h s bits) m) .0
+open-says m h s bits = go (ℕ-discrete (refusalOf (length m) h s bits) 0)
   where
-    go : Dec (refusalOf (length m) h s ≡ 0) → line (openCall m h s .result .answer) ≡ (opening (configBy (length m) h s) m) .0
-    go (yes e) = rw (granted-call m h s e, granted-opening m h s e)
-    go (no n) = rw (refused-call m h s n, refused-opening m h s n)
+    go : Dec (refusalOf (length m) h s bits ≡ 0) → line (openCall m h s bits .result .answer) ≡ (opening (configBy (length m) h s bits) m) .0
+    go (yes e) = rw (granted-call m h s bits e, granted-opening m h s bits e)
+    go (no n) = rw (refused-call m h s bits n, refused-opening m h s bits n)
 
 -- after a granted opening the invariant holds for a machine with nothing mapped and root 0, and an empty book
-module _ (m : List ℕ) (h s : ℕ) (grant : refusalOf (length m) h s ≡ 0) where
-  maps : let k = grantedOf m h s in Maps (configBy (length m) h s) [] (k .result .pools .host) (k .memory)
+module _ (m : List ℕ) (h s : ℕ) (bits : Bool) (grant : refusalOf (length m) h s bits ≡ 0) where
+  maps : let k = grantedOf m h s bits in Maps (configBy (length m) h s bits) [] (k .result .pools .host) (k .memory)
   maps = record {
     deep = omega arith;
-    few = granted-sized (length m) h s grant .0 .frames;
-    holds = holds-leaves (granted-host m h s grant) (leaves (hostMap (configBy (length m) h s) [])) (no-leaves (configBy (length m) h s));
+    few = granted-sized (length m) h s bits grant .0 .frames;
+    holds = holds-leaves (granted-host m h s bits grant) (leaves (hostMap (configBy (length m) h s bits) [])) (no-leaves (configBy (length m) h s bits));
     frames = tt;
     inside = tt;
   }
 
-  pub opened-inv : let k = grantedOf m h s in Inv (opened (configBy (length m) h s) m) (k .result) (k .memory)
+  pub opened-inv : let k = grantedOf m h s bits in Inv (opened (configBy (length m) h s bits) m) (k .result) (k .memory)
   unfolding grantedOf firstOf tableOf
   opened-inv =
-      let c = configBy (length m) h s in
-      let F = framesAt c (hostTop (grantedOf m h s .result)) (grantedOf m h s .memory) 0 in
+      let c = configBy (length m) h s bits in
+      let F = framesAt c (hostTop (grantedOf m h s bits .result)) (grantedOf m h s bits .memory) 0 in
       record {
-        fits = granted-fits m h s grant;
+        fits = granted-fits m h s bits grant;
         sorted = none-sorted levels (tableOf []) refl;
         root = refl;
         maps = maps;
-        area = granted-guest m h s grant;
+        area = granted-guest m h s bits grant;
         book = opened-fits c m;
         valid = tt;
         marks = subst (λ ms. SameMembers ms []) (sym (no-marks levels (tableOf []) refl)) (Permᴰ·refl []);
-        shadow = holds-leaves (granted-shadow m h s grant F) (leafAt (entryOf c F) []) (λ y. sym (leaf-none (entryOf c F) y));
+        shadow = holds-leaves (granted-shadow m h s bits grant F) (leafAt (entryOf c F) []) (λ y. sym (leaf-none (entryOf c F) y));
         top = refl;
       }

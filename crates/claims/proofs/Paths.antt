@@ -21,7 +21,7 @@ use Rattle.spec_laws.proofs.Bind.{bind-cong}
 use Rattle.spec_laws.proofs.Indexes.{indexes-length, indexes-split, indexes-take}
 use Rattle.walk.proofs.Stands.{plainWalked}
 use Rattle.translate.specs.Translate.{exitBy, pathIndexes}
-use Rattle.request.specs.Access.{loadBy, storeBy, serving, refused}
+use Rattle.request.specs.Access.{finishBy, loadBy, storeBy, serving, refused}
 use Rattle.translate.specs.declared.Held.{Held as Holding}
 use Rattle.request.specs.declared.Put.{Put}
 use Rattle.translate.specs.declared.Translated.{Translated}
@@ -84,13 +84,12 @@ pub held-same : (r : Record) → withHeld r (heldOf r) ≡ r
 unfolding headHeld headTables
 held-same r = refl
 
-abbrev pub loadedBy : Record → ℕ → ℕ → After Translated → Walked → After Reply
-loadedBy r a w o x = servedBy r (loadBy (heldOf r) a w o x)
+abbrev pub loadedBy : Record → ℕ → ℕ → (List ℕ → List ℕ) → After Translated → Walked → After Reply
+loadedBy r a w set o x = servedBy r (loadBy (heldOf r) a w set o x)
 
-abbrev pub storedBy : Record → ℕ → ℕ → ℕ → After Translated → Walked → After Reply
-storedBy r a w v o x = servedBy r (storeBy (configOf r) (heldOf r) a w v o x)
+abbrev pub storedBy : Record → ℕ → ℕ → ℕ → (List ℕ → List ℕ) → After Translated → Walked → After Reply
+storedBy r a w v set o x = servedBy r (storeBy (configOf r) (heldOf r) a w v set o x)
 
 -- a store that came to its bytes, by whether the drops before it met no damage
-abbrev pub writtenIn : Record → Holding → ℕ → ℕ → After Put → Bool → After Reply
-writtenIn r h n e x b =
-    servedBy r (cond b (serving (record { pool = x .result .pool; frame = h .frame }) (answer.Done n (e + x .result .exits)) (x .memory)) (refused (heldOf r) 11 (x .memory)))
+abbrev pub writtenIn : Record → Holding → ℕ → ℕ → ℕ → ℕ → ℕ → ℕ → (List ℕ → List ℕ) → After Put → Bool → After Reply
+writtenIn r h n e t a w v set x b = servedBy r (cond b (finishBy h n e t a w v (x .result) (set (x .memory))) (refused (heldOf r) 11 (x .memory)))

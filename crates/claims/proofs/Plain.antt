@@ -13,47 +13,62 @@ use Rattle.spec.specs.declared.Fault.{Fault}
 use Rattle.spec.specs.Answer as say
 use Rattle.spec.specs.Answer.{Line, line}
 use Rattle.spec.specs.Config.{Config, guestBase}
-use Rattle.spec.specs.Entry.{wordOf, pageOf}
+use Rattle.spec.specs.Entry.{wordOf}
 use Rattle.spec.specs.Bytes.{widthFits, bytesAt, withBytes}
-use Rattle.spec.specs.Walk.{Result, granted, failed}
-use Rattle.spec.specs.Plain.{Place, walk}
-use Rattle.spec.specs.Machine.{Machine, place}
+use Rattle.spec.specs.Walk.{World, Result, granted, failed, trace}
+use Rattle.spec.specs.Plain.{Place}
+use Rattle.spec.specs.Machine.{Machine, world, place, wordIn}
+use Rattle.spec.specs.Bits.{owes, judged, bitsSet}
 use Rattle.spec.specs.Book.{depth}
-use Rattle.spec.specs.Call.{Call, device, addressIndexes, plain, access}
+use Rattle.spec.specs.Call.{Call, device, addressIndexes, plain, verdict, access}
 use Rattle.spec.specs.Count.{Counted, request, storing}
 use Rattle.spec.specs.Run.{State, lineOf, step, after, opened}
 use Rattle.spec_laws.proofs.Counts.{request-count}
+use Rattle.spec_laws.proofs.Before.{off-bits}
 use Rattle.spec_laws.proofs.Depth.{depth-bound}
-use Rattle.walk.specs.Memory.{walkedOf}
-use Rattle.walk.proofs.Stands.{plainWalked, same-word, root-walked}
+use Rattle.words.specs.Words as words
+use Rattle.walk.specs.Memory.{memoryWorld, walkedOf}
+use Rattle.translate.specs.Translate.{whole}
+use Rattle.walk.proofs.Stands.{plainWalked}
 use Rattle.marks.proofs.Book.{depth-book}
 use Rattle.record.specs.declared.Record.{Record}
-use Rattle.record.specs.Record.{configOf, configBy}
+use Rattle.record.specs.Record.{configOf, configBy, headTables}
 use Rattle.record.specs.Open.{refusalOf}
-use Rattle.calls.specs.Calls.{hostTop, refused, admitted, placed, addressOk, depthAt, loadCall, storeCall, deviceCall, callOf}
-use Rattle.claims.specs.Plain.{requestAt, isStore, plainWalk, Granted, Faulted, AsWalked, Unrefused}
+use Rattle.calls.specs.Calls.{hostTop, heldOf, headHeld, refused, admitted, placed, addressOk, depthAt, loadCall, storeCall, deviceCall, callOf}
+use Rattle.claims.specs.Plain.{requestAt, isStore, judgedWalk, plainWalk, withOwn, Granted, Faulted, AsWalked, Unrefused}
 use Rattle.claims.specs.Run.{guestArea, runOf}
 use Rattle.claims.proofs.Invariant.{Inv, at}
-use Rattle.spec_laws.proofs.Indexes.{indexes-all}
 use Rattle.claims.proofs.Found.{rules, memory-stands, root-small}
-use Rattle.claims.proofs.Requests.{page-in, load-step, store-step}
-use Rattle.claims.proofs.Demands.{follows, after-run}
+use Rattle.claims.proofs.Requests.{load-step, store-step, settles, same-bitted}
+use Rattle.claims.proofs.Moves.{at-inv}
+use Rattle.claims.proofs.Bits.{whole-owed, whole-walked}
+use Rattle.claims.proofs.Demands.{Set, follows, after-run}
 use Rattle.words.specs.After.{After}
 use Rattle.calls.specs.declared.Reply.{Reply}
 
-module _ (s : State) (r : Record) (m : List ℕ) (inv : Inv s r m) where
+module _ (s : State) (r : Record) (m : List ℕ) (inv : Inv s r m) (covered : Set s r) where
   abbrev c : Config
   c = configOf r
 
   abbrev mach : Machine
   mach = s .machine
 
-  -- over memory it is the machine's walk
-  plain-is : (st : Bool) (a : ℕ) → plainWalk r m st a ≡ plainWalked ((plain c mach st a) .result) ((plain c mach st a) .count)
-  unfolding plain
+  -- over memory it is the machine's verdict
+  plain-is : (st : Bool) (a : ℕ) → plainWalk r m st a ≡ plainWalked (verdict c mach st a) ((plain c mach st a) .count)
+  unfolding verdict owes
   plain-is st a =
-      ap (λ x. walkedOf c (hostTop r) m 0 (walk c st x (addressIndexes c a))) (inv .root)
-      ∙ root-walked c mach (hostTop r) m (memory-stands s r m inv) st (mach .root) (addressIndexes c a) (root-small s r m inv) (indexes-all (c .levels) (pageOf a))
+      ap (λ x. judgedWalk (owes c v st (trace v (whole c st x a))) (walkedOf c (hostTop r) m 0 (whole c st x a))) (inv .root)
+      ∙ ap₂ judgedWalk (ap (λ o. cond (c .bits) o none) (whole-owed c mach (hostTop r) m (memory-stands s r m inv) (root-small s r m inv) st a)) (whole-walked c mach (hostTop r) m (memory-stands s r m inv) (root-small s r m inv) st a)
+      ∙ go (owes c (world c mach) st (plain c mach st a)) ((plain c mach st a) .result)
+    where
+      v : World
+      v = memoryWorld c (hostTop r) m
+
+      go : (o : Option (ℕ × ℕ)) (x : Result Fault Place) → judgedWalk o (plainWalked x ((plain c mach st a) .count)) ≡ plainWalked (judged o x) ((plain c mach st a) .count)
+      go none (granted p) = refl
+      go none (failed x) = refl
+      go (some o) (granted p) = refl
+      go (some o) (failed x) = refl
 
   -- the depth of an address is the book's
   pub deep : (a : ℕ) → depthAt r a ≡ depth (s .book .marks) (addressIndexes c a)
@@ -64,7 +79,7 @@ module _ (s : State) (r : Record) (m : List ℕ) (inv : Inv s r m) where
     abbrev cost : Bool → Counted
     cost st = request c mach (s .book) st a (depth (s .book .marks) (addressIndexes c a))
 
-    reads : (st : Bool) (p : Place) → (plain c mach st a) .result ≡ granted p → (cost st) .references ≡ c .levels + c .levels * depthAt r a
+    reads : (st : Bool) (p : Place) → verdict c mach st a ≡ granted p → (cost st) .references ≡ c .levels + c .levels * depthAt r a
     reads st p e =
         request-count c mach (s .book) st a (depth (s .book .marks) (addressIndexes c a)) p (depth-bound (c .levels) (s .book .marks) (addressIndexes c a) (inv .book .marks)) e
         ∙ ap (λ d. c .levels + c .levels * d) (sym (deep a))
@@ -74,53 +89,62 @@ module _ (s : State) (r : Record) (m : List ℕ) (inv : Inv s r m) where
 
     -- the specification's step, by the walk's result
     abbrev stepBy : Option ℕ → Result Fault Place → Line × List ℕ
-    stepBy none x = let o = access c mach a w none x in (lineOf (o .0) ((cost false) .references) ((cost false) .exits), o .1 .area)
+    stepBy none x = let o = access c mach (bitsSet c false mach (plain c mach false a)) a w none x in (lineOf (o .0) ((cost false) .references) ((cost false) .exits), o .1 .area)
     stepBy (some v) x =
-        let o = access c mach a w (some v) x in
+        let o = access c mach (bitsSet c true mach (plain c mach true a)) a w (some v) x in
         let k = storing (wordOf a) x (cost true) in
         (lineOf (o .0) (k .references) (k .exits), o .1 .area)
 
-    step-is : (v : Option ℕ) → let o = step (requestAt a w v) (at c s) in (o .0, o .1 .machine .area) ≡ stepBy v ((plain c mach (isStore v) a) .result)
-    step-is none = ap (λ o. (o .0, o .1 .machine .area)) (load-step s r m inv a w wide ok)
-    step-is (some v) = ap (λ o. (o .0, o .1 .machine .area)) (store-step s r m inv a w v wide ok)
+    step-is : (v : Option ℕ) → let o = step (requestAt a w v) (at c s) in (o .0, o .1 .machine .area) ≡ stepBy v (verdict c mach (isStore v) a)
+    step-is none = ap (λ o. (o .0, o .1 .machine .area)) (load-step s r m inv covered a w wide ok)
+    step-is (some v) = ap (λ o. (o .0, o .1 .machine .area)) (store-step s r m inv covered a w v wide ok)
 
     -- a load or store leaves the configuration
     config-is : (v : Option ℕ) → (step (requestAt a w v) (at c s)) .1 .config ≡ c
-    config-is none = ap (λ o. o .1 .config) (load-step s r m inv a w wide ok)
-    config-is (some v) = ap (λ o. o .1 .config) (store-step s r m inv a w v wide ok)
+    config-is none = ap (λ o. o .1 .config) (load-step s r m inv covered a w wide ok)
+    config-is (some v) = ap (λ o. o .1 .config) (store-step s r m inv covered a w v wide ok)
 
     -- and what the unit does
-    does : (v : Option ℕ) (x : Result Fault Place) → (plain c mach (isStore v) a) .result ≡ x
+    does : (v : Option ℕ) (x : Result Fault Place) → verdict c mach (isStore v) a ≡ x
         → let e = callOf (requestAt a w v) r m in (line (e .result .answer), guestArea r (e .memory)) ≡ stepBy v x
     does v x q =
-        let f = follows (requestAt a w v) s r m inv in
+        let f = follows (requestAt a w v) s r m inv covered in
         let e = callOf (requestAt a w v) r m in
         ap₂ (λ l g. (l, g)) (f .says) (ap (λ k. drop (512 * guestBase k) (e .memory)) (sym (f .config ∙ config-is v)) ∙ f .next .area)
         ∙ step-is v ∙ ap (stepBy v) q
 
-    granted-by : (v : Option ℕ) (p : Place) → (plain c mach (isStore v) a) .result ≡ granted p → Granted r m a w v (callOf (requestAt a w v) r m) (p .0)
+    -- on the memory with its bits, which stands for the machine that has them
+    with-bits : (st : Bool) (p : Place) (q : verdict c mach st a ≡ granted p)
+        → (guestArea r (withOwn r m st a) ≡ bitsSet c st mach (plain c mach st a) .area)
+        × (words.wordIn (withOwn r m st a) (p .0) (wordOf a) ≡ wordIn c (bitsSet c st mach (plain c mach st a)) (p .0) (wordOf a))
+    unfolding headHeld headTables
+    with-bits st p q =
+        let i = settles s r m inv covered st a p q (c .bits) (λ off. off-bits c st mach (plain c mach st a) off) (λ on. on) (s .book) (heldOf r) m (at-inv inv) in
+        (i .area, same-bitted s r m inv covered st a p q (s .book) (heldOf r) (withOwn r m st a) i)
+
+    granted-by : (v : Option ℕ) (p : Place) → verdict c mach (isStore v) a ≡ granted p → Granted r m a w v (callOf (requestAt a w v) r m) (p .0)
     unfolding access storing
     granted-by none p q =
         let d = does none (granted p) q in
-        let e = same-word c mach (hostTop r) m (memory-stands s r m inv) (p .0) (wordOf a) (page-in s r m inv false a p q) in
+        let e = with-bits false p q in
         record {
           exits = (cost false) .exits;
-          says = ap (λ o. o .0) d ∙ ap₂ (λ x n. say.value (bytesAt a w x) n ((cost false) .exits)) (sym e) (reads false p q);
+          says = ap (λ o. o .0) d ∙ ap₂ (λ x n. say.value (bytesAt a w x) n ((cost false) .exits)) (sym (e .1)) (reads false p q);
           most = few;
-          area = ap (λ o. o .1) d ∙ sym (inv .area);
+          area = ap (λ o. o .1) d ∙ sym (e .0);
         }
     granted-by (some v) p q =
         let d = does (some v) (granted p) q in
         let x = (storing (wordOf a) (granted p) (cost true)) .exits in
-        let e = same-word c mach (hostTop r) m (memory-stands s r m inv) (p .0) (wordOf a) (page-in s r m inv true a p q) in
+        let e = with-bits true p q in
         record {
           exits = x;
           says = ap (λ o. o .0) d ∙ ap (λ n. say.done n x) (reads true p q);
           most = few;
-          area = ap (λ o. o .1) d ∙ ap₂ (λ xs y. set xs (place c (p .0) (wordOf a)) (withBytes a w v y)) (sym (inv .area)) (sym e);
+          area = ap (λ o. o .1) d ∙ ap₂ (λ xs y. set xs (place c (p .0) (wordOf a)) (withBytes a w v y)) (sym (e .0)) (sym (e .1));
         }
 
-    faulted-by : (v : Option ℕ) (y : Fault) → (plain c mach (isStore v) a) .result ≡ failed y → Faulted r m (callOf (requestAt a w v) r m) y
+    faulted-by : (v : Option ℕ) (y : Fault) → verdict c mach (isStore v) a ≡ failed y → Faulted r m (callOf (requestAt a w v) r m) y
     unfolding access storing
     faulted-by none y q =
         let d = does none (failed y) q in
@@ -130,9 +154,9 @@ module _ (s : State) (r : Record) (m : List ℕ) (inv : Inv s r m) where
         record { references = (cost true) .references; exits = (cost true) .exits; says = ap (λ o. o .0) d; area = ap (λ o. o .1) d ∙ sym (inv .area) }
 
     fits-walked : (v : Option ℕ) → AsWalked r m a w v (callOf (requestAt a w v) r m) (plainWalk r m (isStore v) a)
-    fits-walked v = subst (AsWalked r m a w v (callOf (requestAt a w v) r m)) (sym (plain-is (isStore v) a)) (go ((plain c mach (isStore v) a) .result) refl)
+    fits-walked v = subst (AsWalked r m a w v (callOf (requestAt a w v) r m)) (sym (plain-is (isStore v) a)) (go (verdict c mach (isStore v) a) refl)
       where
-        go : (x : Result Fault Place) → (plain c mach (isStore v) a) .result ≡ x
+        go : (x : Result Fault Place) → verdict c mach (isStore v) a ≡ x
             → AsWalked r m a w v (callOf (requestAt a w v) r m) (plainWalked x ((plain c mach (isStore v) a) .count))
         go (granted p) q = granted-by v p q
         go (failed y) q = faulted-by v y q
@@ -161,12 +185,12 @@ module _ (s : State) (r : Record) (m : List ℕ) (inv : Inv s r m) where
 -- ---- Demand 2. After an opening and any calls, a load or store that is not refused is granted exactly where the plain walk over
 -- that memory is granted, and touches its bytes where this walk comes to; else it says the fault that the walk meets
 
-pub demand-2 : (m : List ℕ) (h s : ℕ) (xs : List Call) → refusalOf (length m) h s ≡ 0 → (a w : ℕ) (v : Option ℕ)
-    → let u = runOf m h s xs in
+pub demand-2 : (m : List ℕ) (h s : ℕ) (bits : Bool) (xs : List Call) → refusalOf (length m) h s bits ≡ 0 → (a w : ℕ) (v : Option ℕ)
+    → let u = runOf m h s bits xs in
     let r = u .result .unit in
     let n = u .memory in
     let e = callOf (requestAt a w v) r n in
     Unrefused (e .result .answer) → AsWalked r n a w v e (plainWalk r n (isStore v) a)
-demand-2 m h s xs g a w v =
-    let u = runOf m h s xs in
-    as-walked (after xs (opened (configBy (length m) h s) m)) (u .result .unit) (u .memory) (after-run m h s xs g .1) a w v
+demand-2 m h s bits xs g a w v =
+    let u = runOf m h s bits xs in
+    as-walked (after xs (opened (configBy (length m) h s bits) m)) (u .result .unit) (u .memory) (after-run m h s bits xs g .1) (after-run m h s bits xs g .2) a w v

@@ -122,7 +122,7 @@ none-used P g (u ∷ us) a n = rw (ne-eqb g u (λ e. n (subst P (sym e) (a .0)))
 valid-unused : (c : Config) (s : Machine) (h : Held) → Valid c s h → (g : ℕ) → lookup g (s .mappings) ≡ none → usesMapping g h ≡ false
 unfolding again seen world
 valid-unused c s h v g e =
-    let found = walk-found (world c s) c false (s .root) (h .path) (v .frame, h .right) (ap (λ (x : Seen Fault Place). x .result) (v .comes)) in
+    let found = walk-found (world c s) c false (s .root) (h .path) (v .frame, v .wide) (ap (λ (x : Seen Fault Place). x .result) (v .comes)) in
     none-used (λ f. lookup f (s .mappings) ≢ none) g (h .uses)
     (subst (All (λ f. lookup f (s .mappings) ≢ none)) (ap (λ (x : Seen Fault Place). x .uses) (v .comes)) found) (λ k. k e)
 

@@ -19,14 +19,19 @@ use Rattle.spec.specs.Entry.{wordOf, pageOf}
 use Rattle.spec.specs.Walk.{Walk, Trace, Result, granted, failed, trace, _>>_}
 use Rattle.spec.specs.Plain.{Place, must, hosted, next}
 use Rattle.spec.specs.Machine.{Machine, world, wordIn, stored}
-use Rattle.spec.specs.Book.{depth, holding, dropWord, watched}
-use Rattle.spec.specs.Call.{Call, load, store, device, addressIndexes, plain, deviceWalk, access, machineStep}
-use Rattle.spec.specs.Count.{Counted, one, hostExit, request, storing, unshadowed, bookStep}
+use Rattle.spec.specs.Prefix.{All}
+use Rattle.spec.specs.Book.{Book, depth, holding, dropWord, watched}
+use Rattle.spec.specs.Bits.{setBits, bitsSet}
+use Rattle.spec.specs.Call.{Call, load, store, device, addressIndexes, plain, verdict, deviceWalk, access, asked, machineStep}
+use Rattle.spec.specs.Count.{Counted, one, hostExit, isGranted, request, storing, unshadowed, bookStep}
 use Rattle.spec.specs.Bytes.{widthFits, aligned, bytesAt, withBytes}
 use Rattle.spec.specs.Refusal.{firstFailed, deviceFits, tests, refusal}
 use Rattle.spec.specs.Run.{State, lineOf, answered, step}
 use Rattle.spec_laws.proofs.Lists.{and-left}
 use Rattle.spec_laws.proofs.Keeps.{plain-in}
+use Rattle.spec_laws.proofs.Counts.{verdict-granted}
+use Rattle.spec_laws.proofs.SetBits.{set-on}
+use Rattle.spec_laws.proofs.Covered.{Covered}
 use Rattle.spec_laws.proofs.Asks.{asks-trace, AnswerIn, FaultFits, Guest, asks-bind, hosted-asks}
 use Rattle.words.specs.Words as words
 use Rattle.entry.proofs.Entries.{word-fits}
@@ -38,14 +43,18 @@ use Rattle.record.specs.Record.{configOf}
 use Rattle.translate.specs.Translate.{translation, exitBy}
 use Rattle.request.proofs.Device.{deviceScript, device-script}
 use Rattle.record.specs.Record.{headTables}
-use Rattle.request.specs.Access.{loadBy, loadOf, writtenBy, storeBy, storeOf, deviceBy, deviceOf}
+use Rattle.accessed.specs.Entries.{bitsIn}
+use Rattle.translate.specs.declared.Held.{Held as Holding}
+use Rattle.request.specs.Access.{bitsOf, settledOf, bytesIn, loadBy, loadFrom, loadOf, writtenBy, storeBy, storeFrom, storeOf, deviceBy, deviceOf}
 use Rattle.calls.specs.Calls.{hostTop, heldOf, headHeld, ended, refused, judged, admitted, placed, withHeld, servedBy, addressOk, translatedOf, loadCall, storeCall, deviceCall}
 use Rattle.claims.proofs.Invariant.{Inv, Follows, stands, at}
 use Rattle.claims.proofs.Paths.{exit-is}
 use Rattle.claims.proofs.Found as found
 use Rattle.claims.proofs.Moves.{at-inv}
-use Rattle.claims.proofs.Translates.{Translates, translates}
-use Rattle.claims.proofs.Puts.{puts}
+use Rattle.claims.proofs.Translates.{cameTo, Translates, translates}
+use Rattle.claims.proofs.Bits as bits
+use Rattle.claims.proofs.Bits.{bits-are}
+use Rattle.claims.proofs.Puts.{bits-next, drops, unread-next}
 use Rattle.words.specs.After.{After, yields}
 use Rattle.translate.specs.declared.Translated.{Translated}
 use Rattle.calls.specs.declared.Reply.{Reply}
@@ -60,7 +69,7 @@ follows-by x s t r q a l n e k i v =
 pub judged-by : (x : Call) (s : State) (r : Record) (m : List ℕ) (e : After Reply) → Inv s r m → Follows x s r e → Follows x s r (judged r m e)
 judged-by x s r m e inv f = subst (λ b. Follows x s r (cond b e (refused r 3 m))) (sym (inv .fits)) f
 
-module _ (s : State) (r : Record) (m : List ℕ) (inv : Inv s r m) where
+module _ (s : State) (r : Record) (m : List ℕ) (inv : Inv s r m) (covered : All (Covered (configOf r) (s .machine)) (s .book .held)) where
   abbrev c : Config
   c = configOf r
 
@@ -94,10 +103,47 @@ module _ (s : State) (r : Record) (m : List ℕ) (inv : Inv s r m) where
   pub page-in : (st : Bool) (a : ℕ) (p : Place) → (plain c mach st a) .result ≡ granted p → InGuestArea c (p .0)
   page-in st a p e = plain-in c mach st a p (found.memory-stands s r m inv .inside) (found.root-small s r m inv) e
 
-  -- what memory a translation leaves stands for the machine still
-  after-stands : (st : Bool) (a : ℕ) (k : Counted) (o : After Translated) (t : Translates s r m st a k o) → Stands c mach ht (t .memory)
-  unfolding headHeld headTables
-  after-stands st a k o t = stands c mach (r .pools .host) (t .memory) (t .next .maps) (t .next .area)
+  -- ---- the bits of a granted request
+  module _ (st : Bool) (a : ℕ) (p : Place) (grant : verdict c mach st a ≡ granted p) where
+    walk-grant : (plain c mach st a) .result ≡ granted p
+    walk-grant = verdict-granted c mach st a p grant
+
+    -- the machine that has them
+    abbrev pub bitted : Machine
+    bitted = bitsSet c st mach (plain c mach st a)
+
+    -- over any memory that stands for the machine, with any paths held, they are set as the machine's
+    pub settles : (sets : Bool) → (sets ≡ false → bitted ≡ mach) → (sets ≡ true → c .bits ≡ true) → (b : Book) (h : Holding) (n : List ℕ)
+        → Inv (record { config = c; machine = mach; book = b }) (withHeld r h) n
+        → Inv (record { config = c; machine = bitted; book = b }) (withHeld r h) (settledOf c ht (r .guest .root .0) st a sets n)
+    unfolding settledOf headHeld headTables
+    settles false own chosen b h n i = subst (λ x. Inv (record { config = c; machine = x; book = b }) (withHeld r h) n) (sym (own refl)) i
+    settles true own chosen b h n i = subst (λ x. Inv (record { config = c; machine = x; book = b }) (withHeld r h) (bitsOf c ht n (r .guest .root .0) st a)) on-bits
+        (subst (Inv (record { config = c; machine = setBits c st mach ((plain c mach st a) .reads); book = b }) (withHeld r h)) (sym set-is)
+        (bits-next ((plain c mach st a) .reads) st (record { config = c; machine = mach; book = b }) (withHeld r h) n i reads-in))
+      where
+        here : Stands c mach ht n
+        here = found.memory-stands (record { config = c; machine = mach; book = b }) (withHeld r h) n i
+
+        small : mach .root < 2 ^ frameBits c
+        small = found.root-small s r m inv
+
+        reads-in : All (λ x. InGuestArea c (x .0) × (x .1 < 512)) ((plain c mach st a) .reads)
+        reads-in = bits.whole-reads c mach ht n here small st a
+
+        on-bits : setBits c st mach ((plain c mach st a) .reads) ≡ bitted
+        on-bits = set-on c st mach (plain c mach st a) (chosen refl)
+
+        set-is : bitsOf c ht n (r .guest .root .0) st a ≡ bitsIn st n ((plain c mach st a) .reads)
+        set-is =
+            ap (λ x. bitsOf c ht n x st a) (inv .root) ∙ bits-are c mach ht n here small st a p walk-grant
+
+    -- the word that it comes to
+    pub same-bitted : (b : Book) (h : Holding) (n : List ℕ) → Inv (record { config = c; machine = bitted; book = b }) (withHeld r h) n
+        → words.wordIn n (p .0) (wordOf a) ≡ wordIn c bitted (p .0) (wordOf a)
+    unfolding headHeld headTables
+    same-bitted b h n i =
+        same-word c bitted ht n (found.memory-stands (record { config = c; machine = bitted; book = b }) (withHeld r h) n i) (p .0) (wordOf a) (page-in st a p walk-grant)
 
   -- ---- load
   module _ (a w : ℕ) where
@@ -105,96 +151,115 @@ module _ (s : State) (r : Record) (m : List ℕ) (inv : Inv s r m) where
     costs st = request c mach (s .book) st a (depth (s .book .marks) (addressIndexes c a))
 
     pub load-step : widthFits w ≡ true → addressOk false c a w ≡ true
-        → let o = access c mach a w none ((plain c mach false a) .result) in
+        → let o = asked c mach false a w none in
         step (load a w) (at c s) ≡ (lineOf (o .0) ((costs false) .references) ((costs false) .exits), record { config = c; machine = o .1; book = (costs false) .book })
     unfolding step refusal tests machineStep bookStep
     load-step wide ok = ap₂ (λ d b. answered (load a w) (at c s) (firstFailed ((d, 15) ∷ (b, 4) ∷ []))) wide ok
 
-    loaded : widthFits w ≡ true → addressOk false c a w ≡ true → (x : Result Fault Place) → (plain c mach false a) .result ≡ x
-        → Follows (load a w) s r (servedBy r (loadBy (heldOf r) a w (translatedOf r m false a) (translatedOf r m false a .result .walked)))
+    loaded : widthFits w ≡ true → addressOk false c a w ≡ true → Follows (load a w) s r (servedBy r (loadFrom c ht (r .guest .root .0) (heldOf r) a w (translatedOf r m false a)))
     unfolding access headHeld headTables
-    loaded wide ok x e =
-        subst (Follows (load a w) s r) (sym (ap (λ (o : After Translated). servedBy r (loadBy (heldOf r) a w o (o .result .walked))) (t .done) ∙ ap (λ y. servedBy r (loadBy (heldOf r) a w (left y) (plainWalked y (k .references)))) e)) (by x e)
+    loaded wide ok = subst (Follows (load a w) s r) (sym (ap (λ (o : After Translated). servedBy r (loadFrom c ht (r .guest .root .0) (heldOf r) a w o)) (t .done))) (by (verdict c mach false a) refl)
       where
         k : Counted
         k = costs false
 
         t : Translates s r m false a (costs false) (translatedOf r m false a)
-        t = translates s r m inv false a
+        t = translates s r m inv covered false a
+
+        set : List ℕ → List ℕ
+        set = settledOf c ht (r .guest .root .0) false a (t .sets)
 
         left : Result Fault Place → After Translated
-        left y = yields (translation (t .held) (k .exits) (plainWalked y (k .references))) (t .memory)
+        left y = yields (translation (t .held) (k .exits) (cameTo (t .right) y (k .references)) (t .sets)) (t .memory)
 
-        by : (y : Result Fault Place) → (plain c mach false a) .result ≡ y → Follows (load a w) s r (servedBy r (loadBy (heldOf r) a w (left y) (plainWalked y (k .references))))
-        by (failed y) q =
+        stepped : (y : Result Fault Place) → verdict c mach false a ≡ y
+            → step (load a w) (at c s)
+            ≡ (lineOf ((access c mach (bitsSet c false mach (plain c mach false a)) a w none y) .0) (k .references) (k .exits), record { config = c; machine = (access c mach (bitsSet c false mach (plain c mach false a)) a w none y) .1; book = k .book })
+        stepped y q = load-step wide ok ∙ ap (λ z. (lineOf ((access c mach (bitsSet c false mach (plain c mach false a)) a w none z) .0) (k .references) (k .exits), record { config = c; machine = (access c mach (bitsSet c false mach (plain c mach false a)) a w none z) .1; book = k .book })) q
+
+        at-by : (y : Result Fault Place) → verdict c mach false a ≡ y → Follows (load a w) s r (servedBy r (loadBy (heldOf r) a w set (left y) (cameTo (t .right) y (k .references))))
+        at-by (failed y) q =
             follows-by (load a w) s (record { config = c; machine = mach; book = k .book }) r (withHeld r (t .held)) (answer.Faulted y (k .references) (k .exits)) (faultLine y (k .references) (k .exits)) (t .memory)
-            (load-step wide ok ∙ ap (λ z. (lineOf ((access c mach a w none z) .0) (k .references) (k .exits), record { config = c; machine = (access c mach a w none z) .1; book = k .book })) q)
-            refl refl (t .next)
-        by (granted p) q =
-            follows-by (load a w) s (record { config = c; machine = mach; book = k .book }) r (withHeld r (t .held)) (answer.Value (bytesAt a w (words.wordIn (t .memory) (p .0) (wordOf a))) (k .references) (k .exits))
-            (say.value (bytesAt a w (wordIn c mach (p .0) (wordOf a))) (k .references) (k .exits)) (t .memory)
-            (load-step wide ok ∙ ap (λ z. (lineOf ((access c mach a w none z) .0) (k .references) (k .exits), record { config = c; machine = (access c mach a w none z) .1; book = k .book })) q)
-            refl (ap (λ e. say.value (bytesAt a w e) (k .references) (k .exits)) (same-word c mach ht (t .memory) (after-stands false a (costs false) (translatedOf r m false a) t) (p .0) (wordOf a) (page-in false a p q))) (t .next)
+            (stepped (failed y) q) refl refl (t .next)
+        at-by (granted p) q =
+            let i = settles false a p q (t .sets) (λ z. t .own z (ap (λ (y : Result Fault Place). isGranted y) q)) (t .chosen) (k .book) (t .held) (t .memory) (t .next) in
+            follows-by (load a w) s (record { config = c; machine = bitted false a p q; book = k .book }) r (withHeld r (t .held)) (answer.Value (bytesAt a w (words.wordIn (set (t .memory)) (p .0) (wordOf a))) (k .references) (k .exits))
+            (say.value (bytesAt a w (wordIn c (bitted false a p q) (p .0) (wordOf a))) (k .references) (k .exits)) (set (t .memory))
+            (stepped (granted p) q) refl (ap (λ e. say.value (bytesAt a w e) (k .references) (k .exits)) (same-bitted false a p q (k .book) (t .held) (set (t .memory)) i)) i
+
+        by : (y : Result Fault Place) → verdict c mach false a ≡ y → Follows (load a w) s r (servedBy r (loadFrom c ht (r .guest .root .0) (heldOf r) a w (left (verdict c mach false a))))
+        by y q = subst (λ z. Follows (load a w) s r (servedBy r (loadFrom c ht (r .guest .root .0) (heldOf r) a w (left z)))) (sym q) (at-by y q)
 
     pub load-follows : Follows (load a w) s r (loadCall r m a w)
     unfolding loadCall loadOf translatedOf refusal tests
-    load-follows = placed-by (load a w) w (addressOk false c a w) _ refl (λ wide ok. loaded wide ok ((plain c mach false a) .result) refl)
+    load-follows = placed-by (load a w) w (addressOk false c a w) _ refl (λ wide ok. loaded wide ok)
 
     -- ---- store
     module _ (v : ℕ) where
       -- the book and the machine after a granted store
       pub store-step : widthFits w ≡ true → addressOk false c a w ≡ true
-          → let o = access c mach a w (some v) ((plain c mach true a) .result) in
-          let k = storing (wordOf a) ((plain c mach true a) .result) (costs true) in
+          → let o = asked c mach true a w (some v) in
+          let k = storing (wordOf a) (verdict c mach true a) (costs true) in
           step (store a w v) (at c s) ≡ (lineOf (o .0) (k .references) (k .exits), record { config = c; machine = o .1; book = k .book })
       unfolding step refusal tests machineStep bookStep
       store-step wide ok = ap₂ (λ d b. answered (store a w v) (at c s) (firstFailed ((d, 15) ∷ (b, 4) ∷ []))) wide ok
 
-      stored-is : widthFits w ≡ true → addressOk false c a w ≡ true → (x : Result Fault Place) → (plain c mach true a) .result ≡ x
-          → Follows (store a w v) s r (servedBy r (storeBy c (heldOf r) a w v (translatedOf r m true a) (translatedOf r m true a .result .walked)))
+      stored-is : widthFits w ≡ true → addressOk false c a w ≡ true → Follows (store a w v) s r (servedBy r (storeFrom c ht (r .guest .root .0) (heldOf r) a w v (translatedOf r m true a)))
       unfolding access headHeld headTables storing
-      stored-is wide ok x e =
-          subst (Follows (store a w v) s r) (sym (ap (λ (o : After Translated). servedBy r (storeBy c (heldOf r) a w v o (o .result .walked))) (t .done) ∙ ap (λ y. servedBy r (storeBy c (heldOf r) a w v (left y) (plainWalked y (k .references)))) e)) (by x e)
+      stored-is wide ok = subst (Follows (store a w v) s r) (sym (ap (λ (o : After Translated). servedBy r (storeFrom c ht (r .guest .root .0) (heldOf r) a w v o)) (t .done))) (by (verdict c mach true a) refl)
         where
           k : Counted
           k = costs true
 
           t : Translates s r m true a (costs true) (translatedOf r m true a)
-          t = translates s r m inv true a
+          t = translates s r m inv covered true a
+
+          set : List ℕ → List ℕ
+          set = settledOf c ht (r .guest .root .0) true a (t .sets)
 
           left : Result Fault Place → After Translated
-          left y = yields (translation (t .held) (k .exits) (plainWalked y (k .references))) (t .memory)
+          left y = yields (translation (t .held) (k .exits) (cameTo (t .right) y (k .references)) (t .sets)) (t .memory)
 
-          by : (y : Result Fault Place) → (plain c mach true a) .result ≡ y → Follows (store a w v) s r (servedBy r (storeBy c (heldOf r) a w v (left y) (plainWalked y (k .references))))
-          by (failed y) q =
+          stored-on : Result Fault Place → Line × State
+          stored-on z = (
+            lineOf ((access c mach (bitsSet c true mach (plain c mach true a)) a w (some v) z) .0) ((storing (wordOf a) z (costs true)) .references) ((storing (wordOf a) z (costs true)) .exits),
+            record { config = c; machine = (access c mach (bitsSet c true mach (plain c mach true a)) a w (some v) z) .1; book = (storing (wordOf a) z (costs true)) .book },
+          )
+
+          stepped : (y : Result Fault Place) → verdict c mach true a ≡ y → step (store a w v) (at c s) ≡ stored-on y
+          stepped y q = store-step wide ok ∙ ap stored-on q
+
+          at-by : (y : Result Fault Place) → verdict c mach true a ≡ y → Follows (store a w v) s r (servedBy r (storeBy c (heldOf r) a w v set (left y) (cameTo (t .right) y (k .references))))
+          at-by (failed y) q =
               follows-by (store a w v) s (record { config = c; machine = mach; book = k .book }) r (withHeld r (t .held)) (answer.Faulted y (k .references) (k .exits)) (faultLine y (k .references) (k .exits)) (t .memory)
-              (store-step wide ok ∙ ap (λ z. (
-                lineOf ((access c mach a w (some v) z) .0) ((storing (wordOf a) z (costs true)) .references) ((storing (wordOf a) z (costs true)) .exits),
-                record { config = c; machine = (access c mach a w (some v) z) .1; book = (storing (wordOf a) z (costs true)) .book },
-              )) q)
-              refl refl (t .next)
-          by (granted p) q =
-              let there = page-in true a p q in
-              let word = same-word c mach ht (t .memory) (after-stands true a (costs true) (translatedOf r m true a) t) (p .0) (wordOf a) there in
-              let e = withBytes a w v (words.wordIn (t .memory) (p .0) (wordOf a)) in
-              let u = puts (record { config = c; machine = mach; book = k .book }) (withHeld r (t .held)) (t .memory) (t .next) (p .0) (wordOf a) e (word-fits a) there in
-              subst (λ z. Follows (store a w v) s r (servedBy r (writtenBy (heldOf r) (t .held) (k .references) (k .exits) z))) (sym (u .done))
-              (follows-by (store a w v) s (record { config = c; machine = stored c mach (p .0) (wordOf a) e; book = holding (k .book) (dropWord (p .0) (wordOf a) (k .book .held)) }) r
-              (withHeld r (record { pool = u .pool; frame = t .held .frame })) (answer.Done (k .references) (k .exits + one (watched (p .0) (k .book .held)))) (say.done (k .references) (k .exits + one (watched (p .0) (k .book .held)))) (u .memory)
-              (store-step wide ok ∙ ap (λ z. (
-                lineOf ((access c mach a w (some v) z) .0) ((storing (wordOf a) z (costs true)) .references) ((storing (wordOf a) z (costs true)) .exits),
-                record { config = c; machine = (access c mach a w (some v) z) .1; book = (storing (wordOf a) z (costs true)) .book },
-              )) q ∙ ap (λ z. (say.done (k .references) (k .exits + one (watched (p .0) (k .book .held))), record { config = c; machine = stored c mach (p .0) (wordOf a) (withBytes a w v z); book = holding (k .book) (dropWord (p .0) (wordOf a) (k .book .held)) })) (sym word))
-              refl refl (u .next))
+              (stepped (failed y) q) refl refl (t .next)
+          at-by (granted p) q =
+              let there = page-in true a p (verdict-granted c mach true a p q) in
+              let u = drops (record { config = c; machine = mach; book = k .book }) (withHeld r (t .held)) (t .memory) (t .next) (p .0) (wordOf a) (word-fits a) in
+              let h : Holding = record { pool = u .pool; frame = t .held .frame } in
+              let kept = holding (k .book) (dropWord (p .0) (wordOf a) (k .book .held)) in
+              let n = set (u .memory) in
+              let i = settles true a p q (t .sets) (λ z. t .own z (ap (λ (y : Result Fault Place). isGranted y) q)) (t .chosen) kept h (u .memory) (u .next) in
+              let e = withBytes a w v (words.wordIn n (p .0) (wordOf a)) in
+              let exits = k .exits + one (watched (p .0) (k .book .held)) in
+              subst (λ z. Follows (store a w v) s r (servedBy r (writtenBy (heldOf r) (t .held) (k .references) (k .exits) (p .0) a w v set z))) (sym (u .done))
+              (follows-by (store a w v) s (record { config = c; machine = stored c (bitted true a p q) (p .0) (wordOf a) e; book = kept }) r
+              (withHeld r h) (answer.Done (k .references) exits) (say.done (k .references) exits) (bytesIn n (p .0) a w v)
+              (stepped (granted p) q ∙ ap (λ z. (say.done (k .references) exits, record { config = c; machine = stored c (bitted true a p q) (p .0) (wordOf a) (withBytes a w v z); book = kept }))
+              (sym (same-bitted true a p q kept h n i)))
+              refl refl (unread-next (record { config = c; machine = bitted true a p q; book = k .book }) (withHeld r h) n (p .0) (wordOf a) e (k .book .held) (word-fits a) there i))
+
+          by : (y : Result Fault Place) → verdict c mach true a ≡ y → Follows (store a w v) s r (servedBy r (storeFrom c ht (r .guest .root .0) (heldOf r) a w v (left (verdict c mach true a))))
+          by y q = subst (λ z. Follows (store a w v) s r (servedBy r (storeFrom c ht (r .guest .root .0) (heldOf r) a w v (left z)))) (sym q) (at-by y q)
 
       pub store-follows : Follows (store a w v) s r (storeCall r m a w v)
       unfolding storeCall storeOf translatedOf refusal tests
-      store-follows = placed-by (store a w v) w (addressOk false c a w) _ refl (λ wide ok. stored-is wide ok ((plain c mach true a) .result) refl)
+      store-follows = placed-by (store a w v) w (addressOk false c a w) _ refl (λ wide ok. stored-is wide ok)
 
       -- ---- device store
       pub device-step : widthFits w ≡ true → addressOk true c a w ≡ true
-          → let o = access c mach a w (some v) ((deviceWalk c mach a) .result) in
-          let k = storing (wordOf a) ((deviceWalk c mach a) .result) (unshadowed (s .book) (deviceWalk c mach a)) in
+          → let o = access c mach mach a w (some v) ((deviceWalk c mach a) .result) in
+          let k = storing (wordOf a) ((deviceWalk c mach a) .result) (unshadowed (s .book) ((deviceWalk c mach a) .count) ((deviceWalk c mach a) .result)) in
           step (device a w v) (at c s) ≡ (lineOf (o .0) (k .references) (k .exits), record { config = c; machine = o .1; book = k .book })
       unfolding step refusal tests machineStep bookStep
       device-step wide ok = ap₂ (λ d b. answered (device a w v) (at c s) (firstFailed ((d, 15) ∷ (b, 4) ∷ []))) wide ok
@@ -241,8 +306,8 @@ module _ (s : State) (r : Record) (m : List ℕ) (inv : Inv s r m) where
           k y = storing (wordOf a) y (record { references = tr .count; exits = hostExit y; book = s .book })
 
           stepped : (y : Result Fault Place) → tr .result ≡ y
-              → step (device a w v) (at c s) ≡ (lineOf ((access c mach a w (some v) y) .0) ((k y) .references) ((k y) .exits), record { config = c; machine = (access c mach a w (some v) y) .1; book = (k y) .book })
-          stepped y q = device-step wide ok ∙ ap (λ z. (lineOf ((access c mach a w (some v) z) .0) ((k z) .references) ((k z) .exits), record { config = c; machine = (access c mach a w (some v) z) .1; book = (k z) .book })) q
+              → step (device a w v) (at c s) ≡ (lineOf ((access c mach mach a w (some v) y) .0) ((k y) .references) ((k y) .exits), record { config = c; machine = (access c mach mach a w (some v) y) .1; book = (k y) .book })
+          stepped y q = device-step wide ok ∙ ap (λ z. (lineOf ((access c mach mach a w (some v) z) .0) ((k z) .references) ((k z) .exits), record { config = c; machine = (access c mach mach a w (some v) z) .1; book = (k z) .book })) q
 
           by : (y : Result Fault Place) → tr .result ≡ y → Follows (device a w v) s r (servedBy r (deviceBy c m (heldOf r) a w v (plainWalked y (tr .count))))
           by (failed y) q =
@@ -250,13 +315,16 @@ module _ (s : State) (r : Record) (m : List ℕ) (inv : Inv s r m) where
               (stepped (failed y) q) refl (ap (faultLine y (tr .count)) (exit-is (failed y) (tr .count))) (at-inv inv)
           by (granted p) q =
               let there = device-in ok p q in
-              let word = same-word c mach ht m (found.memory-stands s r m inv) (p .0) (wordOf a) there in
-              let e = withBytes a w v (words.wordIn m (p .0) (wordOf a)) in
-              let u = puts s r m inv (p .0) (wordOf a) e (word-fits a) there in
-              subst (λ z. Follows (device a w v) s r (servedBy r (writtenBy (heldOf r) (heldOf r) (tr .count) 0 z))) (sym (u .done))
+              let u = drops s r m inv (p .0) (wordOf a) (word-fits a) in
+              let h : Holding = record { pool = u .pool; frame = r .guest .held } in
+              let after : State = record { config = c; machine = mach; book = holding (s .book) (dropWord (p .0) (wordOf a) (s .book .held)) } in
+              let word = same-word c mach ht (u .memory) (found.memory-stands after (withHeld r h) (u .memory) (u .next)) (p .0) (wordOf a) there in
+              let e = withBytes a w v (words.wordIn (u .memory) (p .0) (wordOf a)) in
+              let kept = holding (s .book) (dropWord (p .0) (wordOf a) (s .book .held)) in
+              subst (λ z. Follows (device a w v) s r (servedBy r (writtenBy (heldOf r) (heldOf r) (tr .count) 0 (p .0) a w v (λ x. x) z))) (sym (u .done))
               (follows-by (device a w v) s (record { config = c; machine = stored c mach (p .0) (wordOf a) e; book = holding (s .book) (dropWord (p .0) (wordOf a) (s .book .held)) }) r
-              (withHeld r (record { pool = u .pool; frame = r .guest .held })) (answer.Done (tr .count) (0 + one (watched (p .0) (s .book .held)))) (say.done (tr .count) (0 + one (watched (p .0) (s .book .held)))) (u .memory)
-              (stepped (granted p) q ∙ ap (λ z. (say.done (tr .count) (0 + one (watched (p .0) (s .book .held))), record { config = c; machine = stored c mach (p .0) (wordOf a) (withBytes a w v z); book = holding (s .book) (dropWord (p .0) (wordOf a) (s .book .held)) })) (sym word)) refl refl (u .next))
+              (withHeld r h) (answer.Done (tr .count) (0 + one (watched (p .0) (s .book .held)))) (say.done (tr .count) (0 + one (watched (p .0) (s .book .held)))) (bytesIn (u .memory) (p .0) a w v)
+              (stepped (granted p) q ∙ ap (λ z. (say.done (tr .count) (0 + one (watched (p .0) (s .book .held))), record { config = c; machine = stored c mach (p .0) (wordOf a) (withBytes a w v z); book = holding (s .book) (dropWord (p .0) (wordOf a) (s .book .held)) })) (sym word)) refl refl (unread-next s (withHeld r h) (u .memory) (p .0) (wordOf a) e (s .book .held) (word-fits a) there (u .next)))
 
       pub device-follows : Follows (device a w v) s r (deviceCall r m a w v)
       unfolding deviceCall deviceOf refusal tests

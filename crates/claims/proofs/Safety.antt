@@ -7,7 +7,7 @@ use Prim.Native.Nat.{ℕ, zero, suc, _+_, _-_, _*_, _/_, _^_, _<_, _≤_}
 use native.Mathlib.Omega.{arith}
 use native.Mathlib.Decide.{ℕ-discrete}
 use borrow.Author.Tests.{eqb-false}
-use mathlib.Core.Bool.{Bool, true, false, cond}
+use mathlib.Core.Bool.{Bool, true, false, not, cond}
 use mathlib.Core.List.{List, [], _∷_}
 use mathlib.Core.Option.{Option, none, some}
 use lib.Dec.{eqb, leb}
@@ -29,7 +29,7 @@ use Rattle.pool.specs.declared.Area.{Area}
 use Rattle.pool.specs.declared.Pool.{Pool}
 use Rattle.pool.specs.declared.Way.{Way}
 use Rattle.pool.specs.declared.Way.the-variants.{To, Not, Damaged}
-use Rattle.words.specs.Words.{at, wordIn, setIn}
+use Rattle.words.specs.Words.{at, wordIn}
 use Rattle.pool.specs.Header.{entryAtOf, putEntryOf, bareOf}
 use Rattle.pool.specs.Pool.{onWay, end, withTop, withFreed, freeWords}
 use Rattle.area.specs.Tree.{roomOf, enterOf, descendOf, downOf, placeOf, insertOf}
@@ -66,16 +66,17 @@ use Rattle.forecast.specs.Forecast.{addressOf, onward, listOf, forecastOf, star
 use Rattle.forecast.specs.declared.Outlook.{Outlook}
 use Rattle.forecast.specs.declared.Next.{Next}
 use Rattle.forecast.specs.declared.Next.the-variants.{Go, Damaged as Broken}
-use Rattle.request.specs.Access.{loadOf, putWordOf, storeOf, deviceBy, deviceOf}
+use Rattle.request.specs.Access.{settledOf, droppedOf, loadOf, storeOf, deviceBy, deviceOf}
 use Rattle.translate.proofs.Fits.{ArrivedIn}
 use Rattle.translate.proofs.Leaves.{Leaves, translate-leaves}
-use Rattle.request.proofs.Leaves.{put-leaves}
+use Rattle.request.proofs.Leaves.{drop-leaves}
 use Rattle.request.proofs.Device.{device-in}
 use Rattle.calls.specs.Calls.{hostTop, heldOf, rootOf, headHeld, headHost, nothing, ended, refused, judged, placed, withHeld, withHost, servedBy, addressOk, depthAt, translatedOf, loadCall, storeCall, deviceCall, rootCall, droppedBy, unmappedOf, mappedBy, mapCall, unmapCall, heldAfter, markedOf, callOf, keysOf, setMarkCall, clearMarkCall, forecastCall, openCall}
 use Rattle.calls.proofs.Ranges.{fits-held}
-use Rattle.claims.specs.Safety.{GuestKept, Numbered, RefusalKept, Untouched, Foretells, Keeps, OpenKeeps}
+use Rattle.claims.specs.Safety.{GuestKept, BitsOnly, Numbered, RefusalKept, Untouched, Foretells, Keeps, OpenKeeps}
 use Rattle.claims.specs.Run.{guestArea}
 use Rattle.claims.proofs.Puts.{area-store}
+use Rattle.claims.proofs.OwnBits.{only-refl, settled-only}
 use Rattle.claims.proofs.Paths.{held-same, loadedBy, storedBy, writtenIn}
 use Rattle.claims.proofs.Opens.{granted-call, refused-call}
 use Rattle.words.specs.After.{After, yields}
@@ -343,60 +344,81 @@ module _ (r : Record) (m : List ℕ) where
   unfolding translatedOf
   leaves f st a = translate-leaves (configOf r) (hostTop r) m st (heldOf r) (fits-held r (length m) f) (rootOf r) a (depthAt r a)
 
-  loaded-kept : (a w : ℕ) (o : After Translated) → Tables r m (o .memory) → (x : Walked) → Kept r m (loadedBy r a w o x)
-  loaded-kept a w o x (walked.Arrived t y n) = guest-kept (held-layout r (o .result .held)) x
-  loaded-kept a w o x (walked.Faulted y n) = guest-kept (held-layout r (o .result .held)) x
-  loaded-kept a w o x walked.Damaged = damage-same (o .memory) x
+  -- the bits of a request, over a memory n whose tables alone differ from m's
+  settled-kept : (st : Bool) (a : ℕ) (sets : Bool) → (sets ≡ true → configOf r .bits ≡ true) → (n : List ℕ) → Tables r m n
+      → let q = settledOf (configOf r) (hostTop r) (rootOf r) st a sets n in (length q ≡ length m) × BitsOnly (configOf r .bits) (guestArea r m) (guestArea r q)
+  settled-kept st a sets on n x =
+      let k = settled-only (configOf r) (hostTop r) (rootOf r) st a sets on n in
+      (k .0 ∙ x .long, subst (λ l. BitsOnly (configOf r .bits) l (guestArea r (settledOf (configOf r) (hostTop r) (rootOf r) st a sets n))) (same-area r m n x) (k .1))
+
+  loaded-kept : (a w : ℕ) (o : After Translated) → Tables r m (o .memory) → (o .result .sets ≡ true → configOf r .bits ≡ true) → (x : Walked)
+      → Kept r m (loadedBy r a w (settledOf (configOf r) (hostTop r) (rootOf r) false a (o .result .sets)) o x)
+  loaded-kept a w o x on (walked.Arrived t y n) =
+      let k = settled-kept false a (o .result .sets) on (o .memory) x in
+      record { layout = held-layout r (o .result .held); long = k .0; area = k .1 }
+  loaded-kept a w o x on (walked.Faulted y n) = guest-kept (held-layout r (o .result .held)) x
+  loaded-kept a w o x on walked.Damaged = damage-same (o .memory) x
 
   load-kept : (a w : ℕ) → Kept r m (loadCall r m a w)
   unfolding loadCall loadOf translatedOf
   load-kept a w =
       let o = translatedOf r m false a in
       placed-kept r m w (addressOk false (configOf r) a w) _ (λ f.
-      (loaded-kept a w o (shadow-tables r m (o .memory) (leaves f false a .same)) (o .result .walked)))
+      (let l = leaves f false a in
+      loaded-kept a w o (shadow-tables r m (o .memory) (l .same)) (l .sets) (o .result .walked)))
 
-  -- a store that came to word i of host frame t; n is the memory after its translation
-  written-kept : Fits r (length m) → (h : Holding) (k x : ℕ) (n : List ℕ) (t i v : ℕ) → Tables r m n → h .pool .fresh ≤ r .layout .shadows → InGuestArea (configOf r) t → i < 512
-      → (let u = putWordOf (configOf r) n (h .pool) t i v in Kept r m (writtenIn r h k x u (u .result .ok)))
-  written-kept f h k x n t i v y w g l = go (s .result .ok) (put-leaves (configOf r) n (h .pool) t i v w .same)
+  -- a store that came to host frame t; n is the memory after its translation, set what its bits do
+  written-kept : Fits r (length m) → (h : Holding) (k x : ℕ) (n : List ℕ) (t a w v : ℕ) (set : List ℕ → List ℕ)
+      → ((q : List ℕ) → Tables r m q → (length (set q) ≡ length m) × BitsOnly (configOf r .bits) (guestArea r m) (guestArea r (set q)))
+      → Tables r m n → h .pool .fresh ≤ r .layout .shadows → InGuestArea (configOf r) t
+      → (let u = droppedOf (configOf r) n (h .pool) t (wordOf a) in Kept r m (writtenIn r h k x t a w v set u (u .result .ok)))
+  written-kept f h k x n t a w v set bits y fresh g = go (s .result .ok)
     where
       c : Config
       c = configOf r
 
       s : After Put
-      s = putWordOf c n (h .pool) t i v
+      s = droppedOf c n (h .pool) t (wordOf a)
 
-      inside : place c t i < length (guestArea r m)
+      all : Tables r m (s .memory)
+      all = out-trans 0 (guestBase c) m n (s .memory) (shadow-tables r n (s .memory) (drop-leaves c n (h .pool) t (wordOf a) fresh .same)) y
+
+      e : ℕ
+      e = withBytes a w v (wordIn (set (s .memory)) t (wordOf a))
+
+      inside : place c t (wordOf a) < length (guestArea r m)
       inside =
-          let e = length-drop (512 * guestBase c) m in
-          omega (arith, e, g .0, g .1, f .long)
+          let long = length-drop (512 * guestBase c) m in
+          let i = word-fits a in
+          omega (arith, long, g .0, g .1, f .long, i)
 
-      go : (b : Bool) → SameOutside (r .layout .hosts) (r .layout .shadows) (cond b (setIn n t i v) n) (s .memory)
-          → Kept r m (writtenIn r h k x s b)
-      go true z = record {
+      go : (b : Bool) → Kept r m (writtenIn r h k x t a w v set s b)
+      go true = record {
         layout = held-layout r (record { pool = s .result .pool; frame = h .frame });
-        long = z .long ∙ length-set n (at t i) v ∙ y .long;
-        place = place c t i;
-        word = v;
+        long = length-set (set (s .memory)) (at t (wordOf a)) e ∙ bits (s .memory) all .0;
+        bitted = guestArea r (set (s .memory));
+        bits = bits (s .memory) all .1;
+        place = place c t (wordOf a);
+        word = e;
         inside = inside;
-        area = same-area r (setIn n t i v) (s .memory) (shadow-tables r (setIn n t i v) (s .memory) z) ∙ area-store c n t i v (g .0)
-            ∙ ap (λ xs. set xs (place c t i) v) (same-area r m n y);
+        area = area-store c (set (s .memory)) t (wordOf a) e (g .0);
       }
-      go false z = damage-same (s .memory) (out-trans 0 (guestBase c) m n (s .memory) (shadow-tables r n (s .memory) z) y)
+      go false = damage-same (s .memory) all
 
-  stored-kept : Fits r (length m) → (a w v : ℕ) (o : After Translated) → Tables r m (o .memory) → o .result .held .pool .fresh ≤ r .layout .shadows → (y : Walked) → ArrivedIn (configOf r) y → Kept r m (storedBy r a w v o y)
-  stored-kept f a w v o x h (walked.Arrived t y n) g =
-      written-kept f (o .result .held) n (o .result .exits) (o .memory) (t .0) (wordOf a) (withBytes a w v (wordIn (o .memory) (t .0) (wordOf a))) x h g (word-fits a)
-  stored-kept f a w v o x h (walked.Faulted y n) g = guest-kept (held-layout r (o .result .held)) x
-  stored-kept f a w v o x h walked.Damaged g = damage-same (o .memory) x
+  stored-kept : Fits r (length m) → (a w v : ℕ) (o : After Translated) → Leaves (configOf r) m o → (y : Walked) → ArrivedIn (configOf r) y
+      → Kept r m (storedBy r a w v (settledOf (configOf r) (hostTop r) (rootOf r) true a (o .result .sets)) o y)
+  stored-kept f a w v o l (walked.Arrived t y n) g =
+      written-kept f (o .result .held) n (o .result .exits) (o .memory) (t .0) a w v (settledOf (configOf r) (hostTop r) (rootOf r) true a (o .result .sets))
+      (λ q x. settled-kept true a (o .result .sets) (l .sets) q x) (shadow-tables r m (o .memory) (l .same)) (l .held .0) g
+  stored-kept f a w v o l (walked.Faulted y n) g = guest-kept (held-layout r (o .result .held)) (shadow-tables r m (o .memory) (l .same))
+  stored-kept f a w v o l walked.Damaged g = damage-same (o .memory) (shadow-tables r m (o .memory) (l .same))
 
   store-kept : (a w v : ℕ) → Kept r m (storeCall r m a w v)
   unfolding storeCall storeOf translatedOf
   store-kept a w v =
       let o = translatedOf r m true a in
       placed-kept r m w (addressOk false (configOf r) a w) _ (λ f.
-      (let l = leaves f true a in
-      stored-kept (fits-layout r (length m) f) a w v o (shadow-tables r m (o .memory) (l .same)) (l .held .0) (o .result .walked) (l .arrived)))
+      (let l = leaves f true a in stored-kept (fits-layout r (length m) f) a w v o l (o .result .walked) (l .arrived)))
 
   device-kept : (a w v : ℕ) → Kept r m (deviceCall r m a w v)
   unfolding deviceCall deviceOf
@@ -406,7 +428,8 @@ module _ (r : Record) (m : List ℕ) where
     where
       go : Fits r (length m) → (y : Walked) → ArrivedIn (configOf r) y → Kept r m (servedBy r (deviceBy (configOf r) m (heldOf r) a w v y))
       go f (walked.Arrived t y n) g =
-          written-kept f (heldOf r) n 0 m (t .0) (wordOf a) (withBytes a w v (wordIn m (t .0) (wordOf a))) (none-changed r m) (f .shadow .0) g (word-fits a)
+          written-kept f (heldOf r) n 0 m (t .0) a w v (λ q. q) (λ q x. (x .long, subst (BitsOnly (configOf r .bits) (guestArea r m)) (sym (same-area r m q x)) (only-refl (configOf r .bits) (guestArea r m))))
+          (none-changed r m) (f .shadow .0) g
       go f (walked.Faulted y n) g = guest-kept (held-layout r (heldOf r)) (none-changed r m)
       go f walked.Damaged g = damage-same m (none-changed r m)
 
@@ -501,7 +524,7 @@ list-tells c ht m h top marks ks o (a ∷ xs) = go (n .result) (λ o. list-tells
     go : (x : Next) → ((o : Outlook) → Foretells (listOf c ht m h top marks (n .memory) o xs))
         → Foretells (onward x (λ o. listOf c ht m h top marks (n .memory) o xs))
     go (Go o) f = f o
-    go Broken f = inr (inr refl)
+    go Broken f = inr (inr (inr refl))
 
 module _ (r : Record) (m xs : List ℕ) where
   abbrev told : Answer
@@ -509,21 +532,23 @@ module _ (r : Record) (m xs : List ℕ) where
 
   forecast-untouched : Untouched r m (forecastCall r m xs)
   unfolding forecastCall
-  forecast-untouched = go (fitsOf r (length m)) (leb (length xs) forecastRoom)
+  forecast-untouched = go (fitsOf r (length m)) (not (configOf r .bits)) (leb (length xs) forecastRoom)
     where
-      go : (a b : Bool) → Untouched r m (cond a (cond b (ended r told m) (refused r 14 m)) (refused r 3 m))
-      go true true = record { unit = refl; memory = refl }
-      go true false = record { unit = refl; memory = refl }
-      go false b = record { unit = refl; memory = refl }
+      go : (a o b : Bool) → Untouched r m (cond a (cond o (cond b (ended r told m) (refused r 14 m)) (refused r 16 m)) (refused r 3 m))
+      go true true true = record { unit = refl; memory = refl }
+      go true true false = record { unit = refl; memory = refl }
+      go true false b = record { unit = refl; memory = refl }
+      go false o b = record { unit = refl; memory = refl }
 
   forecast-tells : Foretells (forecastCall r m xs .result .answer)
   unfolding forecastCall forecastOf
-  forecast-tells = go (fitsOf r (length m)) (leb (length xs) forecastRoom)
+  forecast-tells = go (fitsOf r (length m)) (not (configOf r .bits)) (leb (length xs) forecastRoom)
     where
-      go : (a b : Bool) → Foretells (cond a (cond b (ended r told m) (refused r 14 m)) (refused r 3 m) .result .answer)
-      go true true = list-tells (configOf r) (hostTop r) m (heldOf r) (rootOf r) (keysOf r) _ (start (r .pools .shadow .used)) xs
-      go true false = inr (inl refl)
-      go false b = inl refl
+      go : (a o b : Bool) → Foretells (cond a (cond o (cond b (ended r told m) (refused r 14 m)) (refused r 16 m)) (refused r 3 m) .result .answer)
+      go true true true = list-tells (configOf r) (hostTop r) m (heldOf r) (rootOf r) (keysOf r) _ (start (r .pools .shadow .used)) xs
+      go true true false = inr (inr (inl refl))
+      go true false b = inr (inl refl)
+      go false o b = inl refl
 
   untouched-kept : (e : After Reply) → Untouched r m e → (x : Answer) → Foretells x → Keeps r m e x
   untouched-kept e u answer.Ok f = absurd f
@@ -531,7 +556,7 @@ module _ (r : Record) (m xs : List ℕ) where
   untouched-kept e u (answer.Done n y) f = absurd f
   untouched-kept e u (answer.Faulted z n y) f = absurd f
   untouched-kept e u (answer.Refused n) f = record {
-    numbered = elim f [ inl e ↦ rw e tt | inr g ↦ elim g [ inl e ↦ rw e tt | inr e ↦ rw e tt ] ];
+    numbered = elim f [ inl e ↦ rw e tt | inr g ↦ elim g [ inl e ↦ rw e tt | inr d ↦ elim d [ inl e ↦ rw e tt | inr e ↦ rw e tt ] ] ];
     unit = u .unit;
     guest = record { layout = ap configOf (u .unit); long = ap length (u .memory); area = ap (guestArea r) (u .memory) };
     whole = λ z. u .memory;
@@ -542,7 +567,7 @@ module _ (r : Record) (m xs : List ℕ) where
   forecast-kept = untouched-kept (forecastCall r m xs) forecast-untouched (forecastCall r m xs .result .answer) forecast-tells
 
 -- ---- Demand 1. Any call, whatever its numbers, the record and the memory are, comes to an answer, a fault or a numbered refusal,
--- and the memory keeps its length. A fault leaves every guest word. A refusal leaves everything, but that 11, for damaged tables,
+-- and the memory keeps its length. A fault leaves every guest word. A granted load changes at most accessed and dirty bits, with bits on. A refusal leaves everything, but that 11, for damaged tables,
 -- may alter host and shadow frames. Figures leave everything
 pub demand-1 : (x : Call) (r : Record) (m : List ℕ) → Keeps r m (callOf x r m) (callOf x r m .result .answer)
 unfolding callOf
@@ -556,16 +581,16 @@ demand-1 (store a w v) r m = store-kept r m a w v
 demand-1 (device a w v) r m = device-kept r m a w v
 demand-1 (forecast xs) r m = forecast-kept r m xs
 
-open-numbers : (words h s : ℕ) → refusalOf words h s ≢ 0 → (refusalOf words h s ≡ 1) ⊎ (refusalOf words h s ≡ 2)
+open-numbers : (words h s : ℕ) (bits : Bool) → refusalOf words h s bits ≢ 0 → (refusalOf words h s bits ≡ 1) ⊎ (refusalOf words h s bits ≡ 2)
 unfolding refusalOf openRefusal
-open-numbers words h s = number-in (λ n. (n ≡ 1) ⊎ (n ≡ 2)) ((wordsFit words, 1) ∷ (areasFit (configBy words h s), 2) ∷ []) (inl refl, (inr refl, tt))
+open-numbers words h s bits = number-in (λ n. (n ≡ 1) ⊎ (n ≡ 2)) ((wordsFit words, 1) ∷ (areasFit (configBy words h s bits), 2) ∷ []) (inl refl, (inr refl, tt))
 
-pub demand-1-open : (m : List ℕ) (h s : ℕ) → OpenKeeps m h s (openCall m h s) (openCall m h s .result .answer)
-demand-1-open m h s = go (ℕ-discrete (refusalOf (length m) h s) 0)
+pub demand-1-open : (m : List ℕ) (h s : ℕ) (bits : Bool) → OpenKeeps m h s (openCall m h s bits) (openCall m h s bits .result .answer)
+demand-1-open m h s bits = go (ℕ-discrete (refusalOf (length m) h s bits) 0)
   where
-    go : Dec (refusalOf (length m) h s ≡ 0) → OpenKeeps m h s (openCall m h s) (openCall m h s .result .answer)
-    go (yes e) = rw (granted-call m h s e) (granted-long m h s e, granted-guest m h s e)
-    go (no n) = rw (refused-call m h s n) (open-numbers (length m) h s n, refl, refl)
+    go : Dec (refusalOf (length m) h s bits ≡ 0) → OpenKeeps m h s (openCall m h s bits) (openCall m h s bits .result .answer)
+    go (yes e) = rw (granted-call m h s bits e) (granted-long m h s bits e, granted-guest m h s bits e)
+    go (no n) = rw (refused-call m h s bits n) (open-numbers (length m) h s bits n, refl, refl)
 
 -- ---- its parts
 
@@ -581,10 +606,10 @@ same-length x r m = go (callOf x r m .result .answer) (demand-1 x r m)
     go (answer.Refused n) k = k .guest .long
     go (answer.Figures n y t) k = ap length (k .memory)
 
-pub same-length-open : (m : List ℕ) (h s : ℕ) → length (openCall m h s .memory) ≡ length m
-same-length-open m h s = go (openCall m h s .result .answer) (demand-1-open m h s)
+pub same-length-open : (m : List ℕ) (h s : ℕ) (bits : Bool) → length (openCall m h s bits .memory) ≡ length m
+same-length-open m h s bits = go (openCall m h s bits .result .answer) (demand-1-open m h s bits)
   where
-    go : (a : Answer) → OpenKeeps m h s (openCall m h s) a → length (openCall m h s .memory) ≡ length m
+    go : (a : Answer) → OpenKeeps m h s (openCall m h s bits) a → length (openCall m h s bits .memory) ≡ length m
     go answer.Ok k = k .0
     go (answer.Value v n y) k = absurd k
     go (answer.Done n y) k = absurd k
@@ -610,7 +635,7 @@ module _ (x : Call) (r : Record) (m : List ℕ) where
       let k : RefusalKept r m (callOf x r m) 11 = subst (Keeps r m (callOf x r m)) e (demand-1 x r m) in
       (k .unit, k .guest)
 
--- a forecast leaves the record and every word, also where it is refused with 11, and says its figures or 3, 14 or 11
+-- a forecast leaves the record and every word, also where it is refused with 11, and says its figures or 3, 16, 14 or 11
 pub forecast-keeps : (xs : List ℕ) (r : Record) (m : List ℕ) → let e = callOf (forecast xs) r m in Untouched r m e × Foretells (e .result .answer)
 unfolding callOf
 forecast-keeps xs r m = (forecast-untouched r m xs, forecast-tells r m xs)

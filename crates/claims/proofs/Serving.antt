@@ -1,9 +1,11 @@
--- A forecast says what its loads then cost: of the unit, after any run that demand 3 covers. Document 02, 2).
+-- A forecast says what its loads then cost: of the unit, after any run that demand 3 covers and that chose no bits. Document 02, 2).
 -- Assumes nothing.
-use mathlib.Core.Path.{_≡_, refl, sym, ap, ap₂, _∙_, subst}
+use mathlib.Core.Path.{_≡_, refl, sym, ap, ap₂, _∙_}
 use Prim.Native.Nat.{ℕ, _+_, _≤_, max}
+use mathlib.Core.Bool.{false}
 use mathlib.Core.List.{List, [], _∷_}
 use lib.ListN.{length}
+use Rattle.spec.specs.Config.{Config}
 use Rattle.spec.specs.Answer as say
 use Rattle.spec.specs.Answer.{Line, line}
 use Rattle.spec.specs.Call.{Call, forecast}
@@ -18,7 +20,7 @@ use Rattle.calls.specs.Calls.{callOf}
 use Rattle.claims.specs.Run.{unitRun, tablesRun, runOf, machineRun}
 use Rattle.claims.proofs.Invariant.{Inv, at}
 use Rattle.claims.proofs.Forecasts.{used-is}
-use Rattle.claims.proofs.Demands.{follows, at-self, runs-follow, after-run}
+use Rattle.claims.proofs.Demands.{Set, follows, at-self, next, runs-follow, after-run, run-config}
 
 -- what the lines pay does not rest on the states beside them
 pub lines-paid : (f : Line → ℕ) (os : List (Line × State)) → allPaid f (machineRun os) ≡ allPaid f os
@@ -26,35 +28,35 @@ lines-paid f [] = refl
 lines-paid f (o ∷ os) = ap (λ n. f (o .0) + n) (lines-paid f os)
 
 -- the tables that the records count are the book's
-tables-run : (xs : List Call) (s : State) (r : Record) (m : List ℕ) → s .config ≡ configOf r → Inv s r m → tablesRun xs r m ≡ mostTables (tablesIn s) (run xs s)
+tables-run : (xs : List Call) (s : State) (r : Record) (m : List ℕ) → s .config ≡ configOf r → Inv s r m → Set s r → tablesRun xs r m ≡ mostTables (tablesIn s) (run xs s)
 unfolding tablesRun run
-tables-run [] s r m e i = used-is s r m i
-tables-run (x ∷ xs) s r m e i =
-    let f = follows x s r m i in
+tables-run [] s r m e i v = used-is s r m i
+tables-run (x ∷ xs) s r m e i v =
     let u = callOf x r m in
-    let now : step x (at (configOf r) s) ≡ step x s = ap (step x) (at-self (configOf r) s e) in
-    ap₂ max (used-is s r m i)
-    (tables-run xs ((step x s) .1) (u .result .unit) (u .memory) (sym (f .config ∙ ap (λ o. o .1 .config) now)) (subst (λ o. Inv (o .1) (u .result .unit) (u .memory)) now (f .next)))
+    let k = next x s r m e i v in
+    ap₂ max (used-is s r m i) (tables-run xs ((step x s) .1) (u .result .unit) (u .memory) (k .0) (k .1) (k .2))
 
--- Document 02, 2). After a granted opening on any memory and any list of calls, a forecast of at most 256 addresses says the sum of the
--- references and exits that the loads of those addresses pay when they are made then, and the greatest number of shadow tables that the
--- unit's record counts from there on. (That a forecast changes nothing is `Safety.forecast-keeps`.)
-pub forecast-is-serving : (m : List ℕ) (h s : ℕ) (ys : List Call) (xs : List ℕ) → refusalOf (length m) h s ≡ 0 → length xs ≤ forecastRoom
-    → let e = runOf m h s ys in
+-- Document 02, 2). After a granted opening without bits on any memory and any list of calls, a forecast of at most 256 addresses says the
+-- sum of the references and exits that the loads of those addresses pay when they are made then, and the greatest number of shadow tables
+-- that the unit's record counts from there on. With bits there is no forecast (document 02, 6). (That a forecast changes nothing is
+-- `Safety.forecast-keeps`.)
+pub forecast-is-serving : (m : List ℕ) (h s : ℕ) (ys : List Call) (xs : List ℕ) → refusalOf (length m) h s false ≡ 0 → length xs ≤ forecastRoom
+    → let e = runOf m h s false ys in
     let r = e .result .unit in
     let n = e .memory in
     let os = unitRun (loads xs) r n in
     line (callOf (forecast xs) r n .result .answer) ≡ say.figures (allPaid referencesPaid os) (allPaid exitsPaid os) (tablesRun (loads xs) r n)
 unfolding servingFigures
 forecast-is-serving m h s ys xs g l =
-    let e = runOf m h s ys in
+    let e = runOf m h s false ys in
     let r = e .result .unit in
     let n = e .memory in
-    let t = after ys (opened (configBy (length m) h s) m) in
-    let i = after-run m h s ys g in
+    let t = after ys (opened (configBy (length m) h s false) m) in
+    let i = after-run m h s false ys g in
+    let off : t .config .bits ≡ false = ap (λ (c : Config). c .bits) (i .0 ∙ run-config m h s false ys g) in
     let now : step (forecast xs) (at (configOf r) t) ≡ step (forecast xs) t = ap (step (forecast xs)) (at-self (configOf r) t (i .0)) in
     let os = run (loads xs) t in
-    let paid : (f : Line → ℕ) → allPaid f os ≡ allPaid f (unitRun (loads xs) r n) = λ f. sym (ap (allPaid f) (runs-follow (loads xs) t r n (i .0) (i .1)) ∙ lines-paid f os) in
-    follows (forecast xs) t r n (i .1) .says ∙ ap (λ o. o .0) now ∙ forecast-says xs t l
+    let paid : (f : Line → ℕ) → allPaid f os ≡ allPaid f (unitRun (loads xs) r n) = λ f. sym (ap (allPaid f) (runs-follow (loads xs) t r n (i .0) (i .1) (i .2)) ∙ lines-paid f os) in
+    follows (forecast xs) t r n (i .1) (i .2) .says ∙ ap (λ o. o .0) now ∙ forecast-says xs t off l
     ∙ ap₂ (λ x y. say.figures x y (mostTables (tablesIn t) os)) (paid referencesPaid) (paid exitsPaid)
-    ∙ ap (say.figures (allPaid referencesPaid (unitRun (loads xs) r n)) (allPaid exitsPaid (unitRun (loads xs) r n))) (sym (tables-run (loads xs) t r n (i .0) (i .1)))
+    ∙ ap (say.figures (allPaid referencesPaid (unitRun (loads xs) r n)) (allPaid exitsPaid (unitRun (loads xs) r n))) (sym (tables-run (loads xs) t r n (i .0) (i .1) (i .2)))

@@ -1,103 +1,110 @@
--- A translation of the unit is the plain walk on the machine, at the book's price, and leaves what the book's request leaves.
+-- A translation of the unit is the request's verdict on the machine, at the book's price, and leaves what the book's request leaves.
 -- Assumes nothing.
 use mathlib.Core.Path.{_≡_, refl, sym, ap, ap₂, _∙_, subst}
-use mathlib.Core.Logic.{inr}
 use Prim.Native.Nat.{ℕ, zero, suc, _+_, _-_, _*_, _/_, _^_, _<_, _≤_}
 use native.Mathlib.Nat.{zero-add}
 use native.Mathlib.Omega.{arith}
-use mathlib.Core.Bool.{Bool, true, false, not, _||_, cond}
-use mathlib.Core.List.{List, [], _∷_}
+use mathlib.Core.Bool.{Bool, true, false, not, _&&_, _||_, cond}
+use mathlib.Core.List.{List, [], _∷_, map}
 use mathlib.Core.Option.{Option, none, some}
-use lib.Dec.{T, eqb, leb, ltb, leb→le, le→leb}
-use borrow.Author.Tests.{lt-ltb, le-ltb, le-leb, lt-leb, ltb-true, ltb-false, ne-eqb}
+use lib.Dec.{eqb, leb, ltb}
+use borrow.Author.Tests.{le-leb, lt-leb, ltb-true, ltb-false, ne-eqb, eq-eqb}
 use lib.ListN.{length, drop}
 use Rattle.spec.specs.declared.Fault.{Fault}
+use Rattle.spec.specs.declared.Fault.the-variants.{HostReadOnly}
 use Rattle.spec.specs.Config.{Config}
-use Rattle.spec.specs.Entry.{present, indexes, pageOf}
-use Rattle.spec.specs.Prefix.{same, begins}
+use Rattle.spec.specs.Entry.{indexes, pageOf}
+use Rattle.spec.specs.Prefix.{All}
 use Rattle.spec.specs.Walk.{World, Trace, Result, granted, failed, trace}
 use Rattle.spec.specs.Plain.{Place, levels, walk, upper, directPart}
 use Rattle.spec.specs.Machine.{Machine, world}
-use Rattle.spec.specs.Book.{Held, find, fill, holding, shadowTables}
-use Rattle.spec.specs.Call.{addressIndexes, plain}
-use Rattle.spec.specs.Count.{Counted, serves, heldBy, hostExit, shadowed, unshadowed, request}
+use Rattle.spec.specs.Bits.{lacks, owed, owes, judged, bitsSet}
+use Rattle.spec.specs.Book.{Held, find, fill, holding}
+use Rattle.spec.specs.Call.{addressIndexes, plain, verdict}
+use Rattle.spec.specs.Count.{Counted, one, hostExit, isGranted, serves, heldBy, rightOf, others, lateExit, shadowed, unshadowed, request}
 use Rattle.spec.specs.Run.{State}
-use Rattle.spec.specs.Prefix.{All}
-use Rattle.spec_laws.proofs.Lists.{all-map, is-true, is-false}
 use Rattle.spec_laws.proofs.Local.{Seen, seen}
-use Rattle.spec_laws.proofs.Granted.{granted-is, walk-same, walk-serves}
+use Rattle.spec_laws.proofs.Granted.{ran, walk-serves}
 use Rattle.spec_laws.proofs.Parts.{shadow-fault, direct-result}
 use Rattle.spec_laws.proofs.Indexes.{indexes-length, indexes-all}
-use Rattle.spec_laws.proofs.Depth.{PathFits, no-proper-prefix}
-use Rattle.spec_laws.proofs.Keeps.{Valid, again, fill-valid}
-use Rattle.spec_laws.proofs.Runs.{BookFits, fill-all, fill-keeps}
+use Rattle.spec_laws.proofs.Asks.{Guest, levels-asks}
+use Rattle.spec_laws.proofs.Keeps.{Valid, again, right-wide, right-deep}
+use Rattle.spec_laws.proofs.SetBits.{lacks-bits}
+use Rattle.spec_laws.proofs.Before.{off-owes, off-verdict, off-bits}
+use Rattle.spec_laws.proofs.Covered.{Covered}
+use Rattle.spec_laws.proofs.Served as served
+use Rattle.spec_laws.proofs.Missed.{missed-fault, missed-request}
 use Rattle.area_laws.proofs.Paths.{onto}
-use Rattle.area_laws.proofs.Whole.{Holds, Next}
+use Rattle.layout.specs.Layout.{page}
 use Rattle.layout.proofs.Laws.{InGuestArea}
-use Rattle.walk.specs.Memory.{walkedOf}
-use Rattle.walk.proofs.Stands.{Stands, stands-trace, plainWalked, root-walked, table-walked}
+use Rattle.walk.specs.declared.Walked.{Walked}
+use Rattle.walk.specs.declared.Walked.the-variants as walked
+use Rattle.walk.specs.Memory.{memoryWorld, walkedOf, trailFrom, trailOf}
+use Rattle.walk.proofs.Stands.{Stands, plainWalked, root-walked, table-walked}
+use Rattle.accessed.proofs.Walks.{walk-read}
 use Rattle.marks.proofs.Book.{depth-book}
 use Rattle.record.specs.declared.Record.{Record}
-use Rattle.record.specs.Record.{configOf}
-use Rattle.record.proofs.Rules.{Fits, fits-true, holds-pool}
-use Rattle.shadow.specs.Held.{shadowArea, entryFor}
-use Rattle.shadow.specs.Fill.{fillOf}
-use Rattle.shadow.proofs.Parts.{entry-present}
-use Rattle.drops_laws.proofs.Held.{leafAt}
+use Rattle.record.specs.Record.{configOf, headTables}
 use Rattle.drops_laws.proofs.Find.{find-all}
-use Rattle.drops_laws.proofs.Fill.{trail-is, fill-is}
-use Rattle.drops_laws.proofs.Valid.{framesAt, entryOf, entry-thin, valid-frame, inside-area, Stays, stays-same}
-use Rattle.translate.specs.Translate.{holding as holdingAt, translation, exitBy, directOf, servedOf, servesOf, foundOf, foundBy, missedOf, missedBy, filledOf, fillBy, plainOf, translateOf}
+use Rattle.drops_laws.proofs.Valid.{framesAt, valid-frame, inside-area}
+use Rattle.translate.specs.declared.Checked.{Checked}
+use Rattle.translate.specs.declared.Translated.{Translated}
 use Rattle.translate.specs.declared.Held.{Held as Holding}
-use Rattle.record.specs.Record.{headTables}
-use Rattle.area_laws.proofs.Paths.{Guests}
-use Rattle.walk.specs.Memory.{memoryWorld, trailFrom, trailOf}
-use Rattle.spec_laws.proofs.Asks.{walk-asks}
+use Rattle.translate.specs.Translate.{translation, exitBy, direct, directOf, servedOf, plainOf, whole, owingBy, checkedOf, settledBy, judgedBy, throughOf, unshadowedOf, servesOf, foundOf, passesOf, filledOf, plainly, grantBy, strictBy, brokenBy, laxOf, arrivedOf, missedBy, missedOf, foundBy, translateOf}
+use Rattle.translate.proofs.Bits.{through-off, through-on, unshadowed-off, unshadowed-on, arrived-off, arrived-on, missed-by, lax-broken}
+use Rattle.words.specs.After.{After, yields}
 use Rattle.calls.specs.Calls.{hostTop, heldOf, headHeld, withHeld, depthAt, translatedOf}
-use Rattle.claims.proofs.Invariant.{longer, topBy, frames, Inv, stands}
-use Rattle.claims.proofs.Moves.{fits-held, maps-beside, shadow-drop, invariant, shadow-on, at-inv}
+use Rattle.claims.proofs.Invariant.{frames, Inv}
+use Rattle.claims.proofs.Moves.{at-inv}
 use Rattle.claims.proofs.Paths.{path-upper, path-lower, walk-above, exit-is}
 use Rattle.claims.proofs.Found as found
-use Rattle.words.specs.After.{After, yields}
-use Rattle.pool.specs.declared.Went.{Went}
-use Rattle.translate.specs.declared.Translated.{Translated}
+use Rattle.claims.proofs.Bits.{walk-lacks, whole-walked, whole-checked}
+use Rattle.claims.proofs.Fills as fills
 
--- what a translation on s leaves: the plain walk's result, the book's references and exits, and the book's next state
+-- what a request came to, as the code has it. The write right at its end is nothing that a request says
+abbrev pub cameTo : Bool → Result Fault Place → ℕ → Walked
+cameTo right (granted p) n = walked.Arrived (page (p .0)) right n
+cameTo right (failed x) n = walked.Faulted x n
+
+-- what a translation on s leaves: the verdict, the book's references and exits, and the book's next state. Where the bits of a granted
+-- request are not to be set, they are set
 pub record Translates (s : State) (r : Record) (m : List ℕ) (st : Bool) (a : ℕ) (k : Counted) (o : After Translated) : Type 0 where
   pub held : Holding
   pub memory : List ℕ
-  pub done : o ≡ yields (translation held (k .exits) (plainWalked ((plain (configOf r) (s .machine) st a) .result) (k .references))) memory
+  pub right : Bool
+  pub sets : Bool
+  pub done : o ≡ yields (translation held (k .exits) (cameTo right (verdict (configOf r) (s .machine) st a) (k .references)) sets) memory
   pub next : Inv (record { config = configOf r; machine = s .machine; book = k .book }) (withHeld r held) memory
+  pub own : sets ≡ false → isGranted (verdict (configOf r) (s .machine) st a) ≡ true → bitsSet (configOf r) st (s .machine) (plain (configOf r) (s .machine) st a) ≡ s .machine
+  pub chosen : sets ≡ true → configOf r .bits ≡ true
 
--- ---- lists of held paths
+-- ---- results
 
--- where no held path is empty, all are longer
-all-longer-is : (hs : List Held) → All (λ (h : Held). 0 < length (h .path)) hs → longer hs ≡ hs
-all-longer-is [] a = refl
-all-longer-is (h ∷ hs) a = rw (lt-ltb 0 (length (h .path)) (a .0)) (ap (λ l. h ∷ l) (all-longer-is hs (a .1)))
+abbrev pub rightIn : Result Fault Place → Bool
+rightIn (granted p) = p .1
+rightIn (failed x) = false
 
-none-empty : (hs : List Held) → All (λ (h : Held). 0 < length (h .path)) hs → find [] hs ≡ none
-none-empty [] a = refl
-none-empty (h ∷ hs) a = go (h .path) (a .0) (none-empty hs (a .1))
-  where
-    go : (p : List ℕ) → 0 < length p → find [] hs ≡ none → cond (same [] p) (some h) (find [] hs) ≡ none
-    go [] l ih = absurd (omega arith)
-    go (i ∷ p) l ih = ih
+pub came-is : (x : Result Fault Place) (n : ℕ) → plainWalked x n ≡ cameTo (rightIn x) x n
+came-is (granted p) n = refl
+came-is (failed x) n = refl
 
--- where every held path is the empty one and that is not held, none is held
-none-held : (hs : List Held) → All (λ (h : Held). h .path ≡ []) hs → find [] hs ≡ none → hs ≡ []
-none-held [] a e = refl
-none-held (h ∷ hs) a e = go (h .path) (a .0) e
-  where
-    go : (p : List ℕ) → p ≡ [] → cond (same [] p) (some h) (find [] hs) ≡ none → h ∷ hs ≡ []
-    go [] q k = let z : _≡_ {A = ℕ} 0 1 = cc in absurd (omega arith)
-    go (i ∷ p) q k = let z = ap length q in absurd (omega arith)
+came-exit : (right : Bool) (x : Result Fault Place) (n : ℕ) → exitBy (cameTo right x n) ≡ hostExit x
+came-exit right (granted p) n = refl
+came-exit right (failed x) n = exit-is (failed x) n
 
--- a longer path begins with the empty one
-pub begins-nil : (p q : List ℕ) → p ≡ [] → T (begins p q)
-begins-nil p q e = subst (λ x. T (begins x q)) (sym e) tt
+not-broken : (right : Bool) (x : Result Fault Place) (n : ℕ) → brokenBy (cameTo right x n) ≡ false
+not-broken right (granted p) n = refl
+not-broken right (failed x) n = refl
 
-module _ (s : State) (r : Record) (m : List ℕ) (inv : Inv s r m) (st : Bool) (a : ℕ) where
+-- a granted walk reads an entry at each index
+reads-long : (xs : List (ℕ × ℕ)) → length (map (λ x. x .1) xs) ≡ length xs
+reads-long [] = refl
+reads-long (x ∷ xs) = ap suc (reads-long xs)
+
+no : {A : Type 0} → _≡_ {A = Bool} false true → A
+no e = let z : _≡_ {A = ℕ} 0 1 = cc in absurd (omega arith)
+
+module _ (s : State) (r : Record) (m : List ℕ) (inv : Inv s r m) (covered : All (Covered (configOf r) (s .machine)) (s .book .held)) (st : Bool) (a : ℕ) where
   abbrev c : Config
   c = configOf r
 
@@ -113,420 +120,518 @@ module _ (s : State) (r : Record) (m : List ℕ) (inv : Inv s r m) (st : Bool) (
   abbrev w : World
   w = world c mach
 
-  -- the entry of the top host table, and what is held
   abbrev ht : ℕ
   ht = hostTop r
 
   abbrev hold : Holding
   hold = heldOf r
 
-  -- the tables that the walk of the shadow part comes through
-  abbrev gs : List ℕ
-  gs = trailOf c ht m 0 (walk c st (r .guest .root .0) path) .tables
+  abbrev rt : ℕ
+  rt = r .guest .root .0
 
-  abbrev result : Result Fault Place
-  result = (plain c mach st a) .result
+  abbrev part : Trace Fault Place
+  part = fills.part s r m inv st a
+
+  abbrev all : Trace Fault Place
+  all = plain c mach st a
+
+  -- what the request owes
+  abbrev owing : Option (ℕ × ℕ)
+  owing = owes c w st all
+
+  abbrev price : Counted
+  price = request c mach (s .book) st a deep
 
   -- the invariant where nothing changed
-  same-inv : Inv (record { config = configOf r; machine = s .machine; book = s .book }) (withHeld r hold) m
+  same-inv : Inv (record { config = c; machine = mach; book = s .book }) (withHeld r hold) m
   unfolding headHeld headTables
   same-inv = at-inv inv
 
-  -- ---- the direct part, over a memory that stands for the machine
-  direct-is : (n : List ℕ) → Stands c mach ht n → (t : ℕ) (right : Bool) → deep ≤ c .levels → InGuestArea c t
-      → directOf c ht n st a deep t right
-      ≡ plainWalked ((trace w (directPart c st deep (t, right) (addressIndexes c a))) .result) ((c .levels - deep) + (trace w (directPart c st deep (t, right) (addressIndexes c a))) .count)
-  unfolding directOf
-  direct-is n sn t right low i =
-      let e : indexes deep (pageOf a) ≡ drop (c .levels - deep) (addressIndexes c a) = sym (path-lower c deep a low) in
-      ap (λ l. walkedOf c ht n (c .levels - deep) (levels c st l t right (indexes deep (pageOf a)))) (zero-add deep)
-      ∙ table-walked c mach ht n sn (c .levels - deep) st deep t right (indexes deep (pageOf a)) i (indexes-all deep (pageOf a))
-      ∙ ap (λ js. plainWalked ((trace w (levels c st deep t right js)) .result) ((c .levels - deep) + (trace w (levels c st deep t right js)) .count)) e
+  -- ---- the direct part
+  module _ (t : ℕ) (right : Bool) (low : deep ≤ c .levels) (here : InGuestArea c t) where
+    abbrev rest : Trace Fault Place
+    rest = trace w (directPart c st deep (t, right) (addressIndexes c a))
 
-  -- served through a path whose shadow part comes to (t, right), e exits so far: the plain walk's result
-  pub served-is : (n : List ℕ) → Stands c mach ht n → (t : ℕ) (right : Bool) (h : Holding) (e : ℕ) → deep ≤ c .levels → InGuestArea c t
-      → (trace w (walk c st (mach .root) path)) .result ≡ granted (t, right)
-      → let d = trace w (directPart c st deep (t, right) (addressIndexes c a)) in
-      servedOf c ht n h st a deep t right e ≡ translation h (e + hostExit (d .result)) (plainWalked result ((c .levels - deep) + d .count))
-  unfolding servedOf plain
-  served-is n sn t right h e low i g =
-      let d = trace w (directPart c st deep (t, right) (addressIndexes c a)) in
-      let q = direct-is n sn t right low i in
-      let whole = direct-result w c st deep (mach .root) (addressIndexes c a) (t, right) (indexes-length (c .levels) (pageOf a)) low
-      (ap (λ p. (trace w (walk c st (mach .root) p)) .result) (path-upper c deep a low) ∙ g) in
-      ap (λ x. translation h (e + exitBy x) x) q
-      ∙ ap (λ x. translation h (e + x) (plainWalked (d .result) ((c .levels - deep) + d .count))) (exit-is (d .result) ((c .levels - deep) + d .count))
-      ∙ ap (λ x. translation h (e + hostExit (d .result)) (plainWalked x ((c .levels - deep) + d .count))) (sym (whole .0))
+    same-walk : direct c st a deep t right ≡ directPart c st deep (t, right) (addressIndexes c a)
+    same-walk = ap₂ (λ l js. levels c st l t right js) (zero-add deep) (sym (path-lower c deep a low))
 
-  -- ---- the book's request, by the path
-  abbrev part : Trace Fault Place
-  part = trace w (walk c st (mach .root) path)
+    asks : Guest c (InGuestArea c) (direct c st a deep t right) (λ q. InGuestArea c (q .0))
+    asks = levels-asks c (InGuestArea c) st _ t right (indexes deep (pageOf a)) here (indexes-all deep (pageOf a))
 
-  request-is : deep ≤ c .levels
-      → request c mach (s .book) st a deep ≡ shadowed c mach (s .book) st deep (addressIndexes c a) path (serves st deep (find path (s .book .held))) part (part .result)
-  unfolding request
-  request-is low =
-      let b : leb deep (c .levels) ≡ true = is-true (leb deep (c .levels)) (le→leb deep (c .levels) low) in
-      let is = addressIndexes c a in
-      ap (λ t. cond t (shadowed c mach (s .book) st deep is (upper c deep is) (serves st deep (find (upper c deep is) (s .book .held)))
-      (trace w (walk c st (mach .root) (upper c deep is))) ((trace w (walk c st (mach .root) (upper c deep is))) .result)) (unshadowed (s .book) (plain c mach st a))) b
-      ∙ ap (λ u. shadowed c mach (s .book) st deep is u (serves st deep (find u (s .book .held))) (trace w (walk c st (mach .root) u)) ((trace w (walk c st (mach .root) u)) .result)) (path-upper c deep a low)
+    pub direct-is : directOf c ht m st a deep t right ≡ cameTo (rightIn (rest .result)) (rest .result) ((c .levels - deep) + rest .count)
+    unfolding directOf
+    direct-is =
+        ap (λ l. walkedOf c ht m (c .levels - deep) (levels c st l t right (indexes deep (pageOf a)))) (zero-add deep)
+        ∙ table-walked c mach ht m (found.memory-stands s r m inv) (c .levels - deep) st deep t right (indexes deep (pageOf a)) here (indexes-all deep (pageOf a))
+        ∙ ap (λ js. plainWalked ((trace w (levels c st deep t right js)) .result) ((c .levels - deep) + (trace w (levels c st deep t right js)) .count)) (sym (path-lower c deep a low))
+        ∙ came-is (rest .result) ((c .levels - deep) + rest .count)
 
+    direct-lack : lacks (memoryWorld c ht m) st ((trace (memoryWorld c ht m) (direct c st a deep t right)) .reads) ≡ lacks w st (rest .reads)
+    direct-lack =
+        walk-lacks c mach ht m (found.memory-stands s r m inv) (direct c st a deep t right) _ asks st
+        ∙ ap (λ p. lacks w st ((trace w p) .reads)) same-walk
+
+    -- at depth 0 nothing is left to walk
+    rest-page : deep ≡ 0 → rest ≡ ran 0 [] [] (t, right)
+    unfolding indexes levels trace
+    rest-page z =
+        ap (λ p. trace w p) (sym same-walk) ∙ ap (λ d. trace w (levels c st (0 + d) t right (indexes d (pageOf a)))) z
+
+  -- what its bits say where the plain walk is granted
+  checked-is : (q : Place) → all .result ≡ granted q → checkedOf c ht m rt st a deep ≡ owingBy deep (lacks w st (all .reads)) (owed w st (all .reads) (all .uses))
+  checked-is q e =
+      ap (λ x. checkedOf c ht m x st a deep) (inv .root)
+      ∙ whole-checked c mach ht m (found.memory-stands s r m inv) (found.root-small s r m inv) st a deep q e
+
+  -- what is owed with bits on
+  owes-on : c .bits ≡ true → owed w st (all .reads) (all .uses) ≡ owing
+  unfolding owes
+  owes-on on = sym (ap (λ b. cond b (owed w st (all .reads) (all .uses)) none) on)
+
+  verdict-is : (o : Option (ℕ × ℕ)) (x : Result Fault Place) → owing ≡ o → all .result ≡ x → verdict c mach st a ≡ judged o x
+  unfolding verdict
+  verdict-is o x e k = ap₂ judged e k
+
+  -- a walk's fault is the verdict
+  verdict-fault : (x : Fault) → all .result ≡ failed x → verdict c mach st a ≡ failed x
+  verdict-fault x e = verdict-is owing (failed x) refl e
+
+  granted-true : (x : Result Fault Place) (p : Place) → x ≡ granted p → isGranted x ≡ true
+  granted-true x p e = ap (λ (y : Result Fault Place). isGranted y) e
+
+  refused-own : {A : Type 0} (x : Fault) → verdict c mach st a ≡ failed x → isGranted (verdict c mach st a) ≡ true → A
+  refused-own x e k = no (sym (ap (λ (y : Result Fault Place). isGranted y) e) ∙ k)
+
+  -- the whole walk that lacks no bit has nothing to set
+  own-whole : lacks w st (all .reads) ≡ false → bitsSet c st mach all ≡ mach
+  own-whole e = lacks-bits c st mach all e
+
+  -- ---- a held path that serves
   pub serves-is : (d : ℕ) (h : Held) → serves st d (some h) ≡ servesOf st d (h .right)
   unfolding servesOf
   serves-is zero h = refl
   serves-is (suc d) h = let z : eqb (suc d) 0 ≡ false = ne-eqb (suc d) 0 (λ e. omega arith) in rw z
 
-  -- ---- a held path that serves
+  module _ (h : Held) (low : deep ≤ c .levels) (held : find path (s .book .held) ≡ some h) (sv : servesOf st deep (h .right) ≡ true) where
+    pub valid : Valid c mach h
+    valid = find-all (Valid c mach) path h (s .book .held) (inv .valid) held
 
-  -- the frame that the path leads to, by the record's root
-  frame-is : (h : Held) (v : Valid c mach h) → h .path ≡ path → frames r m (onto [] path) ≡ v .frame
-  frame-is h v at =
-      ap (λ x. framesAt c ht m x (onto [] path)) (inv .root) ∙ ap (λ p. framesAt c ht m (mach .root) (onto [] p)) (sym at)
-      ∙ valid-frame c mach ht m (found.memory-stands s r m inv) (found.root-small s r m inv) (found.few s r m inv) h v
+    at : h .path ≡ path
+    at = found.find-path path (s .book .held) h held
 
-  pub held-granted : (h : Held) → deep ≤ c .levels → find path (s .book .held) ≡ some h → servesOf st deep (h .right) ≡ true
-      → (part .result ≡ granted (frames r m (onto [] path), h .right)) × InGuestArea c (frames r m (onto [] path))
-  unfolding again seen servesOf
-  held-granted h low e sv = (go st sv, subst (InGuestArea c) (sym (frame-is h v at)) (inside-area c mach ht m (found.memory-stands s r m inv) (found.root-small s r m inv) (found.few s r m inv) h v))
-    where
-      v : Valid c mach h
-      v = find-all (Valid c mach) path h (s .book .held) (inv .valid) e
+    abbrev pub t : ℕ
+    t = frames r m (onto [] path)
 
-      at : h .path ≡ path
-      at = found.find-path path (s .book .held) h e
+    frame-is : t ≡ valid .frame
+    frame-is =
+        ap (λ x. framesAt c ht m x (onto [] path)) (inv .root) ∙ ap (λ p. framesAt c ht m (mach .root) (onto [] p)) (sym at)
+        ∙ valid-frame c mach ht m (found.memory-stands s r m inv) (found.root-small s r m inv) (found.few s r m inv) h valid
 
-      base : (trace w (walk c false (mach .root) path)) .result ≡ granted (frames r m (onto [] path), h .right)
-      base =
-          ap (λ p. (trace w (walk c false (mach .root) p)) .result) (sym at) ∙ ap (λ (x : Seen Fault Place). x .result) (v .comes)
-          ∙ ap (λ f. granted (f, h .right)) (sym (frame-is h v at))
+    pub held-in : InGuestArea c t
+    held-in = subst (InGuestArea c) (sym frame-is) (inside-area c mach ht m (found.memory-stands s r m inv) (found.root-small s r m inv) (found.few s r m inv) h valid)
 
-      stored : (d : ℕ) → deep ≡ d → cond (eqb d 0) (h .right) true ≡ true → (trace w (walk c true (mach .root) path)) .result ≡ granted (frames r m (onto [] path), h .right)
-      stored zero q k =
-          ap (λ (x : Trace Fault Place). x .result) (walk-serves w c (mach .root) path (frames r m (onto [] path)) (base ∙ ap (λ b. granted (frames r m (onto [] path), b)) k)) ∙ base
-      stored (suc d) q k = ap (λ p. (trace w p) .result) (walk-above c (mach .root) path (omega (arith, found.path-length s r m inv a low))) ∙ base
+    -- its shadow part comes there, a store's too
+    pub held-granted : part .result ≡ granted (t, valid .wide)
+    unfolding again seen servesOf
+    held-granted = go st sv
+      where
+        base : (trace w (walk c false (mach .root) path)) .result ≡ granted (t, valid .wide)
+        base =
+            ap (λ p. (trace w (walk c false (mach .root) p)) .result) (sym at) ∙ ap (λ (x : Seen Fault Place). x .result) (valid .comes)
+            ∙ ap (λ f. granted (f, valid .wide)) (sym frame-is)
 
-      go : (b : Bool) → cond (eqb deep 0) (not b || h .right) true ≡ true → (trace w (walk c b (mach .root) path)) .result ≡ granted (frames r m (onto [] path), h .right)
-      go false k = base
-      go true k = stored deep refl k
+        stored : (d : ℕ) → deep ≡ d → cond (eqb d 0) (h .right) true ≡ true → (trace w (walk c true (mach .root) path)) .result ≡ granted (t, valid .wide)
+        stored zero q k =
+            ap (λ (x : Trace Fault Place). x .result) (walk-serves w c (mach .root) path t (base ∙ ap (λ b. granted (t, b)) (right-wide c mach h valid k))) ∙ base
+        stored (suc d) q k = ap (λ p. (trace w p) .result) (walk-above c (mach .root) path (omega (arith, found.path-length s r m inv a low))) ∙ base
 
-  served-path : (h : Held) → deep ≤ c .levels → find path (s .book .held) ≡ some h → servesOf st deep (h .right) ≡ true
-      → Translates s r m st a (request c mach (s .book) st a deep) (yields (servedOf c ht m hold st a deep (frames r m (onto [] path)) (h .right) 0) m)
-  served-path h low e sv =
-      let g = held-granted h low e sv in
-      let t = frames r m (onto [] path) in
-      let d = trace w (directPart c st deep (t, h .right) (addressIndexes c a)) in
-      let q = request-is low ∙ ap₂ (λ b x. shadowed c mach (s .book) st deep (addressIndexes c a) path b part x) (ap (serves st deep) e ∙ serves-is deep h ∙ sv) (g .0) in
-      subst (λ k. Translates s r m st a k (yields (servedOf c ht m hold st a deep t (h .right) 0) m)) (sym q) (record {
-        held = hold;
-        memory = m;
-        done = ap (λ x. yields x m) (served-is m (found.memory-stands s r m inv) t (h .right) hold 0 low (g .1) (g .0));
-        next = same-inv;
-      })
+        go : (b : Bool) → cond (eqb deep 0) (not b || h .right) true ≡ true → (trace w (walk c b (mach .root) path)) .result ≡ granted (t, valid .wide)
+        go false k = base
+        go true k = stored deep refl k
 
-  -- ---- a path that does not serve, and whose shadow part faults
+    -- the laws of a held path, by the path as the specification has it
+    upper-is : upper c deep (addressIndexes c a) ≡ path
+    upper-is = path-upper c deep a low
 
-  pub walked-is : deep ≤ c .levels → walkedOf c ht m 0 (walk c st (r .guest .root .0) path) ≡ plainWalked (part .result) (part .count)
-  walked-is low =
+    comes : (trace w (walk c st (mach .root) (upper c deep (addressIndexes c a)))) .result ≡ granted (t, valid .wide)
+    comes = ap (λ p. (trace w (walk c st (mach .root) p)) .result) upper-is ∙ held-granted
+
+    its : Covered c mach h
+    its = find-all (Covered c mach) path h (s .book .held) covered held
+
+    ok : serves st deep (some h) ≡ true
+    ok = serves-is deep h ∙ sv
+
+    abbrev rested : Trace Fault Place
+    rested = rest t (valid .wide) low held-in
+
+    -- what the code walks on from the held entry, whose bit may be lower than the walk's right at depth 0
+    right-or-page : (d : ℕ) → deep ≡ d → (P : Bool → Type 0) → (deep ≡ 0 → P (h .right)) → (h .right ≡ valid .wide → P (h .right)) → P (h .right)
+    right-or-page zero z P f g = f z
+    right-or-page (suc d) z P f g = g (right-deep c mach h valid (λ e. omega (arith, z, e, ap length at, found.path-length s r m inv a low)))
+
+    walked-on : (ρ : Bool) × (directOf c ht m st a deep t (h .right) ≡ cameTo ρ (rested .result) ((c .levels - deep) + rested .count))
+    walked-on = right-or-page deep refl (λ b. (ρ : Bool) × (directOf c ht m st a deep t b ≡ cameTo ρ (rested .result) ((c .levels - deep) + rested .count)))
+        (λ z. (
+          h .right,
+          direct-is t (h .right) low held-in
+              ∙ ap (λ (x : Trace Fault Place). cameTo (rightIn (x .result)) (x .result) ((c .levels - deep) + x .count)) (rest-page t (h .right) low held-in z)
+              ∙ sym (ap (λ (x : Trace Fault Place). cameTo (h .right) (x .result) ((c .levels - deep) + x .count)) (rest-page t (valid .wide) low held-in z)),
+        ))
+        (λ e. (rightIn (rested .result), ap (directOf c ht m st a deep t) e ∙ direct-is t (valid .wide) low held-in))
+
+    lack-on : lacks (memoryWorld c ht m) st ((trace (memoryWorld c ht m) (direct c st a deep t (h .right))) .reads) ≡ lacks w st (rested .reads)
+    lack-on = right-or-page deep refl (λ b. lacks (memoryWorld c ht m) st ((trace (memoryWorld c ht m) (direct c st a deep t b)) .reads) ≡ lacks w st (rested .reads))
+        (λ z. direct-lack t (h .right) low held-in ∙ ap (λ (x : Trace Fault Place). lacks w st (x .reads)) (rest-page t (h .right) low held-in z)
+        ∙ sym (ap (λ (x : Trace Fault Place). lacks w st (x .reads)) (rest-page t (valid .wide) low held-in z)))
+        (λ e. ap (λ b. lacks (memoryWorld c ht m) st ((trace (memoryWorld c ht m) (direct c st a deep t b)) .reads)) e ∙ direct-lack t (valid .wide) low held-in)
+
+    -- the laws of the book
+    priced : price ≡ record { references = (c .levels - deep) + rested .count; exits = hostExit (verdict c mach st a); book = s .book }
+    priced = served.served-request c mach st a deep (t, valid .wide) h low comes valid its (at ∙ sym upper-is) ok (s .book) (ap (λ p. find p (s .book .held)) upper-is ∙ held)
+
+    whole-is : all .result ≡ rested .result
+    unfolding plain
+    whole-is = direct-result w c st deep (mach .root) (addressIndexes c a) (t, valid .wide) (indexes-length (c .levels) (pageOf a)) low comes .0
+
+    abbrev refs : ℕ
+    refs = (c .levels - deep) + rested .count
+
+    -- what it says, by what the code says of it
+    serve : (ρ sets : Bool) (x : Result Fault Place) (e : ℕ) → verdict c mach st a ≡ x → hostExit x ≡ e
+        → throughOf c ht m hold rt st a deep t (h .right) ≡ translation hold e (cameTo ρ x refs) sets
+        → (sets ≡ false → isGranted (verdict c mach st a) ≡ true → bitsSet c st mach all ≡ mach) → (sets ≡ true → c .bits ≡ true)
+        → Translates s r m st a price (yields (throughOf c ht m hold rt st a deep t (h .right)) m)
+    serve ρ sets x e v k q own chosen = subst (λ y. Translates s r m st a y (yields (throughOf c ht m hold rt st a deep t (h .right)) m)) (sym priced) (record {
+      held = hold;
+      memory = m;
+      right = ρ;
+      sets = sets;
+      done = ap (λ y. yields y m) (q ∙ ap₂ (λ i y. translation hold i (cameTo ρ y refs) sets) (sym k ∙ ap (λ (y : Result Fault Place). hostExit y) (sym v)) (sym v));
+      next = same-inv;
+      own = own;
+      chosen = chosen;
+    })
+
+    pub served-path : Translates s r m st a price (yields (throughOf c ht m hold rt st a deep t (h .right)) m)
+    unfolding servedOf
+    served-path = go (c .bits) refl
+      where
+        ρ : Bool
+        ρ = walked-on .0
+
+        came : directOf c ht m st a deep t (h .right) ≡ cameTo (walked-on .0) (rested .result) refs
+        came = walked-on .1
+
+        -- bits off
+        off-path : c .bits ≡ false → Translates s r m st a price (yields (throughOf c ht m hold rt st a deep t (h .right)) m)
+        off-path off = serve ρ false (rested .result) (hostExit (rested .result)) (off-verdict c mach st a off ∙ whole-is) refl
+            (through-off c ht m hold rt st a deep t (h .right) off
+            ∙ ap (λ y. translation hold (0 + exitBy y) y false) came
+            ∙ ap (λ i. translation hold i (cameTo ρ (rested .result) refs) false) (zero-add (exitBy (cameTo ρ (rested .result) refs)) ∙ came-exit ρ (rested .result) refs))
+            (λ z g. off-bits c st mach all off) no
+
+        on-path : c .bits ≡ true → (x : Result Fault Place) → rested .result ≡ x → (l : Bool) → lacks w st (rested .reads) ≡ l
+            → Translates s r m st a price (yields (throughOf c ht m hold rt st a deep t (h .right)) m)
+        on-path on (failed x) e l k =
+            serve ρ false (failed x) (hostExit {A = Place} (failed x)) (verdict-fault x (whole-is ∙ e)) refl
+            (through-on c ht m hold rt st a deep t (h .right) l (walked.Faulted x refs) on (lack-on ∙ k) (came ∙ ap (λ y. cameTo ρ y refs) e)
+            ∙ ap (λ i. translation hold i (walked.Faulted x refs) false) (exit-is (failed x) refs))
+            (λ z g. refused-own x (verdict-fault x (whole-is ∙ e)) g) no
+        on-path on (granted q) e false k =
+            serve ρ false (granted q) 0 (served.served-verdict c mach st a deep (t, valid .wide) h low comes valid its (at ∙ sym upper-is) ok (λ y z. k) ∙ e) refl
+            (through-on c ht m hold rt st a deep t (h .right) false (walked.Arrived (page (q .0)) ρ refs) on (lack-on ∙ k) (came ∙ ap (λ y. cameTo ρ y refs) e))
+            (λ z g. served.served-machine c mach st a deep (t, valid .wide) h low comes valid its (at ∙ sym upper-is) ok k) no
+        on-path on (granted q) e true k = by owing refl
+          where
+            judge : (o : Option (ℕ × ℕ)) → owing ≡ o
+                → throughOf c ht m hold rt st a deep t (h .right) ≡ settledBy hold refs (walked.Arrived (page (q .0)) (walked-on .0) refs) (owingBy deep (lacks w st (all .reads)) o)
+            judge o z =
+                through-on c ht m hold rt st a deep t (h .right) true (walked.Arrived (page (q .0)) (walked-on .0) refs) on (lack-on ∙ k) (came ∙ ap (λ y. cameTo (walked-on .0) y refs) e)
+                ∙ ap (settledBy hold refs (walked.Arrived (page (q .0)) (walked-on .0) refs)) (checked-is q (whole-is ∙ e) ∙ ap (owingBy deep (lacks w st (all .reads))) (owes-on on ∙ z))
+
+            by : (o : Option (ℕ × ℕ)) → owing ≡ o → Translates s r m st a price (yields (throughOf c ht m hold rt st a deep t (h .right)) m)
+            by none z = serve ρ (lacks w st (all .reads)) (granted q) 0 (verdict-is none (granted q) z (whole-is ∙ e)) refl (judge none z) (λ y g. own-whole y) (λ y. on)
+            by (some o) z =
+                let v = verdict-is (some o) (granted q) z (whole-is ∙ e) in
+                serve ρ false (failed (HostReadOnly (o .1))) 1 v refl
+                (judge (some o) z ∙ ap (λ b. translation hold (one b) (walked.Faulted (HostReadOnly (o .1)) refs) false)
+                (le-leb (o .0) deep (served.owed-low c mach st a deep (t, valid .wide) h low comes valid its (at ∙ sym upper-is) ok q o e z)))
+                (λ y g. refused-own (HostReadOnly (o .1)) v g) no
+
+        go : (b : Bool) → c .bits ≡ b → Translates s r m st a price (yields (throughOf c ht m hold rt st a deep t (h .right)) m)
+        go false off = off-path off
+        go true on = on-path on (rested .result) refl (lacks w st (rested .reads)) refl
+
+  -- the walk of the shadow part over memory
+  pub walked-is : walkedOf c ht m 0 (walk c st rt path) ≡ plainWalked (part .result) (part .count)
+  walked-is =
       ap (λ x. walkedOf c ht m 0 (walk c st x path)) (inv .root)
       ∙ root-walked c mach ht m (found.memory-stands s r m inv) st (mach .root) path (found.root-small s r m inv) (indexes-all (c .levels - deep) (pageOf a / 2 ^ (9 * deep)))
 
-  fault-path : (x : Fault) → deep ≤ c .levels → serves st deep (find path (s .book .held)) ≡ false → part .result ≡ failed x
-      → Translates s r m st a (request c mach (s .book) st a deep) (missedOf c ht m hold (r .guest .root .0) st a deep)
-  unfolding missedOf trailFrom plain
-  fault-path x low sv e =
-      let q = request-is low ∙ ap₂ (λ b y. shadowed c mach (s .book) st deep (addressIndexes c a) path b part y) sv e in
-      let f = shadow-fault w c st deep (mach .root) (addressIndexes c a) x (indexes-length (c .levels) (pageOf a)) low
-      (ap (λ p. (trace w (walk c st (mach .root) p)) .result) (path-upper c deep a low) ∙ e) in
-      subst (λ k. Translates s r m st a k (missedBy c ht m hold st a deep gs (walkedOf c ht m 0 (walk c st (r .guest .root .0) path)))) (sym q) (record {
-        held = hold;
-        memory = m;
-        done = ap (missedBy c ht m hold st a deep gs) (walked-is low ∙ ap (λ y. plainWalked y (part .count)) e)
-            ∙ ap (λ y. yields (translation hold 1 (plainWalked y (part .count))) m) (sym (f .0));
-        next = same-inv;
-      })
+  -- ---- a path that does not serve
+  module _ (low : deep ≤ c .levels) (unserved : serves st deep (find path (s .book .held)) ≡ false) where
+    missing : serves st deep (find (upper c deep (addressIndexes c a)) (s .book .held)) ≡ false
+    missing = ap (λ p. serves st deep (find p (s .book .held))) (path-upper c deep a low) ∙ unserved
 
-  -- ---- a path that is filled
+    part-upper : trace w (walk c st (mach .root) (upper c deep (addressIndexes c a))) ≡ part
+    part-upper = ap (λ p. trace w (walk c st (mach .root) p)) (path-upper c deep a low)
 
-  abbrev new : Bool → Held
-  new right = heldBy path part right
+    abbrev missed : After Translated
+    missed = missedOf c ht m hold rt st a deep
 
-  small-path : All (λ i. i < 512) path
-  small-path = indexes-all (c .levels - deep) (pageOf a / 2 ^ (9 * deep))
+    missed-is : (x : Walked) → plainWalked (part .result) (part .count) ≡ x → missed ≡ missedBy c ht m hold rt st a deep (fills.gs s r m inv st a) x
+    unfolding trailFrom
+    missed-is x e = missed-by c ht m hold rt st a deep _ refl ∙ ap (missedBy c ht m hold rt st a deep (fills.gs s r m inv st a)) (walked-is ∙ e)
 
-  new-valid : (t : ℕ) (right : Bool) → part .result ≡ granted (t, right) → Valid c mach (new right)
-  new-valid t right e = fill-valid c mach st path (t, right) small-path e
-
-  new-frame : (t : ℕ) (right : Bool) (e : part .result ≡ granted (t, right)) → t ≡ (new-valid t right e) .frame
-  unfolding again seen
-  new-frame t right e = go st e
-    where
-      v : Valid c mach (new right)
-      v = new-valid t right e
-
-      comes : (trace w (walk c false (mach .root) path)) .result ≡ granted (v .frame, right)
-      comes = ap (λ (x : Seen Fault Place). x .result) (v .comes)
-
-      go : (b : Bool) → (trace w (walk c b (mach .root) path)) .result ≡ granted (t, right) → t ≡ v .frame
-      go false q = ap (λ (x : Place). x .0) (granted-is (t, right) (v .frame, right) (sym q ∙ comes))
-      go true q =
-          ap (λ (x : Place). x .0) (granted-is (t, right) (v .frame, right) (sym q ∙ ap (λ (x : Trace Fault Place). x .result) (sym (walk-same w c (mach .root) path (t, right) q)) ∙ comes))
-
-  pub new-here : (t : ℕ) (right : Bool) → part .result ≡ granted (t, right) → (frames r m (onto [] path) ≡ t) × InGuestArea c t
-  new-here t right e =
-      let v = new-valid t right e in
-      let f = new-frame t right e in
-      (frame-is (new right) v refl ∙ sym f, subst (InGuestArea c) (sym f) (inside-area c mach ht m (found.memory-stands s r m inv) (found.root-small s r m inv) (found.few s r m inv) (new right) v))
-
-  -- the held paths and the one to come are no proper prefixes of each other
-  apart-all : (low : deep ≤ c .levels) → All (λ (h : Held). T (begins (h .path) path) → h .path ≡ path) (s .book .held)
-      × All (λ (h : Held). T (begins path (h .path)) → path ≡ h .path) (s .book .held)
-  apart-all low =
-      let f = found.path-depth s r m inv a low in (
-        all-map (λ h. PathFits (c .levels) (s .book .marks) (h .path)) _ (s .book .held) (λ h g. no-proper-prefix (c .levels) (s .book .marks) (h .path) path g f) (inv .book .held),
-        all-map (λ h. PathFits (c .levels) (s .book .marks) (h .path)) _ (s .book .held) (λ h g. no-proper-prefix (c .levels) (s .book .marks) path (h .path) f g) (inv .book .held),
-      )
-
-  fill-book : (right : Bool) → deep ≤ c .levels → BookFits c (holding (s .book) (fill c (new right) (s .book .held)))
-  fill-book right low = fill-keeps c (s .book) (new right) (found.path-depth s r m inv a low) (inv .book)
-
-  -- ---- the book's price of a fill
-  filled-count : (t : ℕ) (right : Bool) → deep ≤ c .levels → serves st deep (find path (s .book .held)) ≡ false → part .result ≡ granted (t, right)
-      → let d = trace w (directPart c st deep (t, right) (addressIndexes c a)) in
-      request c mach (s .book) st a deep
-      ≡ record { references = (c .levels - deep) + d .count; exits = 1 + hostExit (d .result); book = holding (s .book) (fill c (new right) (s .book .held)) }
-  filled-count t right low sv e =
-      request-is low ∙ ap₂ (λ b x. shadowed c mach (s .book) st deep (addressIndexes c a) path b part x) sv e
-
-  -- the state after a fill
-  abbrev after : Bool → State
-  after right = record { config = c; machine = s .machine; book = holding (s .book) (fill c (new right) (s .book .held)) }
-
-  -- a path with an index stands in the shadow tables
-  module _ (t : ℕ) (right : Bool) (low : deep < c .levels) (e : part .result ≡ granted (t, right)) where
-    long : 0 < length path
-    long = omega (arith, found.path-length s r m inv a (omega arith))
-
-    others-long : All (λ (h : Held). 0 < length (h .path)) (s .book .held)
-    others-long = all-map _ _ (s .book .held) go (apart-all (omega arith) .0)
-      where
-        go : (h : Held) → (T (begins (h .path) path) → h .path ≡ path) → 0 < length (h .path)
-        go h k = at (h .path) k
-          where
-            at : (p : List ℕ) → (T (begins p path) → p ≡ path) → 0 < length p
-            at [] f = let z = ap length (f tt) in omega (arith, long)
-            at (i ∷ p) f = omega arith
-
-    switch-is : ltb 0 deep ≡ ltb (length path) (c .levels)
-    switch-is = go (ltb 0 deep) refl
-      where
-        go : (b : Bool) → ltb 0 deep ≡ b → b ≡ ltb (length path) (c .levels)
-        go true q = let l = ltb-true 0 deep q in sym (lt-ltb (length path) (c .levels) (omega (arith, found.path-length s r m inv a (omega arith))))
-        go false q = let l = ltb-false 0 deep q in sym (le-ltb (length path) (c .levels) (omega (arith, found.path-length s r m inv a (omega arith))))
-
-    entry-is : entryFor t (ltb 0 deep) right ≡ entryOf c (frames r m) (new right)
-    unfolding entryOf
-    entry-is = ap₂ (λ f b. entryFor f b right) (sym (new-here t right e .0)) switch-is
-
-    longer-fill : fill c (new right) (longer (s .book .held)) ≡ longer (fill c (new right) (s .book .held))
-    longer-fill =
-        ap (fill c (new right)) (all-longer-is (s .book .held) others-long)
-        ∙ sym (all-longer-is (fill c (new right) (s .book .held)) (fill-all (λ (h : Held). 0 < length (h .path)) c (new right) (s .book .held) long others-long))
-
-    -- the walk over memory arrives too, and hands out the guest tables on the way
-    over-memory : (trace (memoryWorld c ht m) (walk c st (r .guest .root .0) path)) .result ≡ granted (t, right)
-    over-memory =
-        ap (λ x. (trace (memoryWorld c ht m) (walk c st x path)) .result) (inv .root)
-        ∙ ap (λ (x : Trace Fault Place). x .result) (stands-trace c mach ht m (found.memory-stands s r m inv) (walk c st (mach .root) path) _ (walk-asks c (InGuestArea c) st (mach .root) path (found.root-small s r m inv) small-path))
-        ∙ e
-
-    tables-are : Guests (frames r m) gs 0 [] path
-    tables-are = trail-is c ht m (found.few s r m inv) st (r .guest .root .0) path (t, right) (omega (arith, found.path-length s r m inv a (omega arith), found.rules s r m inv .sizes .deep)) over-memory
-
-    placed : Next (shadowArea c) false (r .pools .shadow) m (leafAt (entryOf c (frames r m)) (longer (fill c (new right) (s .book .held)))) (frames r m)
-        (fillOf c gs (r .pools .shadow) m path (entryFor t (ltb 0 deep) right))
-    unfolding entryOf
-    placed =
-        subst (λ x. Next (shadowArea c) false (r .pools .shadow) m (leafAt (entryOf c (frames r m)) (longer (fill c (new right) (s .book .held)))) (frames r m) (fillOf c gs (r .pools .shadow) m path x)) (sym entry-is)
-        (subst (λ l. Next (shadowArea c) false (r .pools .shadow) m (leafAt (entryOf c (frames r m)) l) (frames r m) (fillOf c gs (r .pools .shadow) m path (entryOf c (frames r m) (new right)))) longer-fill
-        (fill-is (inv .shadow) (found.held-entries s r m inv) (new right) (found.path-free s r m inv a (omega arith) long) (frames r m) gs tables-are (λ y q. refl)
-        (entry-thin c (frames r m) (new right) (let i = new-here t right e in omega (arith, i .0, i .1 .1, found.few s r m inv)))
-        (entry-set) (found.rules s r m inv .sizes .shadows)))
-      where
-        entry-set : present (entryOf c (frames r m) (new right)) ≡ true
-        entry-set = entry-present (frames r m (onto [] path)) (ltb (length path) (c .levels)) right
-
-    memory-stands : Stands c mach ht (placed .memory)
-    memory-stands = stands c mach (r .pools .host) (placed .memory) (maps-beside c (placed .beside) (inv .maps)) (shadow-drop c (placed .beside) ∙ inv .area)
-
-    filled-next : Inv (after right) (withHeld r (record { pool = placed .pool; frame = r .guest .held })) (placed .memory)
-    unfolding headHeld headTables
-    filled-next = invariant (after right) (withHeld r (record { pool = placed .pool; frame = r .guest .held })) (placed .memory)
-        (subst (Fits (withHeld r (record { pool = placed .pool; frame = r .guest .held }))) (sym (placed .beside .len)) (fits-held (found.rules s r m inv) (record { pool = placed .pool; frame = r .guest .held }) (holds-pool (placed .holds)) (found.rules s r m inv .held)))
-        (inv .sorted) (inv .root) (maps-beside c (placed .beside) (inv .maps)) (shadow-drop c (placed .beside) ∙ inv .area)
-        (fill-book right (omega arith)) (fill-all (Valid c mach) c (new right) (s .book .held) (new-valid t right e) (inv .valid)) (inv .marks)
-        (shadow-on (fill c (new right) (s .book .held)) mach mach ht ht m (placed .memory) (found.memory-stands s r m inv) memory-stands (found.root-small s r m inv) (found.root-small s r m inv) (found.few s r m inv)
-        (all-map (Valid c mach) (Stays c mach mach) (fill c (new right) (s .book .held)) (stays-same c mach) (fill-all (Valid c mach) c (new right) (s .book .held) (new-valid t right e) (inv .valid)))
-        (subst (λ x. Holds (shadowArea c) false (placed .pool) (placed .memory) (leafAt (entryOf c (framesAt c ht m x)) (longer (fill c (new right) (s .book .held)))) (framesAt c ht m x)) (inv .root) (placed .holds)))
-        (inv .top ∙ ap (topBy (frames r m [])) (none-empty (s .book .held) others-long)
-        ∙ sym (ap (topBy (framesAt c ht (placed .memory) (mach .root) [])) (none-empty (fill c (new right) (s .book .held)) (fill-all (λ (h : Held). 0 < length (h .path)) c (new right) (s .book .held) long others-long))))
-
-    filled-path : serves st deep (find path (s .book .held)) ≡ false
-        → Translates s r m st a (request c mach (s .book) st a deep) (filledOf c ht m hold gs st a deep t right)
-    unfolding filledOf
-    filled-path sv =
-        let l : deep ≤ c .levels = omega arith in
-        let f : After Went = fillOf c gs (r .pools .shadow) m path (entryFor t (ltb 0 deep) right) in
-        let way : fillBy c ht hold st a deep t right f (f .result .way) ≡ yields (servedOf c ht (placed .memory) (record { pool = placed .pool; frame = r .guest .held }) st a deep t right 1) (placed .memory) =
-        ap (λ (x : After Went). fillBy c ht hold st a deep t right x (x .result .way)) (placed .done) in
-        subst (λ k. Translates s r m st a k (cond (leb (c .levels) deep) (yields (servedOf c ht m (holdingAt (r .pools .shadow) t) st a deep t right 1) m) (fillBy c ht hold st a deep t right f (f .result .way)))) (sym (filled-count t right l sv e))
-        (record {
-          held = record { pool = placed .pool; frame = r .guest .held };
-          memory = placed .memory;
-          done = ap (λ b. cond b (yields (servedOf c ht m (holdingAt (r .pools .shadow) t) st a deep t right 1) m) (fillBy c ht hold st a deep t right f (f .result .way))) (lt-leb (c .levels) deep low)
-              ∙ way ∙ ap (λ x. yields x (placed .memory)) (served-is (placed .memory) memory-stands t right (record { pool = placed .pool; frame = r .guest .held }) 1 l (new-here t right e .1) e);
-          next = filled-next;
-        })
-
-  -- the path of no index stands in the record
-  module _ (t : ℕ) (right : Bool) (low : deep ≤ c .levels) (high : c .levels ≤ deep) (e : part .result ≡ granted (t, right)) (unheld : find path (s .book .held) ≡ none) where
-    empty : path ≡ []
-    empty = found.path-empty s r m inv a low high
-
-    no-held : s .book .held ≡ []
-    no-held = none-held (s .book .held) (all-map _ _ (s .book .held) (λ h k. sym (k (begins-nil path (h .path) empty)) ∙ empty) (apart-all low .1)) (ap (λ p. find p (s .book .held)) (sym empty) ∙ unheld)
-
-    only : fill c (new right) (s .book .held) ≡ new right ∷ []
-    only = ap (fill c (new right)) no-held ∙ go (leb (shadowTables (new right ∷ [])) (c .shadows))
-      where
-        go : (b : Bool) → cond b (new right ∷ []) (new right ∷ []) ≡ new right ∷ []
-        go true = refl
-        go false = refl
-
-    not-longer : longer (fill c (new right) (s .book .held)) ≡ longer (s .book .held)
-    not-longer = ap longer only ∙ ap (λ p. cond (ltb 0 (length p)) (new right ∷ []) []) empty ∙ sym (ap longer no-held)
-
-    found-top : find [] (fill c (new right) (s .book .held)) ≡ some (new right)
-    found-top = ap (find []) only ∙ ap (λ p. cond (same [] p) (some (new right)) none) empty
-
-    here : frames r m [] ≡ t
-    unfolding onto
-    here = ap (λ p. frames r m (onto [] p)) (sym empty) ∙ new-here t right e .0
-
-    top-next : Inv (after right) (withHeld r (holdingAt (r .pools .shadow) t)) m
-    unfolding headHeld headTables
-    top-next = record {
-      fits = fits-true (withHeld r (holdingAt (r .pools .shadow) t)) (length m) (fits-held (found.rules s r m inv) (holdingAt (r .pools .shadow) t) (found.rules s r m inv .shadow) (inr (new-here t right e .1)));
-      sorted = inv .sorted;
-      root = inv .root;
-      maps = inv .maps;
-      area = inv .area;
-      book = fill-book right low;
-      valid = fill-all (Valid c mach) c (new right) (s .book .held) (new-valid t right e) (inv .valid);
-      marks = inv .marks;
-      shadow = subst (λ l. Holds (shadowArea c) false (r .pools .shadow) m (leafAt (entryOf c (frames r m)) l) (frames r m)) (sym not-longer) (inv .shadow);
-      top = sym here ∙ sym (ap (topBy (frames r m [])) found-top);
-    }
-
-    top-path : serves st deep (find path (s .book .held)) ≡ false
-        → Translates s r m st a (request c mach (s .book) st a deep) (filledOf c ht m hold gs st a deep t right)
-    unfolding filledOf
-    top-path sv =
-        let f : After Went = fillOf c gs (r .pools .shadow) m path (entryFor t (ltb 0 deep) right) in
-        subst (λ k. Translates s r m st a k (cond (leb (c .levels) deep) (yields (servedOf c ht m (holdingAt (r .pools .shadow) t) st a deep t right 1) m) (fillBy c ht hold st a deep t right f (f .result .way)))) (sym (filled-count t right low sv e))
-        (record {
-          held = holdingAt (r .pools .shadow) t;
+    fault-path : (x : Fault) → part .result ≡ failed x → Translates s r m st a price missed
+    unfolding plain
+    fault-path x e =
+        let f = shadow-fault w c st deep (mach .root) (addressIndexes c a) x (indexes-length (c .levels) (pageOf a)) low (ap (λ (y : Trace Fault Place). y .result) part-upper ∙ e) in
+        let v = verdict-fault x (f .0) in
+        subst (λ k. Translates s r m st a k missed) (sym (missed-fault c mach (s .book) st a deep low missing x (ap (λ (y : Trace Fault Place). y .result) part-upper ∙ e))) (record {
+          held = hold;
           memory = m;
-          done = ap (λ b. cond b (yields (servedOf c ht m (holdingAt (r .pools .shadow) t) st a deep t right 1) m) (fillBy c ht hold st a deep t right f (f .result .way))) (le-leb (c .levels) deep high)
-              ∙ ap (λ x. yields x m) (served-is m (found.memory-stands s r m inv) t right (holdingAt (r .pools .shadow) t) 1 low (new-here t right e .1) e);
-          next = top-next;
+          right = false;
+          sets = false;
+          done = missed-is (walked.Faulted x (part .count)) (ap (λ y. plainWalked y (part .count)) e)
+              ∙ ap₂ (λ y n. yields (translation hold 1 (cameTo false y n) false) m) (sym v) (ap (λ (y : Trace Fault Place). y .count) (sym part-upper) ∙ sym (f .1));
+          next = same-inv;
+          own = λ z g. refused-own x v g;
+          chosen = no;
         })
+
+    -- ---- past its shadow part
+    module _ (t : ℕ) (wide : Bool) (shadow-comes : part .result ≡ granted (t, wide)) where
+      onward-here : InGuestArea c t
+      onward-here = fills.new-here s r m inv st a t wide low shadow-comes .1
+
+      upper-comes : (trace w (walk c st (mach .root) (upper c deep (addressIndexes c a)))) .result ≡ granted (t, wide)
+      upper-comes = ap (λ (y : Trace Fault Place). y .result) part-upper ∙ shadow-comes
+
+      abbrev onward : Trace Fault Place
+      onward = rest t wide low onward-here
+
+      parts : (all .result ≡ onward .result) × (all .count ≡ part .count + onward .count)
+      unfolding plain
+      parts =
+          let d = direct-result w c st deep (mach .root) (addressIndexes c a) (t, wide) (indexes-length (c .levels) (pageOf a)) low upper-comes in
+          (d .0, d .1 ∙ ap (λ (y : Trace Fault Place). y .count + onward .count) part-upper)
+
+      abbrev onward-refs : ℕ
+      onward-refs = (c .levels - deep) + onward .count
+
+      abbrev filled : State
+      filled = fills.after s r m inv st a t wide low shadow-comes
+
+      -- the book's price, by whether the request is granted where bits are on
+      missed-priced : (quits : Bool) (x : Result Fault Place) → c .bits && not (isGranted (verdict c mach st a)) ≡ quits → onward .result ≡ x
+          → price ≡ record { references = cond quits (all .count) onward-refs; exits = 1 + lateExit deep owing x; book = cond quits (s .book) (filled .book) }
+      missed-priced quits x q e =
+          missed-request c mach (s .book) st a deep low missing (t, wide) upper-comes
+          ∙ ap₂ (λ b y. record {
+            references = cond b (all .count) onward-refs;
+            exits = 1 + lateExit deep owing y;
+            book = cond b (s .book) (holding (s .book) (fill c (heldBy (upper c deep (addressIndexes c a)) (trace w (walk c st (mach .root) (upper c deep (addressIndexes c a))))
+                (rightOf c w st deep (trace w (walk c st (mach .root) (upper c deep (addressIndexes c a)))) wide)) (others c (upper c deep (addressIndexes c a)) (s .book .held))));
+          }) q (parts .0 ∙ e)
+          ∙ ap (λ p. record {
+            references = cond quits (all .count) onward-refs;
+            exits = 1 + lateExit deep owing x;
+            book = cond quits (s .book) (holding (s .book) (fill c (heldBy p (trace w (walk c st (mach .root) p)) (rightOf c w st deep (trace w (walk c st (mach .root) p)) wide)) (others c p (s .book .held))));
+          }) (path-upper c deep a low)
+
+      onward-came : (x : Result Fault Place) → onward .result ≡ x → directOf c ht m st a deep t wide ≡ cameTo (rightIn x) x onward-refs
+      onward-came x e = direct-is t wide low onward-here ∙ ap (λ y. cameTo (rightIn y) y onward-refs) e
+
+      missed-at : missed ≡ arrivedOf c ht m hold rt (fills.gs s r m inv st a) st a deep (part .count) t wide
+      missed-at = missed-is (walked.Arrived (page t) wide (part .count)) (ap (λ y. plainWalked y (part .count)) shadow-comes)
+
+      -- a fill that says x
+      by-fill : (e : ℕ) (y : Result Fault Place) (sets : Bool) → verdict c mach st a ≡ y → 1 + lateExit deep owing (onward .result) ≡ e
+          → c .bits && not (isGranted (verdict c mach st a)) ≡ false
+          → missed ≡ filledOf c m hold (fills.gs s r m inv st a) a deep t (fills.right s r m inv st a t wide low shadow-comes) e (cameTo (rightIn y) y onward-refs) sets
+          → (sets ≡ false → isGranted (verdict c mach st a) ≡ true → bitsSet c st mach all ≡ mach) → (sets ≡ true → c .bits ≡ true) → Translates s r m st a price missed
+      by-fill e y sets v l q k own chosen =
+          let f = fills.fills s r m inv st a t wide low shadow-comes unserved e (cameTo (rightIn y) y onward-refs) sets in
+          subst (λ z. Translates s r m st a z missed) (sym (missed-priced false (onward .result) q refl)) (record {
+            held = f .held;
+            memory = f .memory;
+            right = rightIn y;
+            sets = sets;
+            done = k ∙ f .done ∙ ap₂ (λ i z. yields (translation (f .held) i (cameTo (rightIn y) z onward-refs) sets) (f .memory)) (sym l) (sym v);
+            next = f .next;
+            own = own;
+            chosen = chosen;
+          })
+
+      -- a request that is stopped, with bits on
+      by-stop : (e : ℕ) (x : Fault) → verdict c mach st a ≡ failed x → 1 + lateExit deep owing (onward .result) ≡ 1 + e → c .bits ≡ true
+          → missed ≡ yields (translation hold (1 + e) (walked.Faulted x (plainly c deep (part .count) onward-refs)) false) m → Translates s r m st a price missed
+      by-stop e x v l on k =
+          let q : c .bits && not (isGranted (verdict c mach st a)) ≡ true = ap₂ (λ b y. b && not (isGranted {A = Place} y)) on v in
+          let n : plainly c deep (part .count) onward-refs ≡ all .count = omega (arith, parts .1) in
+          subst (λ z. Translates s r m st a z missed) (sym (missed-priced true (onward .result) q refl)) (record {
+            held = hold;
+            memory = m;
+            right = false;
+            sets = false;
+            done = k ∙ ap₂ (λ i j. yields (translation hold i (walked.Faulted x j) false) m) (sym l) n ∙ ap (λ y. yields (translation hold (1 + lateExit deep owing (onward .result)) (cameTo false y (all .count)) false) m) (sym v);
+            next = same-inv;
+            own = λ z g. refused-own x v g;
+            chosen = no;
+          })
+
+      missed-off : c .bits ≡ false → Translates s r m st a price missed
+      missed-off off =
+          let x = onward .result in
+          let o : owing ≡ none = off-owes c w st all off in
+          let v : verdict c mach st a ≡ x = off-verdict c mach st a off ∙ parts .0 in
+          by-fill (1 + hostExit x) x false v (ap (λ y. 1 + y) (late x o)) (ap (λ b. b && not (isGranted (verdict c mach st a))) off)
+          (missed-at ∙ arrived-off c ht m hold rt st a deep t wide (fills.gs s r m inv st a) (part .count) off
+          ∙ ap (laxOf c m hold (fills.gs s r m inv st a) a deep t wide) (onward-came x refl)
+          ∙ lax-broken c m hold (fills.gs s r m inv st a) a deep t wide (cameTo (rightIn x) x onward-refs) false (not-broken (rightIn x) x onward-refs)
+          ∙ ap₂ (λ b i. filledOf c m hold (fills.gs s r m inv st a) a deep t b (1 + i) (cameTo (rightIn x) x onward-refs) false) (sym (fills.right-is s r m inv st a t wide low shadow-comes off)) (came-exit (rightIn x) x onward-refs))
+          (λ z g. off-bits c st mach all off) no
+        where
+          late : (y : Result Fault Place) → owing ≡ none → lateExit deep owing y ≡ hostExit y
+          late (failed z) o = refl
+          late (granted z) o = ap (λ u. lateExit deep u (granted z)) o
+
+      strict-at : c .bits ≡ true → (x : Result Fault Place) → onward .result ≡ x
+          → missed ≡ strictBy c m hold (fills.gs s r m inv st a) st a deep (part .count) t wide (checkedOf c ht m rt st a deep) (cameTo (rightIn x) x onward-refs)
+      strict-at on x e =
+          missed-at ∙ arrived-on c ht m hold rt st a deep t wide (fills.gs s r m inv st a) (part .count) on
+          ∙ ap (strictBy c m hold (fills.gs s r m inv st a) st a deep (part .count) t wide (checkedOf c ht m rt st a deep)) (onward-came x e)
+
+      missed-on : c .bits ≡ true → (x : Result Fault Place) → onward .result ≡ x → Translates s r m st a price missed
+      missed-on on (failed x) e =
+          by-stop (exitBy (walked.Faulted x onward-refs)) x (verdict-fault x (parts .0 ∙ e)) (ap (λ y. 1 + lateExit deep owing y) e ∙ ap (λ i. 1 + i) (sym (exit-is (failed x) onward-refs))) on
+          (strict-at on (failed x) e)
+      missed-on on (granted q) e = by owing refl
+        where
+          grant : (o : Option (ℕ × ℕ)) → owing ≡ o
+              → missed ≡ grantBy c m hold (fills.gs s r m inv st a) st a deep (part .count) t wide (walked.Arrived (page (q .0)) (q .1) onward-refs) onward-refs (owingBy deep (lacks w st (all .reads)) o)
+          grant o z =
+              strict-at on (granted q) e
+              ∙ ap (grantBy c m hold (fills.gs s r m inv st a) st a deep (part .count) t wide (walked.Arrived (page (q .0)) (q .1) onward-refs) onward-refs)
+              (checked-is q (parts .0 ∙ e) ∙ ap (owingBy deep (lacks w st (all .reads))) (owes-on on ∙ z))
+
+          by : (o : Option (ℕ × ℕ)) → owing ≡ o → Translates s r m st a price missed
+          by none z =
+              let v = verdict-is none (granted q) z (parts .0 ∙ e) in
+              by-fill 1 (granted q) (lacks w st (all .reads)) v (ap₂ (λ u y. 1 + lateExit deep u y) z e) (ap₂ (λ b y. b && not (isGranted {A = Place} y)) on v)
+              (grant none z ∙ ap (λ b. filledOf c m hold (fills.gs s r m inv st a) a deep t b 1 (walked.Arrived (page (q .0)) (q .1) onward-refs) (lacks w st (all .reads))) (fills.passes-is s r m inv st a t wide low shadow-comes on))
+              (λ y g. own-whole y) (λ y. on)
+          by (some o) z =
+              by-stop (one (leb (o .0) deep)) (HostReadOnly (o .1)) (verdict-is (some o) (granted q) z (parts .0 ∙ e)) (ap₂ (λ u y. 1 + lateExit deep u y) z e) on (grant (some o) z)
+
+      pub past : Translates s r m st a price missed
+      past = go (c .bits) refl
+        where
+          go : (b : Bool) → c .bits ≡ b → Translates s r m st a price missed
+          go false off = missed-off off
+          go true on = missed-on on (onward .result) refl
+
+    pub missed-path : Translates s r m st a price missed
+    missed-path = go (part .result) refl
+      where
+        go : (x : Result Fault Place) → part .result ≡ x → Translates s r m st a price missed
+        go (failed x) e = fault-path x e
+        go (granted p) e = past (p .0) (p .1) e
 
   -- ---- the whole translation
 
-  -- a granted shadow part is filled
-  missed-granted : (t : ℕ) (right : Bool) → deep ≤ c .levels → part .result ≡ granted (t, right)
-      → missedOf c ht m hold (r .guest .root .0) st a deep ≡ filledOf c ht m hold gs st a deep t right
-  unfolding missedOf trailFrom
-  missed-granted t right low e = ap (missedBy c ht m hold st a deep gs) (walked-is low ∙ ap (λ y. plainWalked y (part .count)) e)
-
-  -- a path that does not serve
-  missed-path : deep ≤ c .levels → serves st deep (find path (s .book .held)) ≡ false
-      → Translates s r m st a (request c mach (s .book) st a deep) (missedOf c ht m hold (r .guest .root .0) st a deep)
-  missed-path low sv = go (part .result) refl
-    where
-      -- at depth N only a path that is not held does not serve
-      none-at : (d : ℕ) (o : Option Held) → 0 < d → serves st d o ≡ false → o ≡ none
-      none-at zero o l q = absurd (omega arith)
-      none-at (suc d) none l q = refl
-      none-at (suc d) (some h) l q = let z : _≡_ {A = ℕ} 0 1 = cc in absurd (omega arith)
-
-      filled : (t : ℕ) (right : Bool) → part .result ≡ granted (t, right) → (b : Bool) → ltb deep (c .levels) ≡ b
-          → Translates s r m st a (request c mach (s .book) st a deep) (filledOf c ht m hold gs st a deep t right)
-      filled t right e true q = filled-path t right (ltb-true deep (c .levels) q) e sv
-      filled t right e false q =
-          let high = ltb-false deep (c .levels) q in
-          top-path t right low high e (none-at deep (find path (s .book .held)) (omega arith) sv) sv
-
-      go : (x : Result Fault Place) → part .result ≡ x → Translates s r m st a (request c mach (s .book) st a deep) (missedOf c ht m hold (r .guest .root .0) st a deep)
-      go (failed x) e = fault-path x low sv e
-      go (granted p) e =
-          subst (Translates s r m st a (request c mach (s .book) st a deep))
-          (sym (missed-granted (p .0) (p .1) low e)) (filled (p .0) (p .1) e (ltb deep (c .levels)) refl)
-
   -- a path within the depth of the tables
-  path-translates : deep ≤ c .levels
-      → Translates s r m st a (request c mach (s .book) st a deep) (foundBy c ht m hold (r .guest .root .0) st a deep (foundOf c m hold a deep))
+  path-translates : deep ≤ c .levels → Translates s r m st a price (foundBy c ht m hold rt st a deep (foundOf c m hold a deep))
   path-translates low = go (find path (s .book .held)) refl
     where
-      go : (o : Option Held) → find path (s .book .held) ≡ o
-          → Translates s r m st a (request c mach (s .book) st a deep) (foundBy c ht m hold (r .guest .root .0) st a deep (foundOf c m hold a deep))
+      go : (o : Option Held) → find path (s .book .held) ≡ o → Translates s r m st a price (foundBy c ht m hold rt st a deep (foundOf c m hold a deep))
       go none e =
-          subst (λ x. Translates s r m st a (request c mach (s .book) st a deep) (foundBy c ht m hold (r .guest .root .0) st a deep x)) (sym (found.found-none s r m inv a low e))
-          (missed-path low (ap (serves st deep) e))
+          subst (λ x. Translates s r m st a price (foundBy c ht m hold rt st a deep x)) (sym (found.found-none s r m inv a low e)) (missed-path low (ap (serves st deep) e))
       go (some h) e =
-          subst (λ x. Translates s r m st a (request c mach (s .book) st a deep) (foundBy c ht m hold (r .guest .root .0) st a deep x)) (sym (found.found-some s r m inv a low h e))
-          (by (servesOf st deep (h .right)) refl)
+          subst (λ x. Translates s r m st a price (foundBy c ht m hold rt st a deep x)) (sym (found.found-some s r m inv a low h e)) (by (servesOf st deep (h .right)) refl)
         where
           by : (b : Bool) → servesOf st deep (h .right) ≡ b
-              → Translates s r m st a (request c mach (s .book) st a deep)
-              (cond (servesOf st deep (h .right)) (yields (servedOf c ht m hold st a deep (frames r m (onto [] path)) (h .right) 0) m) (missedOf c ht m hold (r .guest .root .0) st a deep))
-          by true q = subst (λ b. Translates s r m st a (request c mach (s .book) st a deep)
-              (cond b (yields (servedOf c ht m hold st a deep (frames r m (onto [] path)) (h .right) 0) m) (missedOf c ht m hold (r .guest .root .0) st a deep))) (sym q) (served-path h low e q)
-          by false q = subst (λ b. Translates s r m st a (request c mach (s .book) st a deep)
-              (cond b (yields (servedOf c ht m hold st a deep (frames r m (onto [] path)) (h .right) 0) m) (missedOf c ht m hold (r .guest .root .0) st a deep))) (sym q)
+              → Translates s r m st a price (cond (servesOf st deep (h .right)) (yields (throughOf c ht m hold rt st a deep (frames r m (onto [] path)) (h .right)) m) (missedOf c ht m hold rt st a deep))
+          by true q = subst (λ b. Translates s r m st a price (cond b (yields (throughOf c ht m hold rt st a deep (frames r m (onto [] path)) (h .right)) m) (missedOf c ht m hold rt st a deep))) (sym q) (served-path h low e q)
+          by false q = subst (λ b. Translates s r m st a price (cond b (yields (throughOf c ht m hold rt st a deep (frames r m (onto [] path)) (h .right)) m) (missedOf c ht m hold rt st a deep))) (sym q)
               (missed-path low (ap (serves st deep) e ∙ serves-is deep h ∙ q))
 
   -- at depth N + 1 the whole plain walk; what is held stays as it is
-  plain-translates : c .levels < deep → Translates s r m st a (request c mach (s .book) st a deep) (yields (plainOf c ht m hold (r .guest .root .0) st a) m)
+  plain-translates : c .levels < deep → Translates s r m st a price (yields (unshadowedOf c ht m hold rt st a deep) m)
   unfolding plainOf request plain
   plain-translates high =
-      let p = trace w (walk c st (mach .root) (addressIndexes c a)) in
-      let q : walkedOf c ht m 0 (walk c st (r .guest .root .0) (addressIndexes c a)) ≡ plainWalked (p .result) (p .count) =
-      ap (λ x. walkedOf c ht m 0 (walk c st x (addressIndexes c a))) (inv .root)
-      ∙ root-walked c mach ht m (found.memory-stands s r m inv) st (mach .root) (addressIndexes c a) (found.root-small s r m inv) (indexes-all (c .levels) (pageOf a)) in
-      let b : leb deep (c .levels) ≡ false = is-false (leb deep (c .levels)) (λ z. let k = leb→le deep (c .levels) z in omega arith) in
-      let is = addressIndexes c a in
-      subst (λ k. Translates s r m st a k (yields (plainOf c ht m hold (r .guest .root .0) st a) m))
-      (sym (ap (λ t. cond t (shadowed c mach (s .book) st deep is (upper c deep is) (serves st deep (find (upper c deep is) (s .book .held)))
-      (trace w (walk c st (mach .root) (upper c deep is))) ((trace w (walk c st (mach .root) (upper c deep is))) .result)) (unshadowed (s .book) p)) b))
-      (record {
+      subst (λ k. Translates s r m st a k (yields (unshadowedOf c ht m hold rt st a deep) m))
+      (sym (ap (λ b. cond b (shadowed c w (s .book) st deep (addressIndexes c a) (upper c deep (addressIndexes c a)) (serves st deep (find (upper c deep (addressIndexes c a)) (s .book .held))) owing
+      (trace w (walk c st (mach .root) (upper c deep (addressIndexes c a)))) ((trace w (walk c st (mach .root) (upper c deep (addressIndexes c a)))) .result)) (unshadowed (s .book) (all .count) (verdict c mach st a))) (lt-leb deep (c .levels) high)))
+      (go (c .bits) refl)
+    where
+      all-walked : walkedOf c ht m 0 (whole c st rt a) ≡ plainWalked (all .result) (all .count)
+      all-walked =
+          ap (λ x. walkedOf c ht m 0 (whole c st x a)) (inv .root)
+          ∙ whole-walked c mach ht m (found.memory-stands s r m inv) (found.root-small s r m inv) st a
+
+      says : (ρ sets : Bool) (x : Result Fault Place) (e : ℕ) → verdict c mach st a ≡ x → hostExit x ≡ e → unshadowedOf c ht m hold rt st a deep ≡ translation hold e (cameTo ρ x (all .count)) sets
+          → (sets ≡ false → isGranted (verdict c mach st a) ≡ true → bitsSet c st mach all ≡ mach) → (sets ≡ true → c .bits ≡ true)
+          → Translates s r m st a (unshadowed (s .book) (all .count) (verdict c mach st a)) (yields (unshadowedOf c ht m hold rt st a deep) m)
+      says ρ sets x e v k q own chosen = record {
         held = hold;
         memory = m;
-        done = ap (λ x. yields (translation hold (exitBy x) x) m) q
-            ∙ ap (λ x. yields (translation hold x (plainWalked (p .result) (p .count))) m) (exit-is (p .result) (p .count));
+        right = ρ;
+        sets = sets;
+        done = ap (λ y. yields y m) (q ∙ ap₂ (λ i y. translation hold i (cameTo ρ y (all .count)) sets) (sym k ∙ ap (λ (y : Result Fault Place). hostExit y) (sym v)) (sym v));
         next = same-inv;
-      })
+        own = own;
+        chosen = chosen;
+      }
+
+      off-walk : c .bits ≡ false → Translates s r m st a (unshadowed (s .book) (all .count) (verdict c mach st a)) (yields (unshadowedOf c ht m hold rt st a deep) m)
+      off-walk off =
+          let x = all .result in
+          let y = all-walked ∙ came-is x (all .count) in
+          says (rightIn x) false x (hostExit x) (off-verdict c mach st a off) refl
+          (unshadowed-off c ht m hold rt st a deep off ∙ ap (λ z. translation hold (exitBy z) z false) y
+          ∙ ap (λ i. translation hold i (cameTo (rightIn x) x (all .count)) false) (came-exit (rightIn x) x (all .count)))
+          (λ z g. off-bits c st mach all off) no
+
+      on-walk : c .bits ≡ true → (x : Result Fault Place) → all .result ≡ x → Translates s r m st a (unshadowed (s .book) (all .count) (verdict c mach st a)) (yields (unshadowedOf c ht m hold rt st a deep) m)
+      on-walk on (failed x) e =
+          says false false (failed x) (hostExit {A = Place} (failed x)) (verdict-fault x e) refl
+          (unshadowed-on c ht m hold rt st a deep (walked.Faulted x (all .count)) on (all-walked ∙ ap (λ y. plainWalked y (all .count)) e)
+          ∙ ap (λ i. translation hold i (walked.Faulted x (all .count)) false) (exit-is (failed x) (all .count)))
+          (λ z g. refused-own x (verdict-fault x e) g) no
+      on-walk on (granted q) e = by owing refl
+        where
+          judge : (o : Option (ℕ × ℕ)) → owing ≡ o
+              → unshadowedOf c ht m hold rt st a deep ≡ settledBy hold (all .count) (walked.Arrived (page (q .0)) (q .1) (all .count)) (owingBy deep (lacks w st (all .reads)) o)
+          judge o z =
+              unshadowed-on c ht m hold rt st a deep (walked.Arrived (page (q .0)) (q .1) (all .count)) on (all-walked ∙ ap (λ y. plainWalked y (all .count)) e)
+              ∙ ap (settledBy hold (all .count) (walked.Arrived (page (q .0)) (q .1) (all .count))) (checked-is q e ∙ ap (owingBy deep (lacks w st (all .reads))) (owes-on on ∙ z))
+
+          by : (o : Option (ℕ × ℕ)) → owing ≡ o → Translates s r m st a (unshadowed (s .book) (all .count) (verdict c mach st a)) (yields (unshadowedOf c ht m hold rt st a deep) m)
+          by none z = says (q .1) (lacks w st (all .reads)) (granted q) 0 (verdict-is none (granted q) z e) refl (judge none z) (λ y g. own-whole y) (λ y. on)
+          by (some o) z =
+              let v = verdict-is (some o) (granted q) z e in
+              let reads-all : length (all .reads) ≡ c .levels = sym (reads-long (all .reads)) ∙ ap length (walk-read w c st (mach .root) (addressIndexes c a) q e .indexed) ∙ indexes-length (c .levels) (pageOf a) in
+              let level : o .0 ≤ length (all .reads) = served.owed-level w st (all .reads) (all .uses) o (owes-on on ∙ z) in
+              says false false (failed (HostReadOnly (o .1))) 1 v refl
+              (judge (some o) z ∙ ap (λ b. translation hold (one b) (walked.Faulted (HostReadOnly (o .1)) (all .count)) false)
+              (le-leb (o .0) deep (omega (arith, level, reads-all, high))))
+              (λ y g. refused-own (HostReadOnly (o .1)) v g) no
+
+      go : (b : Bool) → c .bits ≡ b → Translates s r m st a (unshadowed (s .book) (all .count) (verdict c mach st a)) (yields (unshadowedOf c ht m hold rt st a deep) m)
+      go false off = off-walk off
+      go true on = on-walk on (all .result) refl
 
   -- the translation of any address
-  pub translates : Translates s r m st a (request c mach (s .book) st a deep) (translatedOf r m st a)
+  pub translates : Translates s r m st a price (translatedOf r m st a)
   unfolding translatedOf translateOf
   translates =
       let d : depthAt r a ≡ deep = depth-book c (r .guest .marks) (s .book) (omega (arith, found.rules s r m inv .sizes .deep)) (inv .sorted) (inv .marks) a in
-      subst (λ x. Translates s r m st a (request c mach (s .book) st a deep) (translateOf c ht m hold (r .guest .root .0) st a x)) (sym d) (go (ltb (c .levels) deep) refl)
+      subst (λ x. Translates s r m st a price (translateOf c ht m hold rt st a x)) (sym d) (go (ltb (c .levels) deep) refl)
     where
       go : (b : Bool) → ltb (c .levels) deep ≡ b
-          → Translates s r m st a (request c mach (s .book) st a deep)
-          (cond (ltb (c .levels) deep) (yields (plainOf c ht m hold (r .guest .root .0) st a) m) (foundBy c ht m hold (r .guest .root .0) st a deep (foundOf c m hold a deep)))
+          → Translates s r m st a price (cond (ltb (c .levels) deep) (yields (unshadowedOf c ht m hold rt st a deep) m) (foundBy c ht m hold rt st a deep (foundOf c m hold a deep)))
       go true q = rw q (plain-translates (ltb-true (c .levels) deep q))
       go false q = rw q (path-translates (ltb-false (c .levels) deep q))

@@ -1,28 +1,35 @@
 -- A walk over memory, and a translation through a held path or at depth N + 1, depend on the words that they read and on no
--- other, and count them; for any memory.
+-- other, and count them; so do the bits that such a request sets. For any memory.
 -- Assumes nothing.
-use mathlib.Core.Path.{_≡_, refl, sym, ap, _∙_, subst}
-use Prim.Native.Nat.{ℕ, suc, pred, _+_, _-_, _%_, _<_, _≤_}
+use mathlib.Core.Path.{_≡_, refl, sym, ap, ap₂, _∙_, subst}
+use mathlib.Core.Logic.{inl, inr}
+use Prim.Native.Nat.{ℕ, suc, pred, _+_, _-_, _*_, _%_, _<_, _≤_}
 use native.Mathlib.Nat.{zero-add}
 use native.Mathlib.Omega.{arith}
 use mathlib.Core.Bool.{Bool, true, false, not, _&&_, _||_, cond}
 use mathlib.Core.List.{List, [], _∷_, _++_}
 use mathlib.Core.Option.{Option, none, some}
 use lib.Dec.{eqb, leb, ltb, leb→le, le→leb}
-use borrow.Author.Tests.{le-ltb, lt-ltb, ltb-false}
-use lib.ListN.{length}
+use borrow.Author.Tests.{eqb-true, eqb-false, le-ltb, lt-ltb, ltb-true, ltb-false}
+use lib.ListN.{length, getD, set, length-set}
+use lib.Seq.{getD-set-same, getD-set-other, set-out}
 use Rattle.spec.specs.declared.Fault.{Fault}
 use Rattle.spec.specs.declared.Fault.the-variants.{Absent, Malformed, Protected, HostAbsent, HostReadOnly}
 use Rattle.spec.specs.Config.{Config}
 use Rattle.spec.specs.Entry.{present, writable, frameOf, malformed, pageOf, indexes, entryLimit}
-use Rattle.spec.specs.Walk.{Walk, done, fail, host, word, _>>=_, World, Trace, trace}
+use Rattle.spec.specs.Walk.{Walk, done, fail, host, word, _>>=_, World, Trace, granted, trace}
 use Rattle.spec.specs.Plain.{Place, must, hosted, entry, next, levels, walk}
+use Rattle.spec.specs.Bits.{isLast, withBits, lacks, owed}
 use Rattle.spec.specs.Refusal.{inGuestArea}
 use Rattle.spec.specs.Prefix.{All}
-use Rattle.spec_laws.proofs.Lists.{all-map, is-true, is-false}
-use Rattle.spec_laws.proofs.Indexes.{indexes-length}
+use Rattle.spec_laws.proofs.Lists.{all-map, all-any, all-left, is-true, is-false}
+use Rattle.spec_laws.proofs.Indexes.{indexes-length, indexes-all}
+use Rattle.spec_laws.proofs.Asks.{AnswerIn, Guest}
+use Rattle.spec_laws.proofs.Local as answers
+use Rattle.spec_laws.proofs.Local.{SameMapping, SameHost, local}
+use Rattle.spec_laws.proofs.SetBits.{lacks-on, owed-on}
 use Rattle.entry.specs.declared.HostPhysical.{HostPhysical}
-use Rattle.words.specs.Words.{wordIn}
+use Rattle.words.specs.Words.{wordIn, setIn}
 use Rattle.pool.specs.declared.Way.{Way}
 use Rattle.pool.specs.declared.Way.the-variants.{To, Not, Damaged}
 use Rattle.area.specs.declared.Look.{Look}
@@ -30,6 +37,8 @@ use Rattle.area.specs.declared.Look.the-variants.{Seen}
 use Rattle.area.specs.declared.Look.the-variants as look
 use Rattle.pool.specs.Header.{entryAtOf}
 use Rattle.pool.specs.Pool.{followOf, onWay}
+use Rattle.pool.specs.Outside.{SameOutside}
+use Rattle.pool.proofs.Laws.{WayGood, follow-good}
 use Rattle.area.specs.Tree.{lookupOf}
 use Rattle.area_laws.proofs.Invariant.{present-zero}
 use Rattle.area.specs.Tree.{entriesRead}
@@ -37,29 +46,38 @@ use Rattle.area_laws.proofs.Local.{SameEntry, look-local, Counts, look-count}
 use Rattle.layout.specs.declared.HostWalk.{HostWalk}
 use Rattle.layout.specs.declared.HostWalk.the-variants as hosts
 use Rattle.layout.specs.Layout.{page, leafOf, namedBy}
+use Rattle.layout.proofs.Laws.{InGuestArea, HostFits}
 use Rattle.host.specs.Walk.{hostWalkOf}
+use Rattle.host.proofs.Laws.{host-fits}
 use Rattle.walk.specs.declared.Walked.{Walked}
 use Rattle.walk.specs.declared.Walked.the-variants as walked
 use Rattle.walk.specs.Memory.{placeOf, readsOf, memoryWorld, absentBy, walkedBy, walkedOf}
 use Rattle.walk.proofs.Laws.{walked-done}
+use Rattle.accessed.specs.Entries.{bitsIn}
+use Rattle.accessed.proofs.Walks.{arrived-granted}
 use Rattle.record.specs.declared.Record.{Record}
 use Rattle.record.specs.Record.{configOf}
 use Rattle.shadow.specs.Held.{heldOf as shadowed}
-use Rattle.translate.specs.Translate.{translation, exitBy, pathIndexes, directOf, servedOf, servesOf, foundOf, foundBy, missedOf, plainOf, translateOf}
-use Rattle.calls.specs.Calls.{hostTop, heldOf, rootOf, depthAt, translatedOf}
-use Rattle.claims.specs.Counted.{Word, SameWords, hostWords, walkWords, pathWords, directWords, countedOf}
-use Rattle.words.specs.After.{After, yields}
+use Rattle.translate.specs.declared.Checked.{Checked}
+use Rattle.translate.specs.declared.Checked.the-variants as checked
+use Rattle.translate.specs.declared.Held.{Held}
 use Rattle.translate.specs.declared.Translated.{Translated}
+use Rattle.translate.specs.Translate.{translation, exitBy, pathIndexes, direct, directOf, servedOf, whole, plainOf, checkedBy, checkedOf, judgedBy, throughOf, unshadowedOf, servesOf, foundOf, missedOf, foundBy, translateOf}
+use Rattle.translate.proofs.Bits.{through-off, through-on, through-end}
+use Rattle.request.specs.Access.{setBy, bitsOf, settledOf}
+use Rattle.calls.specs.Calls.{hostTop, heldOf, rootOf, depthAt, translatedOf}
+use Rattle.claims.specs.Counted.{Word, SameWords, hostWords, walkWords, pathWords, directWords, countedOf, LacksNone, SetsNone}
+use Rattle.words.specs.After.{After, yields}
 
 -- ---- lists of words
-
-all-first : {A : Type 0} (P : A → Type 0) (xs ys : List A) → All P (xs ++ ys) → All P xs
-all-first P [] ys h = tt
-all-first P (x ∷ xs) ys h = (h .0, all-first P xs ys (h .1))
 
 all-rest : {A : Type 0} (P : A → Type 0) (xs ys : List A) → All P (xs ++ ys) → All P ys
 all-rest P [] ys h = h
 all-rest P (x ∷ xs) ys h = all-rest P xs ys (h .1)
+
+all-append : {A : Type 0} (P : A → Type 0) (xs ys : List A) → All P xs → All P ys → All P (xs ++ ys)
+all-append P [] ys h k = k
+all-append P (x ∷ xs) ys h k = (h .0, all-append P xs ys (h .1) k)
 
 length-both : {A : Type 0} (xs ys : List A) → length (xs ++ ys) ≡ length xs + length ys
 length-both [] ys = let z : length ys ≡ 0 + length ys = omega arith in z
@@ -177,7 +195,7 @@ unfolding walkWords
 walk-local c ht m n (done a) j h s = walked-done c ht n j (a .0) (a .1) ∙ sym (walked-done c ht m j (a .0) (a .1))
 walk-local c ht m n (fail x) j h s = walked-fail c ht n j x h ∙ sym (walked-fail c ht m j x h)
 walk-local c ht m n (host g k) j h s =
-    walked-host c ht n j g k (h .0) ∙ ap (onHost c ht n j g k) (host-local c ht m n g (all-first _ (hostWords c ht m g) (walkWords c ht m (k (placeOf (hostWalkOf c ht m g)))) s))
+    walked-host c ht n j g k (h .0) ∙ ap (onHost c ht n j g k) (host-local c ht m n g (all-left _ (hostWords c ht m g) (walkWords c ht m (k (placeOf (hostWalkOf c ht m g)))) s))
     ∙ go (hostWalkOf c ht m g) (all-rest _ (hostWords c ht m g) (walkWords c ht m (k (placeOf (hostWalkOf c ht m g)))) s) (λ r q. walk-local c ht m n (k (some r)) (j + c .levels) (h .1 r) q)
     ∙ sym (walked-host c ht m j g k (h .0))
   where
@@ -190,6 +208,136 @@ walk-local c ht m n (host g k) j h s =
 walk-local c ht m n (word t i k) j h s =
     walked-word c ht n j t i k ∙ ap (λ e. walkedOf c ht n (j + 1) (k e)) (s .0) ∙ walk-local c ht m n (k (wordIn m t i)) (j + 1) (h (wordIn m t i)) (s .1)
     ∙ sym (walked-word c ht m j t i k)
+
+-- so does its trace
+trace-alike : {A : Type 0} (c : Config) (ht : ℕ) (m n : List ℕ) (p : Walk Fault A) → SameWords m n (walkWords c ht m p)
+    → answers.Alike (memoryWorld c ht m) (memoryWorld c ht n) (trace (memoryWorld c ht m) p)
+unfolding walkWords trace memoryWorld
+trace-alike c ht m n (done a) s = record { hosts = tt; words = tt }
+trace-alike c ht m n (fail x) s = record { hosts = tt; words = tt }
+trace-alike c ht m n (host g k) s =
+    let x = host-local c ht m n g (all-left _ (hostWords c ht m g) (walkWords c ht m (k (placeOf (hostWalkOf c ht m g)))) s) in
+    let ih = trace-alike c ht m n (k (placeOf (hostWalkOf c ht m g))) (all-rest _ (hostWords c ht m g) (walkWords c ht m (k (placeOf (hostWalkOf c ht m g)))) s) in
+    record { hosts = ((ap placeOf x, ap (readsOf c) x), ih .hosts); words = ih .words }
+trace-alike c ht m n (word t i k) s =
+    let ih = trace-alike c ht m n (k (wordIn m t i)) (s .1) in
+    record { hosts = ih .hosts; words = (s .0, ih .words) }
+
+-- and what its bits say
+module _ (c : Config) (ht : ℕ) (m n : List ℕ) (p : Walk Fault Place) (s : SameWords m n (walkWords c ht m p)) where
+  abbrev here : World
+  here = memoryWorld c ht m
+
+  abbrev there : World
+  there = memoryWorld c ht n
+
+  trace-local : trace there p ≡ trace here p
+  trace-local = local here there p (trace-alike c ht m n p s)
+
+  lacks-local : (st : Bool) → lacks there st ((trace there p) .reads) ≡ lacks here st ((trace here p) .reads)
+  lacks-local st = ap (λ (x : Trace Fault Place). lacks there st (x .reads)) trace-local ∙ lacks-on here there st ((trace here p) .reads) (trace-alike c ht m n p s .words)
+
+  owed-local : (st : Bool) → owed there st ((trace there p) .reads) ((trace there p) .uses) ≡ owed here st ((trace here p) .reads) ((trace here p) .uses)
+  owed-local st =
+      ap (λ (x : Trace Fault Place). owed there st (x .reads) (x .uses)) trace-local
+      ∙ owed-on here there st ((trace here p) .reads) ((trace here p) .uses) (trace-alike c ht m n p s .words)
+      (all-map (SameHost here there) (SameMapping here there) ((trace here p) .uses) (λ g h. h .0) (trace-alike c ht m n p s .hosts))
+
+-- ---- no word of a shadow table is among them
+
+host-outside : (c : Config) (m n : List ℕ) → SameOutside (c .hosts) (c .shadows) m n → (is : List ℕ) (e : ℕ) → All (λ i. i < 512) is
+    → SameWords m n (entriesRead 0 (c .hosts) m e is)
+unfolding entriesRead
+host-outside c m n o [] e b = tt
+host-outside c m n o (i ∷ is) e b = go (followOf 0 (c .hosts) e) (follow-good 0 (c .hosts) e) (λ f. host-outside c m n o is (entryAtOf m f i) (b .1))
+  where
+    go : (w : Way) → WayGood 0 (c .hosts) w → ((f : ℕ) → SameWords m n (entriesRead 0 (c .hosts) m (entryAtOf m f i) is))
+        → SameWords m n (onWay w [] [] (λ f. (f, i) ∷ entriesRead 0 (c .hosts) m (entryAtOf m f i) is))
+    go (To f) g ih = (o .same (f * 512 + i) (inl (omega (arith, g .1, b .0))), ih f)
+    go Not g ih = tt
+    go Damaged g ih = tt
+
+answer-in : (c : Config) (ht : ℕ) (m : List ℕ) (g : ℕ) → AnswerIn (InGuestArea c) (placeOf (hostWalkOf c ht m g))
+answer-in c ht m g = go (hostWalkOf c ht m g) (host-fits c ht m g)
+  where
+    go : (x : HostWalk) → HostFits c x → AnswerIn (InGuestArea c) (placeOf x)
+    go (hosts.Found p w) h = h
+    go (hosts.Absent n) h = tt
+    go hosts.Damaged h = tt
+
+pub walk-outside : {A : Type 0} (c : Config) (ht : ℕ) (m n : List ℕ) → SameOutside (c .hosts) (c .shadows) m n → (p : Walk Fault A) (R : A → Type 0)
+    → Guest c (InGuestArea c) p R → SameWords m n (walkWords c ht m p)
+unfolding walkWords
+walk-outside c ht m n o (done a) R h = tt
+walk-outside c ht m n o (fail x) R h = tt
+walk-outside c ht m n o (host g k) R h =
+    let x = placeOf (hostWalkOf c ht m g) in
+    all-append _ (hostWords c ht m g) (walkWords c ht m (k x)) (host-outside c m n o (indexes (c .levels) g) ht (indexes-all (c .levels) g))
+    (walk-outside c ht m n o (k x) R (h .1 x (answer-in c ht m g)))
+walk-outside c ht m n o (word t i k) R h =
+    (o .same (t * 512 + i) (inr (omega (arith, h .0 .0 .0))), walk-outside c ht m n o (k (wordIn m t i)) R (h .1 (wordIn m t i)))
+
+-- ---- own bits
+
+set-alike : (m n : List ℕ) (i j v : ℕ) → length n ≡ length m → getD n j 0 ≡ getD m j 0 → getD (set n i v) j 0 ≡ getD (set m i v) j 0
+set-alike m n i j v long e = go (eqb j i) refl (ltb i (length m)) refl
+  where
+    go : (b : Bool) → eqb j i ≡ b → (d : Bool) → ltb i (length m) ≡ d → getD (set n i v) j 0 ≡ getD (set m i v) j 0
+    go true q true f =
+        let l = ltb-true i (length m) f in
+        subst (λ k. getD (set n i v) k 0 ≡ getD (set m i v) k 0) (sym (eqb-true j i q)) (getD-set-same n i v 0 (omega (arith, l, long)) ∙ sym (getD-set-same m i v 0 l))
+    go true q false f =
+        let l = ltb-false i (length m) f in
+        ap (λ x. getD x j 0) (set-out n i v (omega (arith, l, long))) ∙ e ∙ sym (ap (λ x. getD x j 0) (set-out m i v l))
+    go false q d f = getD-set-other n i j v 0 (eqb-false j i q) ∙ e ∙ sym (getD-set-other m i j v 0 (eqb-false j i q))
+
+pub bits-alike : (st : Bool) (xs : List Word) (m n : List ℕ) → length n ≡ length m → SameWords m n xs → (j : ℕ) → getD n j 0 ≡ getD m j 0
+    → getD (bitsIn st n xs) j 0 ≡ getD (bitsIn st m xs) j 0
+bits-alike st [] m n long s j e = e
+bits-alike st (x ∷ xs) m n long s j e =
+    let i = x .0 * 512 + x .1 in
+    let v = withBits (st && isLast xs) (wordIn m (x .0) (x .1)) in
+    ap (λ y. getD (bitsIn st (setIn n (x .0) (x .1) (withBits (st && isLast xs) y)) xs) j 0) (s .0)
+    ∙ bits-alike st xs (set m i v) (set n i v) (length-set n i v ∙ long ∙ sym (length-set m i v))
+    (all-map _ _ xs (λ y q. set-alike m n i (y .0 * 512 + y .1) v long q) (s .1)) j (set-alike m n i j v long e)
+
+bits-long : (st : Bool) (xs : List Word) (m : List ℕ) → length (bitsIn st m xs) ≡ length m
+bits-long st [] m = refl
+bits-long st (x ∷ xs) m =
+    let i = x .0 * 512 + x .1 in
+    let v = withBits (st && isLast xs) (wordIn m (x .0) (x .1)) in
+    bits-long st xs (set m i v) ∙ length-set m i v
+
+module _ (c : Config) (ht root : ℕ) (st : Bool) (a : ℕ) where
+  -- a request that sets its bits sets them in the same entries,
+  pub own-entries : (m n : List ℕ) → SameWords m n (walkWords c ht m (whole c st root a)) → (sets : Bool)
+      → (xs : List Word) × SameWords m n xs × (settledOf c ht root st a sets m ≡ bitsIn st m xs) × (settledOf c ht root st a sets n ≡ bitsIn st n xs)
+  unfolding settledOf bitsOf memoryWorld
+  own-entries m n s false = ([], tt, refl, refl)
+  own-entries m n s true =
+      let p = whole c st root a in
+      let k = go (walkedOf c ht m 0 p) ((trace (memoryWorld c ht m) p) .reads) (trace-alike c ht m n p s .words) in (
+        k .0,
+        k .1,
+        k .2,
+        ap₂ (λ x (t : Trace Fault Place). setBy x (bitsIn st n (t .reads)) n) (walk-local c ht m n p 0 (walk-ends c st root (indexes (c .levels) (pageOf a))) s) (trace-local c ht m n p s) ∙ k .3,
+      )
+    where
+      go : (x : Walked) (xs : List Word) → SameWords m n xs
+          → (ys : List Word) × SameWords m n ys × (setBy x (bitsIn st m xs) m ≡ bitsIn st m ys) × (setBy x (bitsIn st n xs) n ≡ bitsIn st n ys)
+      go (walked.Arrived t w k) xs q = (xs, q, refl, refl)
+      go (walked.Faulted y k) xs q = ([], tt, refl, refl)
+      go walked.Damaged xs q = ([], tt, refl, refl)
+
+  pub own-long : (sets : Bool) (m : List ℕ) → length (settledOf c ht root st a sets m) ≡ length m
+  own-long sets m = let k = own-entries m m (all-any _ (walkWords c ht m (whole c st root a)) (λ x. refl)) sets in ap length (k .2) ∙ bits-long st (k .0) m
+
+  -- so a word that is the same stays the same
+  pub own-alike : (m n : List ℕ) → length n ≡ length m → SameWords m n (walkWords c ht m (whole c st root a)) → (sets : Bool) (j : ℕ) → getD n j 0 ≡ getD m j 0
+      → getD (settledOf c ht root st a sets n) j 0 ≡ getD (settledOf c ht root st a sets m) j 0
+  own-alike m n long s sets j e =
+      let k = own-entries m n s sets in
+      ap (λ l. getD l j 0) (k .3) ∙ bits-alike st (k .0) m n long (k .1) j e ∙ sym (ap (λ l. getD l j 0) (k .2))
 
 -- ---- and it counts them
 
@@ -272,6 +420,23 @@ walk-count c ht m (word t i k) j h =
 
 -- ---- a translation through a held path, or at depth N + 1
 
+-- bits change neither what is held nor the references
+judged-held : (h : Held) (judge : Bool) (k : Checked) (x : Walked) → judgedBy h judge k x .held ≡ h
+judged-held h true (checked.Clear l) (walked.Arrived t w n) = refl
+judged-held h true (checked.Stopped y e) (walked.Arrived t w n) = refl
+judged-held h true checked.Damaged (walked.Arrived t w n) = refl
+judged-held h false k (walked.Arrived t w n) = refl
+judged-held h judge k (walked.Faulted y n) = refl
+judged-held h judge k walked.Damaged = refl
+
+judged-reads : (h : Held) (judge : Bool) (k : Checked) (x : Walked) (j : ℕ) → Reads j x → Reads j (judgedBy h judge k x .walked)
+judged-reads h true (checked.Clear l) (walked.Arrived t w n) j q = q
+judged-reads h true (checked.Stopped y e) (walked.Arrived t w n) j q = q
+judged-reads h true checked.Damaged (walked.Arrived t w n) j q = tt
+judged-reads h false k (walked.Arrived t w n) j q = q
+judged-reads h judge k (walked.Faulted y n) j q = q
+judged-reads h judge k walked.Damaged j q = tt
+
 module _ (r : Record) (st : Bool) (a : ℕ) where
   abbrev pub c : Config
   c = configOf r
@@ -282,15 +447,27 @@ module _ (r : Record) (st : Bool) (a : ℕ) where
   abbrev pub d : ℕ
   d = depthAt r a
 
+  abbrev hold : Held
+  hold = heldOf r
+
+  abbrev rt : ℕ
+  rt = rootOf r
+
   abbrev pub foundIn : List ℕ → HostWalk
   foundIn m = foundOf c m (heldOf r) a d
 
-  -- the direct part from there, and the whole plain walk
-  abbrev direct : ℕ → Bool → Walk Fault Place
-  direct t w = levels c st d t w (indexes d (pageOf a))
+  -- the direct part of memory m from there, the whole plain walk, and the words of both
+  abbrev from : List ℕ → ℕ → Bool → Walked
+  from m t w = directOf c ht m st a d t w
 
-  abbrev whole : Walk Fault Place
-  whole = walk c st (rootOf r) (indexes (c .levels) (pageOf a))
+  abbrev wholly : List ℕ → Walked
+  wholly m = walkedOf c ht m 0 (whole c st rt a)
+
+  abbrev directly : List ℕ → ℕ → Bool → List Word
+  directly m t w = walkWords c ht m (direct c st a d t w)
+
+  abbrev plainly : List ℕ → List Word
+  plainly m = walkWords c ht m (whole c st rt a)
 
   -- served by its held path, or at depth N + 1
   pub data Reaches (m : List ℕ) : Type 0 where
@@ -309,41 +486,32 @@ module _ (r : Record) (st : Bool) (a : ℕ) where
           (same-entries m n (entriesRead (c .hosts) (c .shadows) m (r .pools .shadow .top) (pathIndexes c d a)) q))
       go false q = refl
 
-  -- what it leaves on a memory
-  abbrev pub left : Walked → List ℕ → After Translated
-  left x m = yields (translation (heldOf r) (exitBy x) x) m
-
   held-is : (m : List ℕ) (t : HostPhysical) (w : Bool) → d ≤ c .levels → foundIn m ≡ hosts.Found t w → servesOf st d w ≡ true
-      → translatedOf r m st a ≡ left (walkedOf c ht m (c .levels - d) (direct (t .0) w)) m
-  unfolding translatedOf translateOf servedOf directOf
+      → translatedOf r m st a ≡ yields (throughOf c ht m hold rt st a d (t .0) w) m
+  unfolding translatedOf translateOf
   held-is m t w l f s =
-      ap (λ b. cond b (yields (plainOf c ht m (heldOf r) (rootOf r) st a) m) (foundBy c ht m (heldOf r) (rootOf r) st a d (foundIn m))) (le-ltb (c .levels) d l)
-      ∙ ap (foundBy c ht m (heldOf r) (rootOf r) st a d) f
-      ∙ ap (λ b. cond b (yields (servedOf c ht m (heldOf r) st a d (t .0) w 0) m) (missedOf c ht m (heldOf r) (rootOf r) st a d)) s
-      ∙ ap (λ k. yields (translation (heldOf r) (0 + exitBy (on k)) (on k)) m) (zero-add d)
-      ∙ ap (λ e. yields (translation (heldOf r) e (on d)) m) (zero-add (exitBy (on d)))
-    where
-      on : ℕ → Walked
-      on k = walkedOf c ht m (c .levels - d) (levels c st k (t .0) w (indexes d (pageOf a)))
+      ap (λ b. cond b (yields (unshadowedOf c ht m hold rt st a d) m) (foundBy c ht m hold rt st a d (foundIn m))) (le-ltb (c .levels) d l)
+      ∙ ap (foundBy c ht m hold rt st a d) f
+      ∙ ap (λ b. cond b (yields (throughOf c ht m hold rt st a d (t .0) w) m) (missedOf c ht m hold rt st a d)) s
 
-  plain-is : (m : List ℕ) → c .levels < d → translatedOf r m st a ≡ left (walkedOf c ht m 0 whole) m
-  unfolding translatedOf translateOf plainOf
+  plain-is : (m : List ℕ) → c .levels < d → translatedOf r m st a ≡ yields (unshadowedOf c ht m hold rt st a d) m
+  unfolding translatedOf translateOf
   plain-is m l =
-      ap (λ b. cond b (yields (plainOf c ht m (heldOf r) (rootOf r) st a) m) (foundBy c ht m (heldOf r) (rootOf r) st a d (foundIn m)))
+      ap (λ b. cond b (yields (unshadowedOf c ht m hold rt st a d) m) (foundBy c ht m hold rt st a d (foundIn m)))
       (lt-ltb (c .levels) d l)
 
   -- the words that it counts
   held-counted : (m : List ℕ) (t : HostPhysical) (w : Bool) → d ≤ c .levels → foundIn m ≡ hosts.Found t w
-      → countedOf r m st a ≡ pathWords r m a d ++ walkWords c ht m (direct (t .0) w)
+      → countedOf r m st a ≡ pathWords r m a d ++ directly m (t .0) w
   unfolding countedOf
   held-counted m t w l f =
-      ap (λ b. cond b (pathWords r m a d ++ directWords c ht m st a d (foundIn m)) (walkWords c ht m whole)) (is-true (leb d (c .levels)) (le→leb d (c .levels) l))
+      ap (λ b. cond b (pathWords r m a d ++ directWords c ht m st a d (foundIn m)) (plainly m)) (is-true (leb d (c .levels)) (le→leb d (c .levels) l))
       ∙ ap (λ x. pathWords r m a d ++ directWords c ht m st a d x) f
 
-  plain-counted : (m : List ℕ) → c .levels < d → countedOf r m st a ≡ walkWords c ht m whole
+  plain-counted : (m : List ℕ) → c .levels < d → countedOf r m st a ≡ plainly m
   unfolding countedOf
   plain-counted m l =
-      ap (λ b. cond b (pathWords r m a d ++ directWords c ht m st a d (foundIn m)) (walkWords c ht m whole))
+      ap (λ b. cond b (pathWords r m a d ++ directWords c ht m st a d (foundIn m)) (plainly m))
       (is-false (leb d (c .levels)) (λ z. let k = leb→le d (c .levels) z in omega arith))
 
   -- the shadow entries on the path are N − d words where it is held
@@ -363,33 +531,146 @@ module _ (r : Record) (st : Bool) (a : ℕ) where
       go true q e = subst (LookReads (length (entriesRead (c .hosts) (c .shadows) m at is)) (length is)) e (look-reads c (c .hosts) (c .shadows) m at is) ∙ indexes-length (c .levels - d) _
       go false q e = let k = ltb-false d (c .levels) q in omega arith
 
-  -- memory n has the words that it counts on m
-  pub record Alike (m n : List ℕ) : Type 0 where
+  -- ---- what it comes to on a memory, which it leaves as it is, with what was held
+
+  abbrev pub left : ℕ → Walked → Bool → List ℕ → After Translated
+  left e x sets m = yields (translation hold e x sets) m
+
+  left-is : (x : Translated) (m : List ℕ) → x .held ≡ hold → yields x m ≡ left (x .exits) (x .walked) (x .sets) m
+  left-is x m e = ap (λ h. yields (translation h (x .exits) (x .walked) (x .sets)) m) e
+
+  pub record Comes (m : List ℕ) : Type 0 where
+    pub exits : ℕ
     pub walked : Walked
-    pub before : translatedOf r m st a ≡ left walked m
-    pub altered : translatedOf r n st a ≡ left walked n
+    pub sets : Bool
+    pub done : translatedOf r m st a ≡ left exits walked sets m
     pub count : Reads (length (countedOf r m st a)) walked
 
-  pub alike : (m n : List ℕ) → Reaches m → SameWords m n (countedOf r m st a) → Alike m n
-  alike m n (held t w l f s) h =
+  through-comes : (m : List ℕ) (t : ℕ) (w : Bool) (k : ℕ) → Reads k (from m t w)
+      → let x : Translated = throughOf c ht m hold rt st a d t w in (x .held ≡ hold) × Reads k (x .walked)
+  unfolding throughOf servedOf
+  through-comes m t w k q = go (c .bits)
+    where
+      lack : Bool
+      lack = lacks (memoryWorld c ht m) st ((trace (memoryWorld c ht m) (direct c st a d t w)) .reads)
+
+      go : (b : Bool) → let x : Translated = cond b (judgedBy hold lack (checkedOf c ht m rt st a d) (from m t w)) (translation hold (0 + exitBy (from m t w)) (from m t w) false) in
+          (x .held ≡ hold) × Reads k (x .walked)
+      go true = (judged-held hold lack (checkedOf c ht m rt st a d) (from m t w), judged-reads hold lack (checkedOf c ht m rt st a d) (from m t w) k q)
+      go false = (refl, q)
+
+  unshadowed-comes : (m : List ℕ) (k : ℕ) → Reads k (wholly m)
+      → let x : Translated = unshadowedOf c ht m hold rt st a d in (x .held ≡ hold) × Reads k (x .walked)
+  unfolding unshadowedOf plainOf
+  unshadowed-comes m k q = go (c .bits)
+    where
+      go : (b : Bool) → let x : Translated = cond b (judgedBy hold true (checkedOf c ht m rt st a d) (wholly m)) (translation hold (exitBy (wholly m)) (wholly m) false) in
+          (x .held ≡ hold) × Reads k (x .walked)
+      go true = (judged-held hold true (checkedOf c ht m rt st a d) (wholly m), judged-reads hold true (checkedOf c ht m rt st a d) (wholly m) k q)
+      go false = (refl, q)
+
+  wholly-reads : (m : List ℕ) → Reads (length (plainly m)) (wholly m)
+  wholly-reads m =
+      let z : 0 + length (plainly m) ≡ length (plainly m) = omega arith in
+      reads-same _ _ (wholly m) z (walk-count c ht m (whole c st rt a) 0 (walk-ends c st rt (indexes (c .levels) (pageOf a))))
+
+  unshadowed-held : (m : List ℕ) → unshadowedOf c ht m hold rt st a d .held ≡ hold
+  unshadowed-held m = unshadowed-comes m (length (plainly m)) (wholly-reads m) .0
+
+  pub comes : (m : List ℕ) → Reaches m → Comes m
+  unfolding directOf
+  comes m (held t w l f s) =
       let e = held-counted m t w l f in
-      let k : SameWords m n (pathWords r m a d ++ walkWords c ht m (direct (t .0) w)) = subst (SameWords m n) e h in
-      let p = all-first _ (pathWords r m a d) (walkWords c ht m (direct (t .0) w)) k in
-      let q = all-rest _ (pathWords r m a d) (walkWords c ht m (direct (t .0) w)) k in
-      let long = ap length e ∙ length-both (pathWords r m a d) (walkWords c ht m (direct (t .0) w)) ∙ ap (λ x. x + length (walkWords c ht m (direct (t .0) w))) (path-reads m t w l f) in
-      let ends = levels-ends c st d (t .0) w (indexes d (pageOf a)) in
+      let long = ap length e ∙ length-both (pathWords r m a d) (directly m (t .0) w) ∙ ap (λ x. x + length (directly m (t .0) w)) (path-reads m t w l f) in
+      let x : Translated = throughOf c ht m hold rt st a d (t .0) w in
+      let q = through-comes m (t .0) w (length (countedOf r m st a))
+      (reads-same _ _ (from m (t .0) w) (sym long) (walk-count c ht m (direct c st a d (t .0) w) (c .levels - d) (levels-ends c st _ (t .0) w (indexes d (pageOf a))))) in
+      record { exits = x .exits; walked = x .walked; sets = x .sets; done = held-is m t w l f s ∙ left-is x m (q .0); count = q .1 }
+  comes m (plain l) =
+      let x : Translated = unshadowedOf c ht m hold rt st a d in
       record {
-        walked = walkedOf c ht m (c .levels - d) (direct (t .0) w);
-        before = held-is m t w l f s;
-        altered = held-is n t w l (found-local m n p ∙ f) s ∙ ap (λ x. left x n) (walk-local c ht m n (direct (t .0) w) (c .levels - d) ends q);
-        count = reads-same _ _ (walkedOf c ht m (c .levels - d) (direct (t .0) w)) (sym long) (walk-count c ht m (direct (t .0) w) (c .levels - d) ends);
+        exits = x .exits;
+        walked = x .walked;
+        sets = x .sets;
+        done = plain-is m l ∙ left-is x m (unshadowed-held m);
+        count = unshadowed-comes m (length (countedOf r m st a)) (reads-same _ _ (wholly m) (sym (ap length (plain-counted m l))) (wholly-reads m)) .1;
       }
-  alike m n (plain l) h =
-      let e = plain-counted m l in
-      let ends = walk-ends c st (rootOf r) (indexes (c .levels) (pageOf a)) in
+
+  -- ---- memory n has the words that it counts on m
+
+  -- no entry of a granted direct part lacks a bit: its end is said as it is, and no bit is set
+  abbrev Clear : List ℕ → ℕ → Bool → Type 0
+  Clear m t w = c .bits ≡ true → LacksNone c ht m st a d (hosts.Found (page t) w)
+
+  through-none : (m : List ℕ) (t : ℕ) (w : Bool) → Clear m t w → throughOf c ht m hold rt st a d t w ≡ translation hold (exitBy (from m t w)) (from m t w) false
+  unfolding directOf servedOf
+  through-none m t w clear = go (c .bits) refl
+    where
+      by : c .bits ≡ true → (x : Walked) → from m t w ≡ x → throughOf c ht m hold rt st a d t w ≡ translation hold (exitBy x) x false
+      by on (walked.Arrived p v n) q =
+          through-on c ht m hold rt st a d t w false (walked.Arrived p v n) on
+          (clear on (p .0, v) (arrived-granted c ht m (c .levels - d) (direct c st a d t w) (p .0) v n q)) q
+      by on (walked.Faulted x n) q = through-end c ht m hold rt st a d t w (walked.Faulted x n) on q
+      by on walked.Damaged q = through-end c ht m hold rt st a d t w walked.Damaged on q
+
+      go : (b : Bool) → c .bits ≡ b → throughOf c ht m hold rt st a d t w ≡ translation hold (exitBy (from m t w)) (from m t w) false
+      go true on = by on (from m t w) refl
+      go false off = through-off c ht m hold rt st a d t w off ∙ ap (λ e. translation hold e (from m t w) false) (zero-add (exitBy (from m t w)))
+
+  none-local : (m n : List ℕ) (t : ℕ) (w : Bool) → SameWords m n (directly m t w) → Clear m t w → Clear n t w
+  none-local m n t w s clear on q e =
+      lacks-local c ht m n (direct c st a d t w) s st
+      ∙ clear on q (sym (ap (λ (x : Trace Fault Place). x .result) (trace-local c ht m n (direct c st a d t w) s)) ∙ e)
+
+  through-local : (m n : List ℕ) (t : ℕ) (w : Bool) → SameWords m n (directly m t w) → Clear m t w → throughOf c ht n hold rt st a d t w ≡ throughOf c ht m hold rt st a d t w
+  unfolding directOf
+  through-local m n t w s clear =
+      through-none n t w (none-local m n t w s clear)
+      ∙ ap (λ x. translation hold (exitBy x) x false) (walk-local c ht m n (direct c st a d t w) (c .levels - d) (levels-ends c st _ t w (indexes d (pageOf a))) s)
+      ∙ sym (through-none m t w clear)
+
+  -- at depth N + 1 the bits are those of the same entries
+  unshadowed-local : (m n : List ℕ) → SameWords m n (plainly m) → unshadowedOf c ht n hold rt st a d ≡ unshadowedOf c ht m hold rt st a d
+  unfolding unshadowedOf plainOf checkedOf
+  unshadowed-local m n s =
+      let p = whole c st rt a in
+      let x : wholly n ≡ wholly m = walk-local c ht m n p 0 (walk-ends c st rt (indexes (c .levels) (pageOf a))) s in
+      let v = memoryWorld c ht n in
+      ap (λ y. cond (c .bits) (judgedBy hold true (checkedBy d (lacks v st ((trace v p) .reads)) (owed v st ((trace v p) .reads) ((trace v p) .uses)) y) y) (translation hold (exitBy y) y false)) x
+      ∙ ap₂ (λ l o. cond (c .bits) (judgedBy hold true (checkedBy d l o (wholly m)) (wholly m)) (translation hold (exitBy (wholly m)) (wholly m) false))
+      (lacks-local c ht m n p s st) (owed-local c ht m n p s st)
+
+  pub record Alike (m n : List ℕ) : Type 0 where
+    pub exits : ℕ
+    pub walked : Walked
+    pub sets : Bool
+    pub before : translatedOf r m st a ≡ left exits walked sets m
+    pub altered : translatedOf r n st a ≡ left exits walked sets n
+    pub own : (xs : List Word) × SameWords m n xs × (settledOf c ht rt st a sets m ≡ bitsIn st m xs) × (settledOf c ht rt st a sets n ≡ bitsIn st n xs)
+
+  pub alike : (m n : List ℕ) → Reaches m → SetsNone r m st a → SameWords m n (countedOf r m st a) → Alike m n
+  unfolding SetsNone settledOf
+  alike m n (held t w l f s) b h =
+      let k : SameWords m n (pathWords r m a d ++ directly m (t .0) w) = subst (SameWords m n) (held-counted m t w l f) h in
+      let p = all-left _ (pathWords r m a d) (directly m (t .0) w) k in
+      let q = all-rest _ (pathWords r m a d) (directly m (t .0) w) k in
+      let clear : Clear m (t .0) w = λ on. subst (LacksNone c ht m st a d) f (b on l) in
       record {
-        walked = walkedOf c ht m 0 whole;
-        before = plain-is m l;
-        altered = plain-is n l ∙ ap (λ x. left x n) (walk-local c ht m n whole 0 ends (subst (SameWords m n) e h));
-        count = reads-same _ _ (walkedOf c ht m 0 whole) (let z : 0 + length (walkWords c ht m whole) ≡ length (walkWords c ht m whole) = omega arith in z ∙ sym (ap length e)) (walk-count c ht m whole 0 ends);
+        exits = exitBy (from m (t .0) w);
+        walked = from m (t .0) w;
+        sets = false;
+        before = held-is m t w l f s ∙ ap (λ x. yields x m) (through-none m (t .0) w clear);
+        altered = held-is n t w l (found-local m n p ∙ f) s ∙ ap (λ x. yields x n) (through-local m n (t .0) w q clear ∙ through-none m (t .0) w clear);
+        own = ([], tt, refl, refl);
+      }
+  alike m n (plain l) b h =
+      let k : SameWords m n (plainly m) = subst (SameWords m n) (plain-counted m l) h in
+      let x : Translated = unshadowedOf c ht m hold rt st a d in
+      record {
+        exits = x .exits;
+        walked = x .walked;
+        sets = x .sets;
+        before = plain-is m l ∙ left-is x m (unshadowed-held m);
+        altered = plain-is n l ∙ ap (λ y. yields y n) (unshadowed-local m n k) ∙ left-is x n (unshadowed-held m);
+        own = own-entries c ht rt st a m n k (x .sets);
       }

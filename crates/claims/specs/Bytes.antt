@@ -9,10 +9,11 @@ use lib.ListN.{getD}
 use Rattle.spec.specs.declared.Fault.{Fault}
 use Rattle.spec.specs.Config.{Config, guestBase}
 use Rattle.spec.specs.Bytes.{part}
-use Rattle.spec.specs.Walk.{Trace, Result, granted}
+use Rattle.spec.specs.Walk.{Result, granted}
 use Rattle.spec.specs.Plain.{Place}
 use Rattle.spec.specs.Machine.{Machine}
-use Rattle.spec.specs.Call.{Call, store, device, plain, deviceWalk}
+use Rattle.spec.specs.Bits.{bitsSet}
+use Rattle.spec.specs.Call.{Call, store, device, plain, deviceWalk, verdict}
 
 -- ---- bytes
 
@@ -40,13 +41,18 @@ pub record Stores (before after : List ℕ) (first w v : ℕ) : Type 0 where
   pub own : (j : ℕ) → j < w → byteIn after (first + j) ≡ byteOf v j
   pub rest : (b : ℕ) → (b < first) ⊎ (first + w ≤ b) → byteIn after b ≡ byteIn before b
 
--- a store, a device's (d) too, and its walk on the machine
+-- a store, a device's (d) too, and what it comes to on the machine
 abbrev pub storeAt : Bool → ℕ → ℕ → ℕ → Call
 storeAt d a w v = cond d (device a w v) (store a w v)
 
-abbrev pub storeWalk : Bool → Config → Machine → ℕ → Trace Fault Place
-storeWalk d c m a = cond d (deviceWalk c m a) (plain c m true a)
+abbrev pub storeComesTo : Bool → Config → Machine → ℕ → Result Fault Place
+storeComesTo d c m a = cond d ((deviceWalk c m a) .result) (verdict c m true a)
 
--- the walk is granted at a page, and P holds of its host frame
+-- the guest area that its bytes are stored to: with bits on its own are set before, and a device has none. With bits off it is the
+-- machine's
+abbrev pub storeFinds : Bool → Config → Machine → ℕ → List ℕ
+storeFinds d c m a = cond d (m .area) (bitsSet c true m (plain c m true a) .area)
+
+-- the request is granted at a page, and P holds of its host frame
 abbrev pub GrantedAt : Result Fault Place → (ℕ → Type 0) → Type 0
 GrantedAt x P = (p : Place) × (x ≡ granted p) × P (p .0)

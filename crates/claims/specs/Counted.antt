@@ -1,9 +1,10 @@
--- The words of the memory that a load or a store counts. Document 01, "Words counted".
+-- The words of the memory that a load or a store counts, and the requests that rest on them alone. Document 01, "Words counted";
+-- document 02, 6).
 -- Assumes nothing.
 use mathlib.Core.Path.{_≡_}
 use mathlib.Core.Logic.{_⊎_}
-use Prim.Native.Nat.{ℕ, _<_}
-use mathlib.Core.Bool.{Bool, true, cond}
+use Prim.Native.Nat.{ℕ, _<_, _≤_}
+use mathlib.Core.Bool.{Bool, true, false, cond}
 use mathlib.Core.List.{List, [], _∷_, _++_}
 use lib.Dec.{T, leb, ltb}
 use lib.ListN.{set}
@@ -11,10 +12,11 @@ use Rattle.spec.specs.declared.Fault.{Fault}
 use Rattle.spec.specs.declared.Answer.{Answer}
 use Rattle.spec.specs.declared.Answer.the-variants as answer
 use Rattle.spec.specs.Config.{Config, guestBase}
-use Rattle.spec.specs.Entry.{wordOf, pageOf, indexes}
+use Rattle.spec.specs.Entry.{wordOf, indexes}
 use Rattle.spec.specs.Bytes.{withBytes}
-use Rattle.spec.specs.Walk.{Walk, done, fail, host, word}
-use Rattle.spec.specs.Plain.{levels, walk, upper}
+use Rattle.spec.specs.Walk.{Walk, done, fail, host, word, granted, trace}
+use Rattle.spec.specs.Plain.{Place, upper}
+use Rattle.spec.specs.Bits.{lacks}
 use Rattle.spec.specs.Machine.{place}
 use Rattle.spec.specs.Book.{Book, depth, find}
 use Rattle.spec.specs.Call.{addressIndexes}
@@ -28,11 +30,13 @@ use Rattle.layout.specs.declared.HostWalk.the-variants as hosts
 use Rattle.host.specs.Walk.{hostWalkOf}
 use Rattle.walk.specs.declared.Walked.{Walked}
 use Rattle.walk.specs.declared.Walked.the-variants as walked
-use Rattle.walk.specs.Memory.{placeOf}
+use Rattle.walk.specs.Memory.{placeOf, memoryWorld}
+use Rattle.accessed.specs.Entries.{bitsIn}
 use Rattle.record.specs.declared.Record.{Record}
 use Rattle.record.specs.Record.{configOf}
-use Rattle.translate.specs.Translate.{pathIndexes, foundOf}
-use Rattle.calls.specs.Calls.{hostTop, heldOf, rootOf, depthAt, translatedOf, storeCall}
+use Rattle.translate.specs.Translate.{pathIndexes, foundOf, direct, whole}
+use Rattle.request.specs.Access.{settledOf}
+use Rattle.calls.specs.Calls.{hostTop, heldOf, rootOf, depthAt, translatedOf, loadCall, storeCall}
 use Rattle.claims.specs.Run.{guestArea}
 use Rattle.words.specs.After.{After}
 use Rattle.calls.specs.declared.Reply.{Reply}
@@ -64,7 +68,7 @@ pathWords r m a d =
 
 -- the words that the direct part reads, from the guest table of level d that the held path leads to
 abbrev pub directWords : Config → ℕ → List ℕ → Bool → ℕ → ℕ → HostWalk → List Word
-directWords c ht m st a d (hosts.Found t w) = walkWords c ht m (levels c st d (t .0) w (indexes d (pageOf a)))
+directWords c ht m st a d (hosts.Found t w) = walkWords c ht m (direct c st a d (t .0) w)
 directWords c ht m st a d (hosts.Absent n) = []
 directWords c ht m st a d hosts.Damaged = []
 
@@ -77,7 +81,7 @@ countedOf r m st a =
     let d = depthAt r a in
     cond (leb d (c .levels))
     (pathWords r m a d ++ directWords c ht m st a d (foundOf c m (heldOf r) a d))
-    (walkWords c ht m (walk c st (rootOf r) (indexes (c .levels) (pageOf a))))
+    (walkWords c ht m (whole c st (rootOf r) a))
 
 abbrev pub touchedBy : ℕ → Walked → List Word
 touchedBy a (walked.Arrived t w n) = (t .0, wordOf a) ∷ []
@@ -95,6 +99,34 @@ HeldOrPlain c b st a =
     let d = depth (b .marks) is in
     T (serves st d (find (upper c d is) (b .held))) ⊎ (c .levels < d)
 
+-- with bits on, a request on a held path may rest on words of its plain walk that it does not count, if it sets a bit, refills the
+-- path or meets W for a bit. A path that is to be refilled is none of `HeldOrPlain`; a request does one of the others exactly if its
+-- direct part is granted and reads an entry that lacks a bit, since those that the path covers have theirs
+
+-- the direct part from there reads no such entry, or is not granted
+abbrev pub LacksNone : Config → ℕ → List ℕ → Bool → ℕ → ℕ → HostWalk → Type 0
+LacksNone c ht m st a d (hosts.Found t w) =
+    let v = memoryWorld c ht m in
+    let x = trace v (direct c st a d (t .0) w) in
+    (p : Place) → x .result ≡ granted p → lacks v st (x .reads) ≡ false
+LacksNone c ht m st a d (hosts.Absent n) = Unit {0}
+LacksNone c ht m st a d hosts.Damaged = Unit {0}
+
+-- with bits off, and at depth N + 1, nothing is asked
+unfoldable pub SetsNone : Record → List ℕ → Bool → ℕ → Type 0
+SetsNone r m st a =
+    let c = configOf r in
+    let d = depthAt r a in
+    c .bits ≡ true → d ≤ c .levels → LacksNone c (hostTop r) m st a d (foundOf c m (heldOf r) a d)
+
+-- the memory with the bits that the request itself sets
+unfoldable pub ownOf : Record → List ℕ → Bool → ℕ → List ℕ
+ownOf r m st a = settledOf (configOf r) (hostTop r) (rootOf r) st a (translatedOf r m st a .result .sets) m
+
+-- on memory n it sets them in the same entries as on m
+abbrev pub SameOwn : Record → List ℕ → List ℕ → Bool → ℕ → Type 0
+SameOwn r m n st a = (xs : List Word) × (ownOf r m st a ≡ bitsIn st m xs) × (ownOf r n st a ≡ bitsIn st n xs)
+
 -- the references of an answer that has any are x
 abbrev pub References : ℕ → Answer → Type 0
 References x answer.Ok = Unit {0}
@@ -104,11 +136,19 @@ References x (answer.Faulted y n e) = n ≡ x
 References x (answer.Refused n) = Unit {0}
 References x (answer.Figures n e t) = n ≡ x
 
+-- a load on memory m, and the same load on memory n: there it says the same value or fault with the same counts; the record stays as it is,
+-- and so does the memory but for its own bits
+pub record SameLoad (r : Record) (m n : List ℕ) (a w : ℕ) : Type 0 where
+  pub says : loadCall r n a w .result .answer ≡ loadCall r m a w .result .answer
+  pub unit : loadCall r n a w .result .unit ≡ r
+  pub memory : (loadCall r n a w .memory ≡ n) ⊎ (loadCall r n a w .memory ≡ ownOf r n false a)
+  pub own : SameOwn r m n false a
+
 -- a store of w bytes at the address a, on memory m, is granted with k references and x exits in host frame t: they are those of v,
--- and nothing else of the guest area changes
+-- and nothing else of the guest area changes but its own bits, which it sets first
 pub record Touches (r : Record) (m : List ℕ) (k x t a w v : ℕ) (e : After Reply) : Type 0 where
   pub says : e .result .answer ≡ answer.Done k x
-  pub area : guestArea r (e .memory) ≡ set (guestArea r m) (place (configOf r) t (wordOf a)) (withBytes a w v (wordIn m t (wordOf a)))
+  pub area : guestArea r (e .memory) ≡ set (guestArea r (ownOf r m true a)) (place (configOf r) t (wordOf a)) (withBytes a w v (wordIn (ownOf r m true a) t (wordOf a)))
 
 -- a call on memory m is refused with 11, and no word of the guest area changes
 pub record Refuses (r : Record) (m : List ℕ) (e : After Reply) : Type 0 where
@@ -125,6 +165,7 @@ SameTables c m n = (f : ℕ) → f < guestBase c → SameFrame m n f
 pub record SameStore (r : Record) (m n : List ℕ) (a w v k x : ℕ) : Type 0 where
   pub frame : ℕ
   pub touched : touchedOf r m true a ≡ (frame, wordOf a) ∷ []
+  pub own : SameOwn r m n true a
   pub before : Touches r m k x frame a w v (storeCall r m a w v)
   pub altered : ((y : ℕ) × Touches r n k y frame a w v (storeCall r n a w v)) ⊎ Refuses r n (storeCall r n a w v)
   pub only : SameTables (configOf r) m n → Touches r n k x frame a w v (storeCall r n a w v)

@@ -7,19 +7,23 @@ use mathlib.Core.List.{List}
 use mathlib.Core.Option.{Option, none, some}
 use lib.ListN.{set}
 use Rattle.spec.specs.declared.Fault.{Fault}
+use Rattle.spec.specs.declared.Fault.the-variants.{HostReadOnly}
 use Rattle.spec.specs.declared.Answer.{Answer}
 use Rattle.spec.specs.declared.Answer.the-variants as answer
 use Rattle.spec.specs.Answer as say
 use Rattle.spec.specs.Answer.{Line, line, faultLine}
-use Rattle.spec.specs.Entry.{wordOf, pageOf, indexes}
+use Rattle.spec.specs.Entry.{wordOf}
 use Rattle.spec.specs.Bytes.{bytesAt, withBytes}
-use Rattle.spec.specs.Plain.{walk}
+use Rattle.spec.specs.Walk.{trace}
+use Rattle.spec.specs.Bits.{owes}
 use Rattle.spec.specs.Machine.{place}
 use Rattle.spec.specs.Call.{Call, load, store}
 use Rattle.words.specs.Words as words
 use Rattle.walk.specs.declared.Walked.{Walked}
 use Rattle.walk.specs.declared.Walked.the-variants as walked
-use Rattle.walk.specs.Memory.{walkedOf}
+use Rattle.walk.specs.Memory.{memoryWorld, walkedOf}
+use Rattle.translate.specs.Translate.{whole}
+use Rattle.request.specs.Access.{settledOf}
 use Rattle.record.specs.declared.Record.{Record}
 use Rattle.record.specs.Record.{configOf}
 use Rattle.calls.specs.Calls.{hostTop, rootOf, depthAt}
@@ -46,17 +50,31 @@ abbrev pub touched : ℕ → ℕ → Option ℕ → ℕ → List ℕ → ℕ →
 touched a w none e area k = area
 touched a w (some v) e area k = set area k (withBytes a w v e)
 
+-- W for a bit that is owed comes after every other check of the walk
+abbrev pub judgedWalk : Option (ℕ × ℕ) → Walked → Walked
+judgedWalk none x = x
+judgedWalk (some o) (walked.Arrived t y n) = walked.Faulted (HostReadOnly (o .1)) n
+judgedWalk (some o) (walked.Faulted x n) = walked.Faulted x n
+judgedWalk (some o) walked.Damaged = walked.Damaged
+
 -- the plain two-level walk of a over the guest's and the host's tables as they stand in the memory
 abbrev pub plainWalk : Record → List ℕ → Bool → ℕ → Walked
-plainWalk r m st a = walkedOf (configOf r) (hostTop r) m 0 (walk (configOf r) st (rootOf r) (indexes (configOf r .levels) (pageOf a)))
+plainWalk r m st a =
+    let c = configOf r in
+    let w = memoryWorld c (hostTop r) m in
+    judgedWalk (owes c w st (trace w (whole c st (rootOf r) a))) (walkedOf c (hostTop r) m 0 (whole c st (rootOf r) a))
 
--- e is what a request leaves that is granted at its bytes of host frame t. It read N + N·d words for the depth d of its address, at
+-- the memory with the bits of that walk, where bits are on
+abbrev pub withOwn : Record → List ℕ → Bool → ℕ → List ℕ
+withOwn r m st a = settledOf (configOf r) (hostTop r) (rootOf r) st a (configOf r .bits) m
+
+-- e is what a request leaves that is granted at its bytes of host frame t, on the memory with its own bits. It read N + N·d words for the depth d of its address, at
 -- most 24 with four levels
 pub record Granted (r : Record) (m : List ℕ) (a w : ℕ) (v : Option ℕ) (e : After Reply) (t : ℕ) : Type 0 where
   pub exits : ℕ
-  pub says : line (e .result .answer) ≡ grantedLine a w v (words.wordIn m t (wordOf a)) (configOf r .levels + configOf r .levels * depthAt r a) exits
+  pub says : line (e .result .answer) ≡ grantedLine a w v (words.wordIn (withOwn r m (isStore v) a) t (wordOf a)) (configOf r .levels + configOf r .levels * depthAt r a) exits
   pub most : configOf r .levels + configOf r .levels * depthAt r a ≤ configOf r .levels + configOf r .levels * suc (configOf r .levels)
-  pub area : guestArea r (e .memory) ≡ touched a w v (words.wordIn m t (wordOf a)) (guestArea r m) (place (configOf r) t (wordOf a))
+  pub area : guestArea r (e .memory) ≡ touched a w v (words.wordIn (withOwn r m (isStore v) a) t (wordOf a)) (guestArea r (withOwn r m (isStore v) a)) (place (configOf r) t (wordOf a))
 
 -- and one that meets the fault y
 pub record Faulted (r : Record) (m : List ℕ) (e : After Reply) (y : Fault) : Type 0 where

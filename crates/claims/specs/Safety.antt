@@ -3,12 +3,14 @@
 use mathlib.Core.Path.{_≡_}
 use mathlib.Core.Logic.{_≢_, _⊎_}
 use Prim.Native.Nat.{ℕ, _+_, _*_, _<_}
+use mathlib.Core.Bool.{Bool, true}
 use mathlib.Core.List.{List, [], _∷_}
 use lib.Dec.{T, eqb}
-use lib.ListN.{length, drop, set}
+use lib.ListN.{length, drop, set, getD}
 use Rattle.spec.specs.declared.Answer.{Answer}
 use Rattle.spec.specs.declared.Answer.the-variants as answer
 use Rattle.spec.specs.Prefix.{any}
+use Rattle.spec.specs.Bits.{withBits}
 use Rattle.record.specs.declared.Record.{Record}
 use Rattle.record.specs.Record.{configOf, zeros}
 use Rattle.claims.specs.Run.{guestArea}
@@ -22,18 +24,34 @@ pub record GuestKept (r : Record) (m : List ℕ) (e : After Reply) : Type 0 wher
   pub long : length (e .memory) ≡ length m
   pub area : guestArea r (e .memory) ≡ guestArea r m
 
--- one guest word
+-- the word f is e, or with bits on e with its accessed bit set, or its accessed and dirty bit
+abbrev pub Bitted : Bool → ℕ → ℕ → Type 0
+Bitted on e f = (f ≡ e) ⊎ ((on ≡ true) × (b : Bool) × (f ≡ withBits b e))
+
+-- each word of b is that of a, but for such bits
+abbrev pub BitsOnly : Bool → List ℕ → List ℕ → Type 0
+BitsOnly on a b = (length b ≡ length a) × ((k : ℕ) → Bitted on (getD a k 0) (getD b k 0))
+
+-- of the guest words such bits alone: what a granted load may change
+pub record BitsKept (r : Record) (m : List ℕ) (e : After Reply) : Type 0 where
+  pub layout : configOf (e .result .unit) ≡ configOf r
+  pub long : length (e .memory) ≡ length m
+  pub area : BitsOnly (configOf r .bits) (guestArea r m) (guestArea r (e .memory))
+
+-- one guest word, after such bits: what a granted store may change
 pub record OneWord (r : Record) (m : List ℕ) (e : After Reply) : Type 0 where
   pub layout : configOf (e .result .unit) ≡ configOf r
   pub long : length (e .memory) ≡ length m
+  pub bitted : List ℕ
+  pub bits : BitsOnly (configOf r .bits) (guestArea r m) bitted
   pub place : ℕ
   pub word : ℕ
   pub inside : place < length (guestArea r m)
-  pub area : guestArea r (e .memory) ≡ set (guestArea r m) place word
+  pub area : guestArea r (e .memory) ≡ set bitted place word
 
 -- the numbers of the refusals of later calls; 1 and 2 are an opening's, 13 is a job's
 abbrev pub refusals : List ℕ
-refusals = 3 ∷ 4 ∷ 5 ∷ 6 ∷ 7 ∷ 8 ∷ 9 ∷ 10 ∷ 11 ∷ 12 ∷ 14 ∷ 15 ∷ []
+refusals = 3 ∷ 4 ∷ 5 ∷ 6 ∷ 7 ∷ 8 ∷ 9 ∷ 10 ∷ 11 ∷ 12 ∷ 14 ∷ 15 ∷ 16 ∷ []
 
 abbrev pub Numbered : ℕ → Type 0
 Numbered n = T (any (eqb n) refusals)
@@ -50,19 +68,20 @@ pub record Untouched (r : Record) (m : List ℕ) (e : After Reply) : Type 0 wher
   pub unit : e .result .unit ≡ r
   pub memory : e .memory ≡ m
 
--- what a forecast may say: figures, or one of its three refusals
+-- what a forecast may say: figures, or one of its four refusals
 abbrev pub Foretells : Answer → Type 0
 Foretells answer.Ok = ⊥
 Foretells (answer.Value v n x) = ⊥
 Foretells (answer.Done n x) = ⊥
 Foretells (answer.Faulted y n x) = ⊥
-Foretells (answer.Refused n) = (n ≡ 3) ⊎ ((n ≡ 14) ⊎ (n ≡ 11))
+Foretells (answer.Refused n) = (n ≡ 3) ⊎ ((n ≡ 16) ⊎ ((n ≡ 14) ⊎ (n ≡ 11)))
 Foretells (answer.Figures n x t) = Unit {0}
 
--- a granted store changes one guest word; a fault, a refusal, a load and a call without a value change none; figures change nothing
+-- a granted store changes one guest word, and with bits on a granted load or store sets bits of others; a fault, a refusal and a call without
+-- a value change no guest word; figures change nothing
 abbrev pub Keeps : Record → List ℕ → After Reply → Answer → Type 0
 Keeps r m e answer.Ok = GuestKept r m e
-Keeps r m e (answer.Value v n x) = GuestKept r m e
+Keeps r m e (answer.Value v n x) = BitsKept r m e
 Keeps r m e (answer.Done n x) = OneWord r m e
 Keeps r m e (answer.Faulted y n x) = GuestKept r m e
 Keeps r m e (answer.Refused n) = RefusalKept r m e n

@@ -1,4 +1,4 @@
--- A fill is the book's: the new path stands, and the others with it exactly if the tables find room.
+-- A fill is the book's: the new path stands in place of one that has its indexes, and the others with it exactly if the tables find room.
 -- Assumes nothing.
 use mathlib.Core.Path.{_≡_, refl, sym, ap, _∙_, subst}
 use mathlib.Core.Logic.{inl, inr}
@@ -6,14 +6,18 @@ use Prim.Native.Nat.{ℕ, zero, suc, _+_, _<_, _≤_}
 use native.Mathlib.Omega.{arith}
 use mathlib.Core.Bool.{Bool, true, false, cond}
 use mathlib.Core.List.{List, [], _∷_, map}
+use mathlib.Core.Option.{some}
 use lib.Dec.{leb}
 use lib.ListN.{length, getD, take, replicate}
 use borrow.Author.Tests.{leb-true, leb-false}
 use Rattle.spec.specs.Config.{Config}
 use Rattle.spec.specs.Entry.{present, frameOf, entryLimit}
-use Rattle.spec.specs.Book.{Held, paths, shadowTables, fill}
-use Rattle.spec.specs.Prefix.{All}
+use Rattle.spec.specs.Book.{Held, find, paths, shadowTables, fill}
+use Rattle.spec.specs.Count.{others}
+use Rattle.spec.specs.Prefix.{All, same}
 use Rattle.spec_laws.proofs.Lists.{all-map}
+use Rattle.spec_laws.proofs.Indexes.{same-sym}
+use Rattle.spec_laws.proofs.Refill.{others-find, fill-others}
 use Rattle.spec.specs.Walk.{trace, granted}
 use Rattle.spec.specs.Plain.{Place, walk}
 use Rattle.spec_laws.proofs.Trail.{frameIn, frameAt, readsFrom, walk-trail}
@@ -36,6 +40,7 @@ use Rattle.shadow.specs.Held.{shadowArea}
 use Rattle.shadow.specs.Fill.{fillOf}
 use Rattle.walk.proofs.Trails.{noted-at}
 use Rattle.drops_laws.proofs.Held.{entries, leafAt, HeldEntries}
+use Rattle.drops_laws.proofs.Find.{entryFound, get-find}
 
 -- ---- the guest tables on the way, as the walk over memory goes through them
 found-small : (c : Config) (r : HostWalk) → c .frames ≤ 65536 → HostFits c r → frameIn (placeOf r) < 65536
@@ -147,10 +152,34 @@ module _ {c : Config} {p : Pool} {m : List ℕ} {guest G : List ℕ → ℕ} {ro
       go false e = rw (insert-not h (k .path) (w k) f present-new (paths (k ∷ hs)) listed gs gg (leb-false _ _ e))
           (first (first-insert (shadowArea c) guest gs m (k .path) (w k) (h .tables .small) (h .tables .flat) (h .tables .long) (f .nonempty) (f .short) (let s = f .short in omega arith) (f .small) gg thin present-new))
 
+-- ---- a path of the same indexes is replaced
+module _ (c : Config) (w : Held → ℕ) (k : Held) (hs : List Held) (y : List ℕ) where
+  abbrev rest : List Held
+  rest = others c (k .path) hs
+
+  -- of two paths with the same indexes the first is found
+  replaced : leafAt w (k ∷ hs) y ≡ leafAt w (k ∷ rest) y
+  replaced = get-find w q (k ∷ hs) ∙ ap (entryFound w) (go (same q (k .path)) refl) ∙ sym (get-find w q (k ∷ rest))
+    where
+      q : List ℕ
+      q = onto [] y
+
+      go : (b : Bool) → same q (k .path) ≡ b → cond b (some k) (find q hs) ≡ cond b (some k) (find q rest)
+      go true e = refl
+      go false e = sym (others-find c (k .path) q hs (same-sym (k .path) q ∙ e))
+
+  refilled : leafAt w (fill c k hs) y ≡ leafAt w (fill c k rest) y
+  refilled = go (leb (shadowTables (k ∷ hs)) (c .shadows)) ∙ sym (ap (λ ks. leafAt w ks y) (fill-others c k hs))
+    where
+      go : (b : Bool) → leafAt w (cond b (k ∷ hs) (k ∷ [])) y ≡ leafAt w (cond b (k ∷ rest) (k ∷ [])) y
+      go true = replaced
+      go false = refl
+
 -- the new tables' headers name the guest tables of the walk over memory
 pub fill-is : {c : Config} {p : Pool} {m : List ℕ} {guest G : List ℕ → ℕ} {root : ℕ} {w : Held → ℕ} {hs : List Held} → Holds (shadowArea c) false p m (leafAt w hs) guest
     → HeldEntries c guest G root w hs → (k : Held) → Fits (shadowArea c) (leafAt w hs) (k .path) → (F : List ℕ → ℕ) (gs : List ℕ) → Guests F gs 0 [] (k .path)
     → ((y : List ℕ) → Ext y (onto [] (k .path)) → guest y ≡ F y) → w k < entryLimit → present (w k) ≡ true → c .levels ≤ c .shadows
-    → Next (shadowArea c) false p m (leafAt w (fill c k hs)) guest (fillOf c gs p m (k .path) (w k))
-fill-is {guest = guest} h a k f F gs gg e thin set room =
-    inserted-is h a k f gs (guests-agree F guest gs 0 [] (k .path) (λ y q. e y (pre-ext y [] (k .path) q)) gg) thin set room
+    → Next (shadowArea c) false p m (leafAt w (fill c k (others c (k .path) hs))) guest (fillOf c gs p m (k .path) (w k))
+fill-is {c = c} {guest = guest} {w = w} {hs = hs} h a k f F gs gg e thin set room =
+    next-leaves (leafAt w (fill c k (others c (k .path) hs))) (refilled c w k hs)
+    (inserted-is h a k f gs (guests-agree F guest gs 0 [] (k .path) (λ y q. e y (pre-ext y [] (k .path) q)) gg) thin set room)

@@ -79,7 +79,7 @@ abbrev pub answerFound : (Held → ℕ) → Option Held → ℕ → HostWalk
 answerFound w none n = Absent n
 answerFound w (some k) n = Found (page (frameOf (w k))) (writable (w k))
 
-get-find : (w : Held → ℕ) (is : List ℕ) (hs : List Held) → get (entries w hs) is ≡ entryFound w (find is hs)
+pub get-find : (w : Held → ℕ) (is : List ℕ) (hs : List Held) → get (entries w hs) is ≡ entryFound w (find is hs)
 unfolding entries get
 get-find w is [] = refl
 get-find w is (k ∷ hs) = go (same is (k .path)) (same-sym (k .path) is) (get-find w is hs)

@@ -24,6 +24,7 @@ use Rattle.spec_laws.proofs.Trail.{frameIn, frameAt, namedAt, readsFrom, usesFr
 use Rattle.spec_laws.proofs.Local.{Seen, seen}
 use Rattle.spec_laws.proofs.Asks.{walk-asks}
 use Rattle.spec_laws.proofs.Keeps.{Valid, again, InArea, MappedIn, shadow-asked, store-keeps, mapping-keeps}
+use Rattle.spec_laws.proofs.SetBits.{MoreBits, more-keep}
 use Rattle.pool.specs.declared.Pool.{Pool}
 use Rattle.layout.proofs.Laws.{InGuestArea}
 use Rattle.walk.specs.Memory.{memoryWorld}
@@ -88,7 +89,7 @@ module _ (c : Config) (s : Machine) (ht : ℕ) (m : List ℕ) (st : Stands c s h
     unfolding part
     same-part = stands-trace c s ht m st (walk c false (s .root) (h .path)) _ (walk-asks c (InGuestArea c) false (s .root) (h .path) small (v .small))
 
-    grants : part .result ≡ granted (v .frame, h .right)
+    grants : part .result ≡ granted (v .frame, v .wide)
     unfolding part again seen
     grants = ap (λ (x : Seen Fault Place). x .result) (v .comes)
 
@@ -103,7 +104,7 @@ module _ (c : Config) (s : Machine) (ht : ℕ) (m : List ℕ) (st : Stands c s h
     trailed : ((trace (memoryWorld c ht m) (walk c false (s .root) (h .path))) .reads ≡ readsFrom (frameAt (memoryWorld c ht m) (s .root)) [] (h .path))
         × ((trace (memoryWorld c ht m) (walk c false (s .root) (h .path))) .uses ≡ s .root ∷ usesFrom (namedAt (memoryWorld c ht m) (s .root)) [] (h .path))
         × (v .frame ≡ frameAt (memoryWorld c ht m) (s .root) (trail.onto [] (h .path)))
-    trailed = walk-trail (memoryWorld c ht m) c (s .root) false (h .path) (v .frame, h .right) (ap (λ (x : Trace Fault Place). x .result) same-part ∙ grants)
+    trailed = walk-trail (memoryWorld c ht m) c (s .root) false (h .path) (v .frame, v .wide) (ap (λ (x : Trace Fault Place). x .result) same-part ∙ grants)
 
     -- the frame that the path leads to
     pub valid-frame : framesAt c ht m (s .root) (onto [] (h .path)) ≡ v .frame
@@ -111,7 +112,7 @@ module _ (c : Config) (s : Machine) (ht : ℕ) (m : List ℕ) (st : Stands c s h
 
     pub inside-area : InArea c (v .frame)
     unfolding part
-    inside-area = shadow-asked c s false (h .path) (st .inside) small (v .small) .grants (v .frame, h .right) grants
+    inside-area = shadow-asked c s false (h .path) (st .inside) small (v .small) .grants (v .frame, v .wide) grants
 
     pub valid-entry : HeldEntry c (framesAt c ht m (s .root)) (namedIn m (framesAt c ht m (s .root))) (s .root) (entryOf c (framesAt c ht m (s .root)) h) h
     unfolding entryOf part
@@ -159,7 +160,7 @@ module _ (c : Config) (s : Machine) (h : Held) (v : Valid c s h) where
   trail-valid : (h .uses ≡ s .root ∷ usesFrom (namedAt (world c s) (s .root)) [] (h .path)) × (v .frame ≡ frameAt (world c s) (s .root) (trail.onto [] (h .path)))
   unfolding again seen
   trail-valid =
-      let t = walk-trail (world c s) c (s .root) false (h .path) (v .frame, h .right) (ap (λ (x : Seen Fault Place). x .result) (v .comes)) in
+      let t = walk-trail (world c s) c (s .root) false (h .path) (v .frame, v .wide) (ap (λ (x : Seen Fault Place). x .result) (v .comes)) in
       (sym (ap (λ (x : Seen Fault Place). x .uses) (v .comes)) ∙ t .1, t .2)
 
   valid-last : v .frame ≡ frameIn (lookup (lastOr 0 (h .uses)) (s .mappings))
@@ -194,6 +195,10 @@ stays-mapping c s xs g h same va nu = record {
   after = mapping-keeps c s xs g h same va nu;
   mapped = all-map _ _ (h .uses) (λ f k. same f (λ e. not-eqb g f k (sym e))) (none-passes (eqb g) (h .uses) nu);
 }
+
+-- bits set in its words
+pub stays-more : (c : Config) (s t : Machine) (h : Held) → MoreBits c s t → Valid c s h → Stays c s t h
+stays-more c s t h a v = record { before = v; after = more-keep c s t h a v; mapped = all-any _ (h .uses) (λ g. ap (lookup g) (a .mappings)) }
 
 -- the tables that stand for the held paths on one machine stand for them on the other
 pub holds-on : {c : Config} {p : Pool} {o : List ℕ} (hs : List Held) (s t : Machine) (hm hn : ℕ) (m n : List ℕ) (sm : Stands c s hm m) (tn : Stands c t hn n)

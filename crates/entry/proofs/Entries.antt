@@ -2,7 +2,7 @@
 -- Assumes nothing.
 use mathlib.Core.Path.{_≡_, refl, sym, ap, _∙_}
 use mathlib.Core.Bool.{Bool, true, false, not, _&&_, _||_}
-use Prim.Native.Nat.{ℕ, _+_, _-_, _*_, _/_, _%_, _^_, _<_, _≤_}
+use Prim.Native.Nat.{ℕ, zero, suc, _+_, _-_, _*_, _/_, _%_, _^_, _<_, _≤_}
 use native.Mathlib.Nat.{zero-add, zero-mul, mod-lt}
 use native.Mathlib.Omega.{arith}
 use borrow.Author.Tests.{eqb-true, eqb-false, ne-eqb, lt-ltb, le-ltb}
@@ -33,6 +33,15 @@ module _ (c : Config) (level e : ℕ) where
   malformed-high n =
       let some = ne-eqb (e / 2 ^ (12 + frameBits c) % 2 ^ (40 - frameBits c)) 0 (λ z. n (high-bits (frameBits c) e (omega arith) ∙ z)) in
       ap (λ (x : Bool). not x || (ltb 1 level && bitSet 7 e)) some
+
+-- a bit that is not set
+pub bit-clear : (k e : ℕ) → bitSet k e ≡ false → e / 2 ^ k % 2 ≡ 0
+unfolding bitSet
+bit-clear k e h = go (e / 2 ^ k % 2) (mod-lt (e / 2 ^ k) (omega arith)) (eqb-false (e / 2 ^ k % 2) 1 h)
+  where
+    go : (x : ℕ) → x < 2 → (x ≡ 1 → ⊥) → x ≡ 0
+    go zero l n = refl
+    go (suc x) l n = absurd (n (omega arith))
 
 -- ---- ranges
 pub frame-fits : (e : ℕ) → frameOf e < 2 ^ 40

@@ -7,7 +7,8 @@ ghost use lib.Dec.{T};
 ghost use Rattle.spec.specs.Bytes.{widthFits, aligned};
 ghost use Rattle.spec.specs.Refusal.{addressFits};
 ghost use Rattle.entry.specs.Levels.{ofLevels};
-ghost use Rattle.spec.specs.Entry.{present, writable, switch, frameOf, malformed, index, pageOf};
+ghost use Rattle.spec.specs.Entry.{present, writable, switch, accessed, dirty, withBit, frameOf, malformed, index, pageOf};
+ghost use Rattle.spec.specs.Bits.{hasBits, withBits};
 
 // How many frames an entry can name, and the values of the bits that an entry's rules read.
 pub const FRAME_LIMIT: u64 = 1099511627776;
@@ -126,4 +127,51 @@ pub fn malformed(levels: u64, level: u64, e: u64) -> bool
         return e / 128 % 2 == 1;
     }
     true
+}
+
+// ---- accessed and dirty bits of a guest entry
+
+pub fn accessed(e: u64) -> bool
+    ensures { λ r. ⌜ r ≡ accessed e ⌝ }
+{
+    e / 32 % 2 == 1
+}
+
+pub fn dirty(e: u64) -> bool
+    ensures { λ r. ⌜ r ≡ dirty e ⌝ }
+{
+    e / 64 % 2 == 1
+}
+
+// Has it the bits that it needs: accessed, and dirty where a store's walk ends?
+pub fn has_bits(ends: bool, e: u64) -> bool
+    ensures { λ r. ⌜ r ≡ hasBits ends e ⌝ }
+{
+    if !accessed(e) {
+        return false;
+    }
+    if ends { dirty(e) } else { true }
+}
+
+fn with_accessed(e: u64) -> u64
+    ensures { λ r. ⌜ r ≡ withBit 5 e ⌝ }
+{
+    if accessed(e) { e } else { e + 32 }
+}
+
+fn with_dirty(e: u64) -> u64
+    ensures { λ r. ⌜ r ≡ withBit 6 e ⌝ }
+{
+    if dirty(e) { e } else { e + 64 }
+}
+
+// The entry with them.
+pub fn with_bits(ends: bool, e: u64) -> u64
+    ensures { λ r. ⌜ r ≡ withBits ends e ⌝ }
+{
+    if ends {
+        with_dirty(with_accessed(e))
+    } else {
+        with_accessed(e)
+    }
 }

@@ -22,13 +22,13 @@ use Rattle.job_run.specs.Run.{runOf}
 use Rattle.calls.specs.Calls.{callOf}
 use Rattle.claims.proofs.Invariant.{Inv, at}
 use Rattle.claims.proofs.Opens.{opened-inv, granted-call, refused-call}
-use Rattle.claims.proofs.Demands.{follows, at-self, opened-config}
+use Rattle.claims.proofs.Demands.{Set, follows, next, at-self, opened-config}
 use Rattle.job_claims.specs.Job.{said, meets}
 
 -- record and memory of a job that started on m₀ stand for machine and book, once an open was granted; before, nothing has changed
 abbrev pub Stands : List ℕ → Option State → Bool → Record → List ℕ → Type 0
 Stands m₀ none o r m = (o ≡ false) × (m ≡ m₀)
-Stands m₀ (some k) o r m = (o ≡ true) × (k .config ≡ configOf r) × Inv k r m
+Stands m₀ (some k) o r m = (o ≡ true) × (k .config ≡ configOf r) × Inv k r m × Set k r
 
 -- the memory that a record meets: of the unit's, only what is in the table frames counts
 pub met : (m₀ : List ℕ) (k : Option State) (o : Bool) (r : Record) (m : List ℕ) → Stands m₀ k o r m → meets m₀ (take (512 * guestBase (configOf r)) m) k ≡ m
@@ -45,16 +45,16 @@ pub record Alike (m₀ : List ℕ) (j : Job) (k : Option State) (o : Bool) (r : 
 module _ (m₀ : List ℕ) where
   opens-alike : (h s : ℕ) (k : Option State) (o : Bool) (r : Record) (m : List ℕ) → Stands m₀ k o r m → Alike m₀ (job.Open h s) k o r m
   unfolding runOf
-  opens-alike h s k o r m i = go (ℕ-discrete (refusalOf (length m) h s) 0)
+  opens-alike h s k o r m i = go (ℕ-discrete (refusalOf (length m) h s false) 0)
     where
-      go : Dec (refusalOf (length m) h s ≡ 0) → Alike m₀ (job.Open h s) k o r m
+      go : Dec (refusalOf (length m) h s false ≡ 0) → Alike m₀ (job.Open h s) k o r m
       go (yes e) = record {
-        says = rw (granted-call m h s e, granted-opening m h s e);
-        stands = rw (granted-call m h s e, granted-opening m h s e) (refl, sym (opened-config m h s), opened-inv m h s e);
+        says = rw (granted-call m h s false e, granted-opening m h s false e);
+        stands = rw (granted-call m h s false e, granted-opening m h s false e) (refl, sym (opened-config m h s false), opened-inv m h s false e, tt);
       }
       go (no n) = record {
-        says = rw (refused-call m h s n, refused-opening m h s n);
-        stands = rw (refused-call m h s n, refused-opening m h s n) i;
+        says = rw (refused-call m h s false n, refused-opening m h s false n);
+        stands = rw (refused-call m h s false n, refused-opening m h s false n) i;
       }
 
   calls-alike : (x : Call) (k : Option State) (o : Bool) (r : Record) (m : List ℕ) → Stands m₀ k o r m → Alike m₀ (job.Call x) k o r m
@@ -62,15 +62,11 @@ module _ (m₀ : List ℕ) where
   calls-alike x none o r m i = record { says = rw (i .0); stands = rw (i .0) (refl, i .1) }
   calls-alike x (some k) o r m i =
       let y = asked x in
-      let f = follows y k r m (i .2) in
+      let n = next y k r m (i .1) (i .2) (i .3) in
       let now : step y (at (configOf r) k) ≡ step y k = ap (step y) (at-self (configOf r) k (i .1)) in
       record {
-        says = rw (i .0) (f .says ∙ ap (λ u. u .0) now);
-        stands = rw (i .0) (
-          refl,
-          sym (f .config ∙ ap (λ u. u .1 .config) now),
-          subst (λ u. Inv (u .1) (callOf y r m .result .unit) (callOf y r m .memory)) now (f .next),
-        );
+        says = rw (i .0) (follows y k r m (i .2) (i .3) .says ∙ ap (λ u. u .0) now);
+        stands = rw (i .0) (refl, n .0, n .1, n .2);
       }
 
   pub alike : (j : Job) (k : Option State) (o : Bool) (r : Record) (m : List ℕ) → Stands m₀ k o r m → Alike m₀ j k o r m

@@ -2,7 +2,7 @@
 -- No definition here knows the unit, its record or its tables.
 -- Assumes nothing.
 use Prim.Native.Nat.{ℕ, zero, suc, _+_, _-_, _/_}
-use mathlib.Core.Bool.{cond}
+use mathlib.Core.Bool.{false, cond}
 use mathlib.Core.List.{List, [], _∷_, _++_}
 use mathlib.Core.Option.{Option, none, some}
 use lib.Dec.{leb}
@@ -49,9 +49,9 @@ recordsOf s = recordsFrom (length s) s
 
 -- ---- machine and book
 
--- what an opening with H and S fixes on a memory of so many words
+-- what an opening with H and S fixes on a memory of so many words; a job's has no accessed and dirty bits (document 02, 6)
 abbrev pub sizes : ℕ → ℕ → ℕ → Config
-sizes words h s = record { levels = 4; markRoom = 64; hosts = h; shadows = s; frames = words / 512 }
+sizes words h s = record { levels = 4; markRoom = 64; hosts = h; shadows = s; frames = words / 512; bits = false }
 
 -- a refused opening leaves the earlier state in use
 abbrev pub openedBy : Option State → Option State → Option State

@@ -1,5 +1,6 @@
 // What a record of a job does to the unit.
 ghost use mathlib.Core.Path.{_≡_};
+ghost use mathlib.Core.Bool.{false};
 ghost use Rattle.words.specs.After.{yields};
 ghost use Rattle.calls.specs.Calls.{openCall, callOf};
 ghost use Rattle.job_records.specs.Records.{asked};
@@ -67,11 +68,11 @@ fn granted(answer: Answer) -> bool
     }
 }
 
-// Opens the memory; a refused open keeps the earlier record in use.
+// Opens the memory, without accessed and dirty bits; a refused open keeps the earlier record in use.
 fn run_open(opened: bool, unit: Record, mem: &mut [u64], hosts: u64, shadows: u64) -> Ran
-    ensures { λ r. ⌜ yields r (now (mem .exit)) ≡ openedBy opened unit (openCall (now (mem .entry)) hosts shadows) ⌝ }
+    ensures { λ r. ⌜ yields r (now (mem .exit)) ≡ openedBy opened unit (openCall (now (mem .entry)) hosts shadows false) ⌝ }
 {
-    let reply = unit::open(mem, hosts, shadows);
+    let reply = unit::open(mem, hosts, shadows, false);
     let answer = reply.answer;
     if granted(answer) {
         let first = reply.unit;

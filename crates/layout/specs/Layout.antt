@@ -1,7 +1,8 @@
 -- The layout of the lent memory, and what the entry at the end of a path names, for any memory. Document 01, "Memory and tables".
 -- Assumes nothing.
 use Prim.Native.Nat.{ℕ, _≤_}
-use mathlib.Core.Bool.{cond}
+use mathlib.Core.Bool.{not, cond}
+use lib.Dec.{eqb}
 use Rattle.spec.specs.Config.{Config}
 use Rattle.spec.specs.Entry.{present, writable, frameOf}
 use Rattle.spec.specs.Refusal.{inGuestArea}
@@ -15,7 +16,7 @@ use Rattle.layout.specs.declared.HostWalk.the-variants.{Found, Absent, D
 
 -- the specification's configuration; a unit has 64 places for marks
 abbrev pub config : Layout → Config
-config l = record { levels = l .levels; markRoom = 64; hosts = l .hosts; shadows = l .shadows; frames = l .frames }
+config l = record { levels = l .levels; markRoom = 64; hosts = l .hosts; shadows = l .shadows; frames = l .frames; bits = not (eqb (l .bits) 0) }
 
 -- ranges that the check of the record gives
 abbrev pub LayoutFits : Layout → Type 0

@@ -10,12 +10,14 @@ use area::Look;
 use entry::GuestPhysical;
 use entry::HostPhysical;
 
-// How the lent memory is laid out: levels of tables, host frames, shadow frames, frames in all.
+// How the lent memory is laid out: levels of tables, host frames, shadow frames, frames in all; and 1 if accessed and dirty bits are set
+// in guest entries, else 0.
 pub struct Layout {
     pub levels: u64,
     pub hosts: u64,
     pub shadows: u64,
     pub frames: u64,
+    pub bits: u64,
 }
 
 // What a host walk comes to. Found reads one word a level; Damaged: an entry names a frame outside the area it must lie in.

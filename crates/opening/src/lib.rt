@@ -15,13 +15,13 @@ use record::Pools;
 use record::Record;
 
 // The number with which an opening on that many words is refused, or 0.
-fn open_refusal(words: u64, hosts: u64, shadows: u64) -> u64
-    ensures { λ r. ⌜ r ≡ refusalOf words hosts shadows ⌝ }
+fn open_refusal(words: u64, hosts: u64, shadows: u64, bits: bool) -> u64
+    ensures { λ r. ⌜ r ≡ refusalOf words hosts shadows bits ⌝ }
 {
     if !record::words_fit(words) {
         return 1;
     }
-    if !record::areas_fit(record::layout(words, hosts, shadows)) {
+    if !record::areas_fit(record::layout(words, hosts, shadows, bits)) {
         return 2;
     }
     0
@@ -59,11 +59,11 @@ fn first(l: Layout, host: Pool) -> Record
 }
 
 // Host and shadow frames are cleared, and the top host table handed out.
-fn open_granted(mem: &mut [u64], hosts: u64, shadows: u64) -> Record
+fn open_granted(mem: &mut [u64], hosts: u64, shadows: u64, bits: bool) -> Record
     requires { ⌜ hosts + shadows ≤ 65536 ⌝ }
-    ensures { λ r. ⌜ yields r (now (mem .exit)) ≡ grantedOf (now (mem .entry)) hosts shadows ⌝ }
+    ensures { λ r. ⌜ yields r (now (mem .exit)) ≡ grantedOf (now (mem .entry)) hosts shadows bits ⌝ }
 {
-    let l = record::layout(mem.len() as u64, hosts, shadows);
+    let l = record::layout(mem.len() as u64, hosts, shadows, bits);
     clear_frames(mem, hosts + shadows);
     let went = area::enter(host::tables(l), pool::no_tables(), mem, 0);
     let pool = went.pool;
@@ -71,17 +71,17 @@ fn open_granted(mem: &mut [u64], hosts: u64, shadows: u64) -> Record
 }
 
 // The opening: 1, 2.
-pub fn open(mem: &mut [u64], hosts: u64, shadows: u64) -> Opened
-    ensures { λ r. ⌜ yields r (now (mem .exit)) ≡ openOf (now (mem .entry)) hosts shadows ⌝ }
+pub fn open(mem: &mut [u64], hosts: u64, shadows: u64, bits: bool) -> Opened
+    ensures { λ r. ⌜ yields r (now (mem .exit)) ≡ openOf (now (mem .entry)) hosts shadows bits ⌝ }
 {
-    let refusal = open_refusal(mem.len() as u64, hosts, shadows);
+    let refusal = open_refusal(mem.len() as u64, hosts, shadows, bits);
     if refusal != 0 {
         return Opened {
             unit: Record::zeros(),
             refusal: refusal,
         };
     }
-    let unit = open_granted(mem, hosts, shadows);
+    let unit = open_granted(mem, hosts, shadows, bits);
     Opened {
         unit: unit,
         refusal: 0,

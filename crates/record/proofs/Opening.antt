@@ -2,10 +2,10 @@
 -- Assumes nothing.
 use mathlib.Core.Path.{_≡_, refl, sym, _∙_}
 use mathlib.Core.Logic.{_≢_, inl, inr}
-use mathlib.Core.Bool.{Bool, true, false}
+use mathlib.Core.Bool.{Bool, true, false, cond}
 use mathlib.Core.List.{List, [], _∷_}
 use mathlib.Core.Option.{none, some}
-use Prim.Native.Nat.{ℕ, _+_, _*_, _/_}
+use Prim.Native.Nat.{ℕ, _+_, _*_, _/_, _≤_}
 use native.Mathlib.Omega.{arith}
 use borrow.Author.Tests.{eq-eqb, ne-eqb}
 use lib.ListN.{length, drop}
@@ -32,9 +32,9 @@ use Rattle.record.proofs.Rules.{Sized, Fits, holds-top, holds-pool, gra
 use Rattle.words.specs.After.{yields}
 
 -- ---- the refusal
-pub open-refusal : (words h s : ℕ) → refusalOf words h s ≢ 0 → openRefusal (configBy words h s) words ≡ some (refusalOf words h s)
+pub open-refusal : (words h s : ℕ) (bits : Bool) → refusalOf words h s bits ≢ 0 → openRefusal (configBy words h s bits) words ≡ some (refusalOf words h s bits)
 unfolding refusalOf openRefusal
-open-refusal words h s = go (wordsFit words) (areasFit (configBy words h s))
+open-refusal words h s bits = go (wordsFit words) (areasFit (configBy words h s bits))
   where
     go : (a b : Bool) → number (firstFailed ((a, 1) ∷ (b, 2) ∷ [])) ≢ 0 → firstFailed ((a, 1) ∷ (b, 2) ∷ []) ≡ some (number (firstFailed ((a, 1) ∷ (b, 2) ∷ [])))
     go true true n = absurd (n refl)
@@ -42,16 +42,16 @@ open-refusal words h s = go (wordsFit words) (areasFit (configBy words h s))
     go false b n = refl
 
 -- a refused opening hands back a record of zeros and leaves every word; no later call takes that record
-module _ (m : List ℕ) (h s : ℕ) (refused : refusalOf (length m) h s ≢ 0) where
-  pub refused-opening : opening (configBy (length m) h s) m ≡ (say.no (refusalOf (length m) h s), none)
+module _ (m : List ℕ) (h s : ℕ) (bits : Bool) (refused : refusalOf (length m) h s bits ≢ 0) where
+  pub refused-opening : opening (configBy (length m) h s bits) m ≡ (say.no (refusalOf (length m) h s bits), none)
   unfolding opening
-  refused-opening = rw (open-refusal (length m) h s refused)
+  refused-opening = rw (open-refusal (length m) h s bits refused)
 
-  pub refused-open : openOf m h s ≡ yields (record { unit = zeros; refusal = refusalOf (length m) h s }) m
+  pub refused-open : openOf m h s bits ≡ yields (record { unit = zeros; refusal = refusalOf (length m) h s bits }) m
   unfolding openOf
   refused-open = rw (ne-eqb _ _ refused)
 
-  pub refused-record : (len : ℕ) → fitsOf (openOf m h s .result .unit) len ≡ false
+  pub refused-record : (len : ℕ) → fitsOf (openOf m h s bits .result .unit) len ≡ false
   refused-record len = rw refused-open (zeros-refused len)
 
 -- ---- clearing
@@ -67,29 +67,29 @@ clear-beside m n = record {
 }
 
 -- ---- a granted opening
-module _ (m : List ℕ) (h s : ℕ) (grant : refusalOf (length m) h s ≡ 0) where
+module _ (m : List ℕ) (h s : ℕ) (bits : Bool) (grant : refusalOf (length m) h s bits ≡ 0) where
   abbrev c : Config
-  c = configBy (length m) h s
+  c = configBy (length m) h s bits
 
   abbrev unit : Record
-  unit = grantedOf m h s .result
+  unit = grantedOf m h s bits .result
 
   abbrev memory : List ℕ
-  memory = grantedOf m h s .memory
+  memory = grantedOf m h s bits .memory
 
   pub granted-opening : opening c m ≡ (say.ok, some (opened c m))
   unfolding opening openRefusal
-  granted-opening = let t = granted-tests (length m) h s grant in rw (t .0, t .1)
+  granted-opening = let t = granted-tests (length m) h s bits grant in rw (t .0, t .1)
 
-  pub granted-open : openOf m h s ≡ granted (grantedOf m h s)
+  pub granted-open : openOf m h s bits ≡ granted (grantedOf m h s bits)
   unfolding openOf
   granted-open = rw (eq-eqb _ _ grant)
 
-  fits : Sized (layoutOf (length m) h s)
-  fits = granted-sized (length m) h s grant .0
+  fits : Sized (layoutOf (length m) h s bits)
+  fits = granted-sized (length m) h s bits grant .0
 
   whole : length m / 512 * 512 ≡ length m
-  whole = granted-sized (length m) h s grant .1
+  whole = granted-sized (length m) h s bits grant .1
 
   entered : Maps c [] (unit .pools .host) memory × Beside (hostArea c) (clearedOf m (h + s)) memory
   unfolding grantedOf firstOf enteredOf
@@ -122,10 +122,15 @@ module _ (m : List ℕ) (h s : ℕ) (grant : refusalOf (length m) h s ≡ 0) whe
   unfolding grantedOf firstOf tableOf
   no-mark = no-marks levels (tableOf []) refl
 
+  small : (b : Bool) → cond b 1 0 ≤ 1
+  small true = omega arith
+  small false = omega arith
+
   rules : Fits unit (length memory)
   unfolding grantedOf firstOf noneOf
   rules = record {
     long = granted-long ∙ sym whole;
+    bits = small bits;
     sizes = fits;
     root = omega arith;
     marks = rw no-mark;

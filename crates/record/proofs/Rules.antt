@@ -26,7 +26,7 @@ use Rattle.marks.specs.Key.{keysFit}
 use Rattle.marks.specs.Reading.{marksOf}
 use Rattle.marks.proofs.Book.{keysOf, marks-fit, all-held}
 use Rattle.record.specs.declared.Record.{Record}
-use Rattle.record.specs.Record.{levels, layoutOf, configBy, configOf, heldTop, isTable, poolFits, poolsFit, fitsOf, sizesFit, tablesFit, zeros, headOf, headRoot, withHead, withMarks}
+use Rattle.record.specs.Record.{levels, layoutOf, configBy, configOf, heldTop, isTable, poolFits, poolsFit, choicesFit, fitsOf, sizesFit, tablesFit, zeros, headOf, headRoot, withHead, withMarks}
 use Rattle.record.specs.Open.{refusalOf}
 
 both : (a b : Bool) → a && b ≡ true → (a ≡ true) × (b ≡ true)
@@ -60,27 +60,32 @@ sized l n f e =
       guest = ltb-true (l .hosts + l .shadows) (l .frames) (a .1);
     }
 
-pub sizes-say : (l : Layout) (len : ℕ) → l .levels ≡ levels → sizesFit l len ≡ true → Sized l
+-- the levels are a choice
+pub choices-levels : (l : Layout) → choicesFit l ≡ true → l .levels ≡ levels
+unfolding choicesFit
+choices-levels l e = eqb-true (l .levels) levels (both (eqb (l .levels) levels) (leb (l .bits) 1) e .0)
+
+pub sizes-say : (l : Layout) (len : ℕ) → choicesFit l ≡ true → sizesFit l len ≡ true → Sized l
 unfolding sizesFit
 sizes-say l len n e =
     let x = both (eqb len (l .frames * 512) && (ltb 0 (l .frames) && leb (l .frames) 65536)) (areasFit (config l)) e in
     let y = both (eqb len (l .frames * 512)) (ltb 0 (l .frames) && leb (l .frames) 65536) (x .0) in
     let z = both (ltb 0 (l .frames)) (leb (l .frames) 65536) (y .1) in
-    sized l n (leb-true (l .frames) 65536 (z .1)) (x .1)
+    sized l (choices-levels l n) (leb-true (l .frames) 65536 (z .1)) (x .1)
 
 -- a granted opening
-pub granted-tests : (words h s : ℕ) → refusalOf words h s ≡ 0 → (wordsFit words ≡ true) × (areasFit (configBy words h s) ≡ true)
+pub granted-tests : (words h s : ℕ) (b : Bool) → refusalOf words h s b ≡ 0 → (wordsFit words ≡ true) × (areasFit (configBy words h s b) ≡ true)
 unfolding refusalOf openRefusal
-granted-tests words h s e =
-    let t = all-held ((wordsFit words, 1) ∷ (areasFit (configBy words h s), 2) ∷ []) (omega arith, (omega arith, tt)) e in
+granted-tests words h s b e =
+    let t = all-held ((wordsFit words, 1) ∷ (areasFit (configBy words h s b), 2) ∷ []) (omega arith, (omega arith, tt)) e in
     (t .0, t .1 .0)
 
-pub granted-sized : (words h s : ℕ) → refusalOf words h s ≡ 0 → Sized (layoutOf words h s) × (words / 512 * 512 ≡ words)
-granted-sized words h s e =
-    let t = granted-tests words h s e in
+pub granted-sized : (words h s : ℕ) (b : Bool) → refusalOf words h s b ≡ 0 → Sized (layoutOf words h s b) × (words / 512 * 512 ≡ words)
+granted-sized words h s b e =
+    let t = granted-tests words h s b e in
     let w = both (eqb (words % 512) 0 && ltb 0 (words / 512)) (leb (words / 512) 65536) (t .0) in
     let d = eqb-true (words % 512) 0 (both (eqb (words % 512) 0) (ltb 0 (words / 512)) (w .0) .0) in
-    (sized (layoutOf words h s) refl (leb-true (words / 512) 65536 (w .1)) (t .1), omega arith)
+    (sized (layoutOf words h s b) refl (leb-true (words / 512) 65536 (w .1)) (t .1), omega arith)
 
 -- the ranges of a layout
 pub sized-layout : {l : Layout} → Sized l → LayoutFits l
@@ -157,6 +162,7 @@ holds-pool {a} {stays} {p} h = (h .tables .room, omega (arith, h .tables .count)
 -- ---- a record that breaks no rule
 pub record Fits (r : Record) (len : ℕ) : Type 0 where
   pub long : len ≡ r .layout .frames * 512
+  pub bits : r .layout .bits ≤ 1
   pub sizes : Sized (r .layout)
   pub root : r .guest .root .0 < 2 ^ frameBits (configOf r)
   pub marks : marksFit (configOf r) (marksOf (r .layout .levels) (r .guest .marks)) ≡ true
@@ -205,30 +211,30 @@ tested false true true false i p = refl
 tested false true false h i p = refl
 tested false false g h i p = refl
 
-pub fits-by : (r : Record) (len : ℕ) (b : Bool) → r .guest .marks .set < 2 ^ 64 → r .layout .levels ≤ 5
+pub fits-by : (r : Record) (len : ℕ) (b : Bool) → r .guest .marks .set < 2 ^ 64 → choicesFit (r .layout) ≡ true
     → b
-    ≡ (eqb (r .layout .levels) levels && sizesFit (r .layout) len && frameFits (configOf r) (r .guest .root .0)
+    ≡ (choicesFit (r .layout) && sizesFit (r .layout) len && frameFits (configOf r) (r .guest .root .0)
     && keysFit (r .layout .levels) (keysOf (r .guest .marks)) && tablesFit (r .layout) (r .guest .held .0) (r .pools))
     → b ≡ fitsOf r len
 unfolding fitsOf recordFits sizesFit tablesFit
 fits-by r len b l d e =
     let c = configOf r in
     let w = words-whole (r .layout .frames) in
-    rw (w .0, w .1, eq-eqb (r .layout .frames) (r .layout .frames) refl, marks-fit c (r .guest .marks) l (omega arith))
-    (e ∙ sym (tested (eqb (r .layout .levels) levels) (eqb len (r .layout .frames * 512) && (ltb 0 (r .layout .frames) && leb (r .layout .frames) 65536) && areasFit c)
+    rw (w .0, w .1, eq-eqb (r .layout .frames) (r .layout .frames) refl, marks-fit c (r .guest .marks) l (omega (arith, choices-levels (r .layout) d)))
+    (e ∙ sym (tested (choicesFit (r .layout)) (eqb len (r .layout .frames * 512) && (ltb 0 (r .layout .frames) && leb (r .layout .frames) 65536) && areasFit c)
     (frameFits c (r .guest .root .0)) (keysFit (r .layout .levels) (keysOf (r .guest .marks))) (topFits c (heldTop (r .guest .held .0))) (poolsFit (r .layout) (r .pools))))
 
--- another number of levels breaks the rule
-pub fits-levels : (r : Record) (len : ℕ) → eqb (r .layout .levels) levels ≡ false → fitsOf r len ≡ false
+-- a choice that no opening has breaks the rule
+pub fits-choices : (r : Record) (len : ℕ) → choicesFit (r .layout) ≡ false → fitsOf r len ≡ false
 unfolding fitsOf
-fits-levels r len e = rw e (go (recordFits _ len))
+fits-choices r len e = rw e (go (recordFits _ len))
   where
     go : (b : Bool) → b && false && poolsFit (r .layout) (r .pools) ≡ false
     go true = refl
     go false = refl
 
 pub fits-layout : (r : Record) (len : ℕ) → fitsOf r len ≡ true → Fits r len
-unfolding fitsOf recordFits poolsFit
+unfolding fitsOf recordFits poolsFit choicesFit
 fits-layout r len e =
     let c = configOf r in
     let f = r .layout .frames in
@@ -239,7 +245,7 @@ fits-layout r len e =
     let g = frameFits c (r .guest .root .0) in
     let h = marksFit c (marksOf (r .layout .levels) (r .guest .marks)) in
     let i = topFits c (heldTop (r .guest .held .0)) in
-    let n = eqb (r .layout .levels) levels in
+    let n = eqb (r .layout .levels) levels && leb (r .layout .bits) 1 in
     let x = isTable 0 (r .layout .hosts) (r .pools .host .top) in
     let y = poolFits 0 (r .layout .hosts) (r .pools .host) in
     let z = poolFits (r .layout .hosts) (r .layout .shadows) (r .pools .shadow) in
@@ -247,6 +253,7 @@ fits-layout r len e =
     let pools = both (x && y) z (last .1) in
     let host = both x y (pools .0) in
     let xn = both (a && b && d && q && g && h && i) n (last .0) in
+    let chosen = both (eqb (r .layout .levels) levels) (leb (r .layout .bits) 1) (xn .1) in
     let xi = both (a && b && d && q && g && h) i (xn .0) in
     let xh = both (a && b && d && q && g) h (xi .0) in
     let xg = both (a && b && d && q) g (xh .0) in
@@ -256,7 +263,8 @@ fits-layout r len e =
     let few = both (ltb 0 f) (leb f 65536) (sym (words-whole f .0) ∙ xb .1) in
     record {
       long = eqb-true len (f * 512) (xb .0);
-      sizes = sized (r .layout) (eqb-true (r .layout .levels) levels (xn .1)) (leb-true f 65536 (few .1)) (xd .1);
+      bits = leb-true (r .layout .bits) 1 (chosen .1);
+      sizes = sized (r .layout) (eqb-true (r .layout .levels) levels (chosen .0)) (leb-true f 65536 (few .1)) (xd .1);
       root = ltb-true (r .guest .root .0) (2 ^ frameBits c) (xg .1);
       marks = xh .1;
       held = held-fits c (r .guest .held .0) (xi .1);
@@ -270,7 +278,7 @@ sized-areas : {l : Layout} → Sized l → areasFit (config l) ≡ true
 sized-areas z = rw (le-leb _ _ (z .hosts), le-leb _ _ (z .shadows), lt-ltb _ _ (z .guest))
 
 pub fits-true : (r : Record) (len : ℕ) → Fits r len → fitsOf r len ≡ true
-unfolding fitsOf recordFits poolsFit
+unfolding fitsOf recordFits poolsFit choicesFit
 fits-true r len f =
     let z = f .sizes in
     let w = words-whole (r .layout .frames) in
@@ -287,6 +295,7 @@ fits-true r len f =
       f .marks,
       fits-held (configOf r) (r .guest .held .0) (f .held),
       eq-eqb _ _ (z .deep),
+      le-leb _ _ (f .bits),
       is-table 0 (r .layout .hosts) (r .pools .host .top) (f .top),
       fits-pool 0 (r .layout .hosts) (r .pools .host) (f .host),
       fits-pool (r .layout .hosts) (r .layout .shadows) (r .pools .shadow) (f .shadow),
@@ -298,6 +307,7 @@ module _ {r : Record} {len : ℕ} (f : Fits r len) where
   unfolding headRoot
   fits-root g l = record {
     long = f .long;
+    bits = f .bits;
     sizes = f .sizes;
     root = l;
     marks = f .marks;
@@ -311,6 +321,7 @@ module _ {r : Record} {len : ℕ} (f : Fits r len) where
   unfolding withMarks
   fits-marks t e = record {
     long = f .long;
+    bits = f .bits;
     sizes = f .sizes;
     root = f .root;
     marks = e;
@@ -326,5 +337,5 @@ fits-keys {r} l f = sym (marks-fit (configOf r) (r .guest .marks) l (omega (arit
 
 -- ---- a record of zeros breaks a rule on every memory
 pub zeros-refused : (len : ℕ) → fitsOf zeros len ≡ false
-unfolding zeros
-zeros-refused len = fits-levels zeros len refl
+unfolding zeros choicesFit
+zeros-refused len = fits-choices zeros len refl

@@ -1,7 +1,7 @@
 -- The opening of the unit on any memory. Document 01, "Open".
 -- Assumes nothing.
 use Prim.Native.Nat.{ℕ, _+_, _*_}
-use mathlib.Core.Bool.{cond}
+use mathlib.Core.Bool.{Bool, cond}
 use mathlib.Core.List.{List, []}
 use lib.Dec.{eqb}
 use lib.ListN.{length}
@@ -21,16 +21,16 @@ use Rattle.words.specs.After.{After, yields}
 use Rattle.pool.specs.declared.Went.{Went}
 
 -- the number with which an opening on that many words is refused, or 0
-unfoldable pub refusalOf : ℕ → ℕ → ℕ → ℕ
-refusalOf words h s = number (openRefusal (configBy words h s) words)
+unfoldable pub refusalOf : ℕ → ℕ → ℕ → Bool → ℕ
+refusalOf words h s bits = number (openRefusal (configBy words h s bits) words)
 
 -- the first n frames are cleared: an opening clears all host and shadow frames
 unfoldable pub clearedOf : List ℕ → ℕ → List ℕ
 clearedOf m n = zeroed m 0 (n * 512)
 
 -- the host tables' top table is handed out from the first host frame
-unfoldable pub enteredOf : List ℕ → ℕ → ℕ → After Went
-enteredOf m h s = enterOf (hostArea (configBy (length m) h s)) noneOf (clearedOf m (h + s)) 0
+unfoldable pub enteredOf : List ℕ → ℕ → ℕ → Bool → After Went
+enteredOf m h s bits = enterOf (hostArea (configBy (length m) h s bits)) noneOf (clearedOf m (h + s)) 0
 
 -- the record of a granted opening: root 0, no mark set, no path held
 unfoldable pub firstOf : Layout → Pool → Record
@@ -41,14 +41,14 @@ firstOf l p = record {
 }
 
 -- what a granted opening leaves
-unfoldable pub grantedOf : List ℕ → ℕ → ℕ → After Record
-grantedOf m h s = let t = enteredOf m h s in yields (firstOf (layoutOf (length m) h s) (t .result .pool)) (t .memory)
+unfoldable pub grantedOf : List ℕ → ℕ → ℕ → Bool → After Record
+grantedOf m h s bits = let t = enteredOf m h s bits in yields (firstOf (layoutOf (length m) h s bits) (t .result .pool)) (t .memory)
 
 abbrev pub granted : After Record → After Opened
 granted k = yields (record { unit = k .result; refusal = 0 }) (k .memory)
 
 -- a refused opening hands back a record of zeros and leaves every word
-unfoldable pub openOf : List ℕ → ℕ → ℕ → After Opened
-openOf m h s =
-    let n = refusalOf (length m) h s in
-    cond (eqb n 0) (granted (grantedOf m h s)) (yields (record { unit = zeros; refusal = n }) m)
+unfoldable pub openOf : List ℕ → ℕ → ℕ → Bool → After Opened
+openOf m h s bits =
+    let n = refusalOf (length m) h s bits in
+    cond (eqb n 0) (granted (grantedOf m h s bits)) (yields (record { unit = zeros; refusal = n }) m)

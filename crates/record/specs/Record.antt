@@ -26,12 +26,12 @@ use Rattle.record.specs.declared.Head.{Head}
 abbrev pub levels : ℕ
 levels = 4
 
--- the layout that an opening gives a memory of that many words, 512 to a frame
-abbrev pub layoutOf : ℕ → ℕ → ℕ → Layout
-layoutOf words h s = record { levels = levels; hosts = h; shadows = s; frames = words / 512 }
+-- the layout that an opening gives a memory of that many words, 512 to a frame. bits: it chooses accessed and dirty bits
+abbrev pub layoutOf : ℕ → ℕ → ℕ → Bool → Layout
+layoutOf words h s bits = record { levels = levels; hosts = h; shadows = s; frames = words / 512; bits = cond bits 1 0 }
 
-abbrev pub configBy : ℕ → ℕ → ℕ → Config
-configBy words h s = config (layoutOf words h s)
+abbrev pub configBy : ℕ → ℕ → ℕ → Bool → Config
+configBy words h s bits = config (layoutOf words h s bits)
 
 abbrev pub configOf : Record → Config
 configOf r = config (r .layout)
@@ -66,9 +66,13 @@ poolFits b s p = leb (p .fresh) s && leb (p .used) (p .fresh) && (eqb (p .top) 0
 unfoldable pub poolsFit : Layout → Pools → Bool
 poolsFit l p = isTable 0 (l .hosts) (p .host .top) && poolFits 0 (l .hosts) (p .host) && poolFits (l .hosts) (l .shadows) (p .shadow)
 
+-- what an opening chooses: the levels, and whether bits are set, which is 0 or 1
+unfoldable pub choicesFit : Layout → Bool
+choicesFit l = eqb (l .levels) levels && leb (l .bits) 1
+
 -- a record that does not meet 3 on a memory of that length
 unfoldable pub fitsOf : Record → ℕ → Bool
-fitsOf r len = recordFits (reading r) len && eqb (r .layout .levels) levels && poolsFit (r .layout) (r .pools)
+fitsOf r len = recordFits (reading r) len && choicesFit (r .layout) && poolsFit (r .layout) (r .pools)
 
 -- ---- in parts
 
@@ -100,7 +104,7 @@ headOf r = record {
 -- what a refused opening hands back; every later call refuses it with 3
 unfoldable pub zeros : Record
 zeros = record {
-  layout = record { levels = 0; hosts = 0; shadows = 0; frames = 0 };
+  layout = record { levels = 0; hosts = 0; shadows = 0; frames = 0; bits = 0 };
   pools = record { host = noneOf; shadow = noneOf };
   guest = record { root = guestFrame 0; held = page 0; marks = record { set = 0; place = replicate 64 0 } };
 }

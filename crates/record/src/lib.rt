@@ -10,7 +10,7 @@ ghost use mathlib.Core.Path.{_≡_};
 ghost use Rattle.spec.specs.Refusal.{wordsFit, areasFit, topFits};
 ghost use Rattle.layout.specs.Layout.{LayoutFits, config};
 ghost use Rattle.marks.specs.Table.{lookupIn};
-ghost use Rattle.record.specs.Record.{layoutOf, heldTop, isTable, poolFits, sizesFit, tablesFit, recordBy, headOf, fitsOf, zeros, headRoot, headTables, withHead, withMarks};
+ghost use Rattle.record.specs.Record.{layoutOf, heldTop, isTable, poolFits, choicesFit, sizesFit, tablesFit, recordBy, headOf, fitsOf, zeros, headRoot, headTables, withHead, withMarks};
 
 // Levels of the guest's tables and of the host's that an opening chooses.
 pub const LEVELS: u64 = 4;
@@ -51,19 +51,30 @@ pub struct Head {
     pub set: u64,
 }
 
-// How an opening lays out a memory of that many words.
-pub fn layout(words: u64, hosts: u64, shadows: u64) -> Layout
-    ensures { λ r. ⌜ r ≡ layoutOf words hosts shadows ⌝ }
+// How an opening lays out a memory of that many words; bits: whether it chooses accessed and dirty bits.
+pub fn layout(words: u64, hosts: u64, shadows: u64, bits: bool) -> Layout
+    ensures { λ r. ⌜ r ≡ layoutOf words hosts shadows bits ⌝ }
 {
     Layout {
         levels: LEVELS,
         hosts: hosts,
         shadows: shadows,
         frames: words / 512,
+        bits: if bits { 1 } else { 0 },
     }
 }
 
 // ---- the rules of a record
+
+// Are these choices that an opening has?
+fn choices_fit(l: Layout) -> bool
+    ensures { λ r. ⌜ r ≡ choicesFit l ⌝ }
+{
+    if l.levels != LEVELS {
+        return false;
+    }
+    l.bits <= 1
+}
 
 // Have the host tables and the shadow tables room, and is a guest frame left?
 pub fn areas_fit(l: Layout) -> bool
@@ -157,7 +168,7 @@ impl Head {
         ensures { λ r. ⌜ r ≡ fitsOf (recordBy self (now (place .entry))) len ⌝ }
     {
         let l = self.layout;
-        if l.levels != LEVELS {
+        if !choices_fit(l) {
             return false;
         }
         if !sizes_fit(l, len) {
@@ -201,6 +212,7 @@ impl Record {
                 hosts: 0,
                 shadows: 0,
                 frames: 0,
+                bits: 0,
             },
             pools: Pools {
                 host: pool::no_tables(),

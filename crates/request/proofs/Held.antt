@@ -1,7 +1,7 @@
 -- A request by the path held for it: through it, without it, or on damage. And that what it comes to is in range.
 -- Assumes nothing.
 use mathlib.Core.Path.{_≡_, refl, sym, ap, ap₂, _∙_, subst}
-use Prim.Native.Nat.{ℕ, _<_, _≤_}
+use Prim.Native.Nat.{ℕ, _+_, _<_, _≤_}
 use native.Mathlib.Nat.{zero-add}
 use native.Mathlib.Omega.{arith}
 use borrow.Author.Tests.{lt-ltb, le-ltb}
@@ -18,10 +18,11 @@ use Rattle.walk.specs.declared.Walked.{Walked}
 use Rattle.walk.specs.declared.Walked.the-variants as walked
 use Rattle.translate.specs.declared.Held.{Held}
 use Rattle.translate.specs.declared.Translated.{Translated}
-use Rattle.translate.specs.Translate.{HeldFits, translation, damaged, exitBy, directOf, servedOf, servesOf, foundOf, missedOf, foundBy, plainOf, translateOf, unservedOf}
+use Rattle.translate.specs.Translate.{HeldFits, translation, exitBy, directOf, servedOf, damaged, checkedOf, judgedBy, partOf, throughOf, unshadowedOf, servesOf, foundOf, missedOf, foundBy, translateOf, unservedOf}
 use Rattle.translate.proofs.Fits.{ArrivedIn, FoundIs, found-is}
+use Rattle.translate.proofs.Bits.{through-part}
 use Rattle.translate.proofs.Leaves.{Leaves, translate-leaves}
-use Rattle.request.specs.Access.{ReachesFrame, servingBy, pathHeldOf}
+use Rattle.request.specs.Access.{ReachesFrame, setBy, settledOf, servingBy, pathHeldOf, loadBy, loadFrom, storeBy, storeFrom}
 
 -- in the guest area, so below the limit
 reaches : (c : Config) (r : Walked) → c .frames ≤ 65536 → ArrivedIn c r → ReachesFrame r
@@ -32,14 +33,13 @@ reaches c walked.Damaged few g = tt
 module _ (c : Config) (ht : ℕ) (m : List ℕ) (h : Held) (root : ℕ) (st : Bool) (a d : ℕ) where
   -- what a request comes to through the path that leads to t
   abbrev pub through : HostPhysical → Bool → After Translated
-  through t w = let r = directOf c ht m st a d (t .0) w in yields (translation h (exitBy r) r) m
+  through t w = yields (throughOf c ht m h root st a d (t .0) w) m
 
   at-depth : d ≤ c .levels → translateOf c ht m h root st a d ≡ foundBy c ht m h root st a d (foundOf c m h a d)
   unfolding translateOf
-  at-depth l = ap (λ b. cond b (yields (plainOf c ht m h root st a) m) (foundBy c ht m h root st a d (foundOf c m h a d))) (le-ltb (c .levels) d l)
+  at-depth l = ap (λ b. cond b (yields (unshadowedOf c ht m h root st a d) m) (foundBy c ht m h root st a d (foundOf c m h a d))) (le-ltb (c .levels) d l)
 
   serves : (t : HostPhysical) (w : Bool) (x : HostWalk) → servingBy st d x ≡ host.Found t w → foundBy c ht m h root st a d x ≡ through t w
-  unfolding servedOf
   serves t w (host.Absent n) e = let z : _≡_ {A = ℕ} 0 1 = cc in absurd (omega arith)
   serves t w host.Damaged e = let z : _≡_ {A = ℕ} 0 1 = cc in absurd (omega arith)
   serves t w (host.Found u v) e = go (servesOf st d v) refl
@@ -49,9 +49,8 @@ module _ (c : Config) (ht : ℕ) (m : List ℕ) (h : Held) (root : ℕ) (st : Bo
           let f : host.Found u v ≡ host.Found t w = sym (ap (λ b. cond b (host.Found u v) (host.Absent 0)) q) ∙ e in
           let p : u ≡ t = cc in
           let r : v ≡ w = cc in
-          ap (λ b. cond b (yields (servedOf c ht m h st a d (u .0) v 0) m) (missedOf c ht m h root st a d)) q
-          ∙ ap₂ (λ x y. yields (servedOf c ht m h st a d (x .0) y 0) m) p r
-          ∙ ap (λ x. yields (translation h x (directOf c ht m st a d (t .0) w)) m) (zero-add (exitBy (directOf c ht m st a d (t .0) w)))
+          ap (λ b. cond b (yields (throughOf c ht m h root st a d (u .0) v) m) (missedOf c ht m h root st a d)) q
+          ∙ ap₂ (λ x y. yields (throughOf c ht m h root st a d (x .0) y) m) p r
       go false q =
           let f : host.Absent 0 ≡ host.Found t w = sym (ap (λ b. cond b (host.Found u v) (host.Absent 0)) q) ∙ e in
           let z : _≡_ {A = ℕ} 0 1 = cc in absurd (omega arith)
@@ -59,6 +58,22 @@ module _ (c : Config) (ht : ℕ) (m : List ℕ) (h : Held) (root : ℕ) (st : Bo
   pub path-serves : (t : HostPhysical) (w : Bool) → d ≤ c .levels → pathHeldOf c m h st a d ≡ host.Found t w → translateOf c ht m h root st a d ≡ through t w
   unfolding pathHeldOf
   path-serves t w l e = at-depth l ∙ serves t w (foundOf c m h a d) e
+
+  -- where its direct part lacks no bit it comes to what that came to, and is judged by its bits where one lacks
+  pub path-plainly : (t : HostPhysical) (w : Bool) → partOf c ht m st a d (t .0) w .lack ≡ false → d ≤ c .levels → pathHeldOf c m h st a d ≡ host.Found t w
+      → let r = directOf c ht m st a d (t .0) w in translateOf c ht m h root st a d ≡ yields (translation h (exitBy r) r false) m
+  unfolding servedOf
+  path-plainly t w none l e =
+      let r = directOf c ht m st a d (t .0) w in
+      path-serves t w l e ∙ ap (λ x. yields x m) (through-part c ht m h root st a d (t .0) w)
+      ∙ ap (λ b. yields (cond b (judgedBy h true (checkedOf c ht m root st a d) r) (translation h (0 + exitBy r) r false)) m) none
+      ∙ ap (λ x. yields (translation h x r false) m) (zero-add (exitBy r))
+
+  pub path-judged : (t : HostPhysical) (w : Bool) → partOf c ht m st a d (t .0) w .lack ≡ true → d ≤ c .levels → pathHeldOf c m h st a d ≡ host.Found t w
+      → translateOf c ht m h root st a d ≡ yields (judgedBy h true (checkedOf c ht m root st a d) (directOf c ht m st a d (t .0) w)) m
+  path-judged t w some l e =
+      path-serves t w l e ∙ ap (λ x. yields x m) (through-part c ht m h root st a d (t .0) w)
+      ∙ ap (λ b. yields (cond b (judgedBy h true (checkedOf c ht m root st a d) (directOf c ht m st a d (t .0) w)) (servedOf c ht m h st a d (t .0) w 0)) m) some
 
   misses : (n : ℕ) (x : HostWalk) → servingBy st d x ≡ host.Absent n → foundBy c ht m h root st a d x ≡ missedOf c ht m h root st a d
   misses n (host.Absent k) e = refl
@@ -69,20 +84,20 @@ module _ (c : Config) (ht : ℕ) (m : List ℕ) (h : Held) (root : ℕ) (st : Bo
       go true q =
           let f : host.Found u v ≡ host.Absent n = sym (ap (λ b. cond b (host.Found u v) (host.Absent 0)) q) ∙ e in
           let z : _≡_ {A = ℕ} 0 1 = cc in absurd (omega arith)
-      go false q = ap (λ b. cond b (yields (servedOf c ht m h st a d (u .0) v 0) m) (missedOf c ht m h root st a d)) q
+      go false q = ap (λ b. cond b (yields (throughOf c ht m h root st a d (u .0) v) m) (missedOf c ht m h root st a d)) q
 
   -- no path serves: none does, or the depth is more than all levels
   pub path-missed : (n : ℕ) → d ≤ c .levels → pathHeldOf c m h st a d ≡ host.Absent n → translateOf c ht m h root st a d ≡ unservedOf c ht m h root st a d
   unfolding pathHeldOf unservedOf
   path-missed n l e =
       at-depth l ∙ misses n (foundOf c m h a d) e
-      ∙ sym (ap (λ b. cond b (yields (plainOf c ht m h root st a) m) (missedOf c ht m h root st a d)) (le-ltb (c .levels) d l))
+      ∙ sym (ap (λ b. cond b (yields (unshadowedOf c ht m h root st a d) m) (missedOf c ht m h root st a d)) (le-ltb (c .levels) d l))
 
   pub path-none : c .levels < d → translateOf c ht m h root st a d ≡ unservedOf c ht m h root st a d
   unfolding translateOf unservedOf
   path-none l =
-      ap (λ b. cond b (yields (plainOf c ht m h root st a) m) (foundBy c ht m h root st a d (foundOf c m h a d))) (lt-ltb (c .levels) d l)
-      ∙ sym (ap (λ b. cond b (yields (plainOf c ht m h root st a) m) (missedOf c ht m h root st a d)) (lt-ltb (c .levels) d l))
+      ap (λ b. cond b (yields (unshadowedOf c ht m h root st a d) m) (foundBy c ht m h root st a d (foundOf c m h a d))) (lt-ltb (c .levels) d l)
+      ∙ sym (ap (λ b. cond b (yields (unshadowedOf c ht m h root st a d) m) (missedOf c ht m h root st a d)) (lt-ltb (c .levels) d l))
 
   breaks : (x : HostWalk) → servingBy st d x ≡ host.Damaged → foundBy c ht m h root st a d x ≡ damaged h m
   breaks (host.Absent k) e = let z : _≡_ {A = ℕ} 0 1 = cc in absurd (omega arith)
@@ -131,3 +146,30 @@ module _ (c : Config) (ht : ℕ) (m : List ℕ) (h : Held) (root : ℕ) (st : Bo
 
     pub reaches-as : (o : After Translated) → c .frames ≤ 65536 → translateOf c ht m h root st a d ≡ o → ReachesFrame (o .result .walked)
     reaches-as o few e = reaches c (o .result .walked) few (leaves-as o e .arrived)
+
+-- ---- with no bit to set
+
+module _ (c : Config) (ht root : ℕ) (h k : Held) (a w : ℕ) where
+  -- a load whose bits, if any, are set is as one with none to set, in the memory that they leave
+  pub load-said : (e : ℕ) (r : Walked) (sets : Bool) (m : List ℕ)
+      → loadBy h a w (λ x. x) (yields (translation k e r false) (setBy r (settledOf c ht root false a sets m) m)) r ≡ loadFrom c ht root h a w (yields (translation k e r sets) m)
+  load-said e (walked.Arrived t y n) sets m = refl
+  load-said e (walked.Faulted x n) sets m = refl
+  load-said e walked.Damaged sets m = refl
+
+  pub load-plainly : (e : ℕ) (r : Walked) (m : List ℕ) → loadBy h a w (λ x. x) (yields (translation k e r false) m) r ≡ loadFrom c ht root h a w (yields (translation k e r false) m)
+  unfolding settledOf
+  load-plainly e (walked.Arrived t y n) m = refl
+  load-plainly e (walked.Faulted x n) m = refl
+  load-plainly e walked.Damaged m = refl
+
+  pub store-plainly : (v e : ℕ) (r : Walked) (m : List ℕ) → storeBy c h a w v (λ x. x) (yields (translation k e r false) m) r ≡ storeFrom c ht root h a w v (yields (translation k e r false) m)
+  unfolding settledOf
+  store-plainly v e (walked.Arrived t y n) m = refl
+  store-plainly v e (walked.Faulted x n) m = refl
+  store-plainly v e walked.Damaged m = refl
+
+pub set-none : (r : Walked) (m : List ℕ) → setBy r m m ≡ m
+set-none (walked.Arrived t y n) m = refl
+set-none (walked.Faulted x n) m = refl
+set-none walked.Damaged m = refl

@@ -8,6 +8,7 @@ use Rattle.spec.specs.declared.Answer.the-variants as answer
 use Rattle.spec.specs.Config.{Config}
 use Rattle.spec.specs.Entry.{pageOf, wordOf, frameLimit}
 use Rattle.spec.specs.Bytes.{bytesAt, withBytes}
+use Rattle.spec.specs.Walk.{trace}
 use Rattle.spec.specs.Plain.{next}
 use Rattle.words.specs.After.{After, yields}
 use Rattle.words.specs.Words.{wordIn, setIn}
@@ -17,7 +18,8 @@ use Rattle.layout.specs.declared.HostWalk.the-variants as host
 use Rattle.layout.specs.Layout.{page}
 use Rattle.walk.specs.declared.Walked.{Walked}
 use Rattle.walk.specs.declared.Walked.the-variants as walked
-use Rattle.walk.specs.Memory.{walkedOf}
+use Rattle.walk.specs.Memory.{memoryWorld, walkedOf}
+use Rattle.accessed.specs.Entries.{bitsIn}
 use Rattle.drops.specs.declared.Left.{Left}
 use Rattle.drops.specs.declared.Cut.the-variants.{Word}
 use Rattle.shadow.specs.Watch.{watchedOf}
@@ -26,7 +28,7 @@ use Rattle.translate.specs.declared.Held.{Held}
 use Rattle.request.specs.declared.Put.{Put}
 use Rattle.request.specs.declared.Served.{Served}
 use Rattle.translate.specs.declared.Translated.{Translated}
-use Rattle.translate.specs.Translate.{exitBy, servesOf, foundOf, translateOf}
+use Rattle.translate.specs.Translate.{exitBy, whole, servesOf, foundOf, translateOf}
 
 -- what a request leaves
 abbrev pub serving : Held → Answer → List ℕ → After Served
@@ -36,28 +38,42 @@ serving h x m = yields (record { held = h; answer = x }) m
 abbrev pub refused : Held → ℕ → List ℕ → After Served
 refused h n m = serving h (answer.Refused n) m
 
+-- ---- the bits of a request
+
+abbrev pub setBy : Walked → List ℕ → List ℕ → List ℕ
+setBy (walked.Arrived t w n) set m = set
+setBy (walked.Faulted x n) set m = m
+setBy walked.Damaged set m = m
+
+-- the memory with the bits of a request's whole walk; as it was, where by other hands' doing that walk ends before its page
+unfoldable pub bitsOf : Config → ℕ → List ℕ → ℕ → Bool → ℕ → List ℕ
+bitsOf c ht m root st a =
+    setBy (walkedOf c ht m 0 (whole c st root a)) (bitsIn st m ((trace (memoryWorld c ht m) (whole c st root a)) .reads)) m
+
+-- with them if they are to be set
+unfoldable pub settledOf : Config → ℕ → ℕ → Bool → ℕ → Bool → List ℕ → List ℕ
+settledOf c ht root st a sets m = cond sets (bitsOf c ht m root st a) m
+
 -- ---- the word of a store
 
-abbrev pub stored : Pool → ℕ → Bool → List ℕ → After Put
-stored p e b m = yields (record { pool = p; exits = e; ok = b }) m
+abbrev pub put : Pool → ℕ → Bool → List ℕ → After Put
+put p e b m = yields (record { pool = p; exits = e; ok = b }) m
 
--- the drops are found before the word is written, so that damage met on the way has changed no guest word
-abbrev pub putBy : Pool → ℕ → ℕ → ℕ → After Left → After Put
-putBy p t i v o = cond (o .result .ok) (stored (o .result .pool) 1 true (setIn (o .memory) t i v)) (stored p 0 false (o .memory))
+abbrev pub droppedBy : Pool → After Left → After Put
+droppedBy p o = cond (o .result .ok) (put (o .result .pool) 1 true (o .memory)) (put p 0 false (o .memory))
 
--- word i of host frame t gets v: if the frame is watched that is an exit, and the paths that read the word are dropped; a frame
--- that is not watched has no word that a held path read
-unfoldable pub putWordOf : Config → List ℕ → Pool → ℕ → ℕ → ℕ → After Put
-putWordOf c m p t i v =
-    cond (watchedOf c m (p .fresh) t) (putBy p t i v (scanOf c (Word (page t) i) p m)) (stored p 0 true (setIn m t i v))
+-- before word i of host frame t is stored to: if the frame is watched that is an exit, and the paths that read the word are dropped; a
+-- frame that is not watched has no word that a held path read. No guest word is changed yet, so damage met here has changed none
+unfoldable pub droppedOf : Config → List ℕ → Pool → ℕ → ℕ → After Put
+droppedOf c m p t i = cond (watchedOf c m (p .fresh) t) (droppedBy p (scanOf c (Word (page t) i) p m)) (put p 0 true m)
 
 -- w bytes at the address a lie in one word
 abbrev pub Inside : ℕ → ℕ → Type 0
 Inside a w = (0 < w) × (a % 8 + w ≤ 8)
 
--- they get the low bytes of v: the word around them is stored with the rest of it as it is
-abbrev pub putBytesOf : Config → List ℕ → Pool → ℕ → ℕ → ℕ → ℕ → After Put
-putBytesOf c m p t a w v = putWordOf c m p t (wordOf a) (withBytes a w v (wordIn m t (wordOf a)))
+-- in the host frame t they get the low bytes of v: the word around them is stored with the rest of it as it is
+abbrev pub bytesIn : List ℕ → ℕ → ℕ → ℕ → ℕ → List ℕ
+bytesIn m t a w v = setIn m t (wordOf a) (withBytes a w v (wordIn m t (wordOf a)))
 
 -- a walk that arrives does so at a frame that an entry can name
 abbrev pub ReachesFrame : Walked → Type 0
@@ -78,42 +94,45 @@ pathHeldOf c m h st a d = servingBy st d (foundOf c m h a d)
 
 -- ---- load
 
--- of w bytes; h: what was held when the load came
-abbrev pub loadBy : Held → ℕ → ℕ → After Translated → Walked → After Served
-loadBy h a w o (walked.Arrived t y n) = serving (o .result .held) (answer.Value (bytesAt a w (wordIn (o .memory) (t .0) (wordOf a))) n (o .result .exits)) (o .memory)
-loadBy h a w o (walked.Faulted x n) = serving (o .result .held) (answer.Faulted x n (o .result .exits)) (o .memory)
-loadBy h a w o walked.Damaged = refused h 11 (o .memory)
+-- of w bytes, with what its bits leave (set); h: what was held when the load came
+abbrev pub loadBy : Held → ℕ → ℕ → (List ℕ → List ℕ) → After Translated → Walked → After Served
+loadBy h a w set o (walked.Arrived t y n) =
+    let m : List ℕ = set (o .memory) in
+    serving (o .result .held) (answer.Value (bytesAt a w (wordIn m (t .0) (wordOf a))) n (o .result .exits)) m
+loadBy h a w set o (walked.Faulted x n) = serving (o .result .held) (answer.Faulted x n (o .result .exits)) (o .memory)
+loadBy h a w set o walked.Damaged = refused h 11 (o .memory)
 
-abbrev pub loadFrom : Held → ℕ → ℕ → After Translated → After Served
-loadFrom h a w o = loadBy h a w o (o .result .walked)
+abbrev pub loadFrom : Config → ℕ → ℕ → Held → ℕ → ℕ → After Translated → After Served
+loadFrom c ht root h a w o = loadBy h a w (settledOf c ht root false a (o .result .sets)) o (o .result .walked)
 
 unfoldable pub loadOf : Config → ℕ → List ℕ → Held → ℕ → ℕ → ℕ → ℕ → After Served
-loadOf c ht m h root a w d = loadFrom h a w (translateOf c ht m h root false a d)
+loadOf c ht m h root a w d = loadFrom c ht root h a w (translateOf c ht m h root false a d)
 
 -- ---- store
 
--- a store that came to its word, with what is held then: n references, e exits so far
-abbrev pub writtenBy : Held → Held → ℕ → ℕ → After Put → After Served
-writtenBy h held n e s =
-    cond (s .result .ok)
-    (serving (record { pool = s .result .pool; frame = held .frame }) (answer.Done n (e + s .result .exits)) (s .memory))
-    (refused h 11 (s .memory))
+-- its bytes are written in host frame t, after n references and e exits; held: what was held before its drops, which left u
+abbrev pub finishBy : Held → ℕ → ℕ → ℕ → ℕ → ℕ → ℕ → Put → List ℕ → After Served
+finishBy held n e t a w v u m = serving (record { pool = u .pool; frame = held .frame }) (answer.Done n (e + u .exits)) (bytesIn m t a w v)
 
-abbrev pub storeBy : Config → Held → ℕ → ℕ → ℕ → After Translated → Walked → After Served
-storeBy c h a w v o (walked.Arrived t y n) =
-    writtenBy h (o .result .held) n (o .result .exits) (putBytesOf c (o .memory) (o .result .held .pool) (t .0) a w v)
-storeBy c h a w v o (walked.Faulted x n) = serving (o .result .held) (answer.Faulted x n (o .result .exits)) (o .memory)
-storeBy c h a w v o walked.Damaged = refused h 11 (o .memory)
+-- a store that came to its word, with what is held then and what its drops left: its bits are set, then its bytes
+abbrev pub writtenBy : Held → Held → ℕ → ℕ → ℕ → ℕ → ℕ → ℕ → (List ℕ → List ℕ) → After Put → After Served
+writtenBy h held n e t a w v set s = cond (s .result .ok) (finishBy held n e t a w v (s .result) (set (s .memory))) (refused h 11 (s .memory))
 
-abbrev pub storeFrom : Config → Held → ℕ → ℕ → ℕ → After Translated → After Served
-storeFrom c h a w v o = storeBy c h a w v o (o .result .walked)
+abbrev pub storeBy : Config → Held → ℕ → ℕ → ℕ → (List ℕ → List ℕ) → After Translated → Walked → After Served
+storeBy c h a w v set o (walked.Arrived t y n) =
+    writtenBy h (o .result .held) n (o .result .exits) (t .0) a w v set (droppedOf c (o .memory) (o .result .held .pool) (t .0) (wordOf a))
+storeBy c h a w v set o (walked.Faulted x n) = serving (o .result .held) (answer.Faulted x n (o .result .exits)) (o .memory)
+storeBy c h a w v set o walked.Damaged = refused h 11 (o .memory)
+
+abbrev pub storeFrom : Config → ℕ → ℕ → Held → ℕ → ℕ → ℕ → After Translated → After Served
+storeFrom c ht root h a w v o = storeBy c h a w v (settledOf c ht root true a (o .result .sets)) o (o .result .walked)
 
 unfoldable pub storeOf : Config → ℕ → List ℕ → Held → ℕ → ℕ → ℕ → ℕ → ℕ → After Served
-storeOf c ht m h root a w d v = storeFrom c h a w v (translateOf c ht m h root true a d)
+storeOf c ht m h root a w d v = storeFrom c ht root h a w v (translateOf c ht m h root true a d)
 
--- a device store counts the words of its host walk; H or W is an exit, and so is a granted store into a watched frame
+-- a device store counts the words of its host walk; H or W is an exit, and so is a granted store into a watched frame. It sets no bits
 abbrev pub deviceBy : Config → List ℕ → Held → ℕ → ℕ → ℕ → Walked → After Served
-deviceBy c m h a w v (walked.Arrived t y n) = writtenBy h h n 0 (putBytesOf c m (h .pool) (t .0) a w v)
+deviceBy c m h a w v (walked.Arrived t y n) = writtenBy h h n 0 (t .0) a w v (λ x. x) (droppedOf c m (h .pool) (t .0) (wordOf a))
 deviceBy c m h a w v (walked.Faulted x n) = serving h (answer.Faulted x n (exitBy (walked.Faulted x n))) m
 deviceBy c m h a w v walked.Damaged = refused h 11 m
 

@@ -1,5 +1,6 @@
 // Load, store and device store: from an address and its depth to the bytes read or written, and the held paths that a store drops.
 ghost use mathlib.Core.Path.{_≡_};
+ghost use mathlib.Core.Bool.{false};
 ghost use Prim.Native.Nat.{_<_, _≤_};
 ghost use Rattle.spec.specs.Bytes.{bytesAt, withBytes};
 ghost use Rattle.spec.specs.Entry.{wordOf, frameLimit};
@@ -7,7 +8,7 @@ ghost use Rattle.words.specs.After.{yields};
 ghost use Rattle.words.specs.Words.{wordIn};
 ghost use Rattle.layout.specs.Layout.{LayoutFits, config};
 ghost use Rattle.translate.specs.Translate.{HeldFits, translation};
-ghost use Rattle.request.specs.Access.{Inside, ReachesFrame, putWordOf, pathHeldOf, loadBy, loadOf, writtenBy, storeBy, storeOf, deviceOf};
+ghost use Rattle.request.specs.Access.{Inside, ReachesFrame, setBy, bitsOf, settledOf, droppedOf, bytesIn, pathHeldOf, loadBy, loadOf, finishBy, writtenBy, storeBy, storeFrom, storeOf, deviceOf};
 use entry::GuestPhysical;
 use entry::GuestVirtual;
 use entry::HostPhysical;
@@ -18,6 +19,7 @@ use pool::Pool;
 use spec::Answer;
 use translate::Held;
 use translate::Request;
+use translate::Translated;
 use walk::Walked;
 
 // What a request leaves: what is held then, and its answer.
@@ -64,32 +66,37 @@ fn with_bytes(mem: &[u64], page: HostPhysical, address: u64, width: u64, value: 
     words::with_part(word, 8 * width, 8 * (address % 8), value)
 }
 
-// The word of a page around an address gets the value, and the held paths whose shadow part read it are dropped. The drops are found
-// before the word is written, so that damage met on the way has changed no guest word.
-fn put_word(
+// The bytes of a page at that address get the low bytes of the value.
+fn put_bytes(mem: &mut [u64], page: HostPhysical, address: u64, width: u64, value: u64)
+    requires { ⌜ (page .0 < frameLimit) × (Inside address width) ⌝ }
+    ensures { λ r. ⌜ now (mem .exit) ≡ bytesIn (now (mem .entry)) (page .0) address width value ⌝ }
+{
+    let word = with_bytes(mem, page, address, width, value);
+    words::set_in(mem, page.0, word_of(address), word);
+}
+
+// Before the word of a page around an address is stored to: the held paths whose shadow part read it are dropped. The word is written
+// afterwards, so that damage met here has changed no guest word.
+fn drop_readers(
     mem: &mut [u64],
     layout: Layout,
     pool: Pool,
     page: HostPhysical,
     address: u64,
-    value: u64,
 ) -> Put
     requires { ⌜ (LayoutFits layout) × (pool .fresh ≤ layout .shadows) × (page .0 < frameLimit) ⌝ }
-    ensures { λ r. ⌜ yields r (now (mem .exit)) ≡ putWordOf (config layout) (now (mem .entry)) pool (page .0) (wordOf address) value ⌝ }
+    ensures { λ r. ⌜ yields r (now (mem .exit)) ≡ droppedOf (config layout) (now (mem .entry)) pool (page .0) (wordOf address) ⌝ }
 {
-    let i = word_of(address);
     if !shadow::watched(mem, layout, pool.fresh, page) {
-        words::set_in(mem, page.0, i, value);
         return Put {
             pool: pool,
             exits: 0,
             ok: true,
         };
     }
-    let left = drops::drop_word(mem, layout, pool, page, i);
+    let left = drops::drop_word(mem, layout, pool, page, word_of(address));
     let after = left.pool;
     if left.ok {
-        words::set_in(mem, page.0, i, value);
         return Put {
             pool: after,
             exits: 1,
@@ -100,6 +107,58 @@ fn put_word(
         pool: pool,
         exits: 0,
         ok: false,
+    }
+}
+
+// ---- the bits
+
+// The accessed and dirty bits of a request's whole walk are set.
+fn set_own(mem: &mut [u64], space: Space, root: GuestPhysical, store: bool, address: GuestVirtual)
+    requires { ⌜ LayoutFits (space .layout) ⌝ }
+    ensures { λ r. ⌜ now (mem .exit) ≡ bitsOf (config (space .layout)) (space .top) (now (mem .entry)) (root .0) store (address .0) ⌝ }
+{
+    let trail = translate::whole(mem, space, store, root, address);
+    let walked = trail.walked;
+    match walked {
+        Walked::Arrived {
+            page,
+            writable,
+            reads,
+        } => {
+            let number = address.page();
+            accessed::set_bits(mem, store, number, space.layout.levels, &trail.tables);
+        }
+        Walked::Faulted { fault, reads } => {}
+        Walked::Damaged => {}
+    }
+}
+
+// They are set if they are to be and the request came to its word.
+fn settle(
+    mem: &mut [u64],
+    space: Space,
+    root: GuestPhysical,
+    store: bool,
+    address: GuestVirtual,
+    walked: Walked,
+    sets: bool,
+)
+    requires { ⌜ LayoutFits (space .layout) ⌝ }
+    ensures { λ r. ⌜ now (mem .exit) ≡ setBy walked (settledOf (config (space .layout)) (space .top) (root .0) store (address .0) sets (now (mem .entry))) (now (mem .entry)) ⌝ }
+{
+    if !sets {
+        return;
+    }
+    match walked {
+        Walked::Arrived {
+            page,
+            writable,
+            reads,
+        } => {
+            set_own(mem, space, root, store, address);
+        }
+        Walked::Faulted { fault, reads } => {}
+        Walked::Damaged => {}
     }
 }
 
@@ -142,7 +201,7 @@ fn path_held(
     }
 }
 
-// What a load says that came so far; before: what was held when it came.
+// What a load says that came so far, its bits set; before: what was held when it came.
 fn loaded(
     mem: &[u64],
     before: Held,
@@ -153,7 +212,7 @@ fn loaded(
     width: u64,
 ) -> Served
     requires { ⌜ (ReachesFrame walked) × (Inside address width) ⌝ }
-    ensures { λ r. ⌜ yields r (now (mem .entry)) ≡ loadBy before address width (yields (translation held exits walked) (now (mem .entry))) walked ⌝ }
+    ensures { λ r. ⌜ yields r (now (mem .entry)) ≡ loadBy before address width (λ m. m) (yields (translation held exits walked false) (now (mem .entry))) walked ⌝ }
 {
     match walked {
         Walked::Arrived {
@@ -201,9 +260,22 @@ pub fn load(
     if depth <= space.layout.levels {
         match path_held(mem, space.layout, held, false, address, depth) {
             HostWalk::Found { page, writable } => {
-                let walked = translate::direct(mem, space, request, page, writable);
-                let exits = translate::exit_of(walked);
-                return loaded(mem, held, held, walked, exits, address.0, width);
+                if translate::bitless(space.layout, depth) {
+                    let walked = translate::direct(mem, space, request, page, writable);
+                    let exits = translate::exit_of(walked);
+                    return loaded(mem, held, held, walked, exits, address.0, width);
+                }
+                let part = translate::direct_part(mem, space, request, page, writable);
+                let walked = part.walked;
+                if !part.lack {
+                    let exits = translate::exit_of(walked);
+                    return loaded(mem, held, held, walked, exits, address.0, width);
+                }
+                let t = translate::judged(mem, space, root, held, request, walked);
+                let end = t.walked;
+                let after = t.held;
+                settle(mem, space, root, false, address, end, t.sets);
+                return loaded(mem, held, after, end, t.exits, address.0, width);
             }
             HostWalk::Absent { reads } => {}
             HostWalk::Damaged => {
@@ -212,13 +284,44 @@ pub fn load(
         }
     }
     let t = translate::unserved(mem, space, root, held, request);
-    let walked = t.walked;
+    let end = t.walked;
     let after = t.held;
-    loaded(mem, held, after, walked, t.exits, address.0, width)
+    settle(mem, space, root, false, address, end, t.sets);
+    loaded(mem, held, after, end, t.exits, address.0, width)
 }
 
-// A store that was granted: the word around its bytes is written, after so many references and exits; before: what was held when it
-// came.
+// The bytes of a granted store are written, and what it says; put: what its drops left.
+fn finish(
+    mem: &mut [u64],
+    held: Held,
+    put: Put,
+    page: HostPhysical,
+    address: u64,
+    width: u64,
+    value: u64,
+    references: u64,
+    exits: u64,
+) -> Served
+    requires { ⌜ (page .0 < frameLimit) × (Inside address width) × (exits ≤ 65536) × (put .exits ≤ 65536) ⌝ }
+    ensures { λ r. ⌜ yields r (now (mem .exit)) ≡ finishBy held references exits (page .0) address width value put (now (mem .entry)) ⌝ }
+{
+    put_bytes(mem, page, address, width, value);
+    let pool = put.pool;
+    let frame = held.frame;
+    Served {
+        held: Held {
+            pool: pool,
+            frame: frame,
+        },
+        answer: Answer::Done {
+            references: references,
+            exits: exits + put.exits,
+        },
+    }
+}
+
+// A granted store with no bit to set: the paths that read its word are dropped, then its bytes are written. before: what was held when
+// it came.
 fn written(
     mem: &mut [u64],
     layout: Layout,
@@ -226,32 +329,32 @@ fn written(
     held: Held,
     page: HostPhysical,
     address: u64,
-    word: u64,
+    width: u64,
+    value: u64,
     references: u64,
     exits: u64,
 ) -> Served
-    requires { ⌜ (LayoutFits layout) × (held .pool .fresh ≤ layout .shadows) × (page .0 < frameLimit) × (exits ≤ 65536) ⌝ }
-    ensures { λ r. ⌜ yields r (now (mem .exit)) ≡ writtenBy before held references exits (putWordOf (config layout) (now (mem .entry)) (held .pool) (page .0) (wordOf address) word) ⌝ }
+    requires { ⌜ (LayoutFits layout) × (held .pool .fresh ≤ layout .shadows) × (page .0 < frameLimit) × (Inside address width) × (exits ≤ 65536) ⌝ }
+    ensures { λ r. ⌜ yields r (now (mem .exit)) ≡ writtenBy before held references exits (page .0) address width value (λ m. m) (droppedOf (config layout) (now (mem .entry)) (held .pool) (page .0) (wordOf address)) ⌝ }
 {
-    let put = put_word(mem, layout, held.pool, page, address, word);
-    let pool = put.pool;
-    let frame = held.frame;
-    if put.ok {
-        return Served {
-            held: Held {
-                pool: pool,
-                frame: frame,
-            },
-            answer: Answer::Done {
-                references: references,
-                exits: exits + put.exits,
-            },
-        };
+    let put = drop_readers(mem, layout, held.pool, page, address);
+    if !put.ok {
+        return refused(before, 11);
     }
-    refused(before, 11)
+    finish(
+        mem,
+        held,
+        put,
+        page,
+        address,
+        width,
+        value,
+        references,
+        exits,
+    )
 }
 
-// What a store does that came so far; before: what was held when it came.
+// What a store does that came so far, with no bit to set.
 fn stored(
     mem: &mut [u64],
     layout: Layout,
@@ -264,23 +367,82 @@ fn stored(
     value: u64,
 ) -> Served
     requires { ⌜ (LayoutFits layout) × (held .pool .fresh ≤ layout .shadows) × (ReachesFrame walked) × (Inside address width) × (exits ≤ 65536) ⌝ }
-    ensures { λ r. ⌜ yields r (now (mem .exit)) ≡ storeBy (config layout) before address width value (yields (translation held exits walked) (now (mem .entry))) walked ⌝ }
+    ensures { λ r. ⌜ yields r (now (mem .exit)) ≡ storeBy (config layout) before address width value (λ m. m) (yields (translation held exits walked false) (now (mem .entry))) walked ⌝ }
 {
     match walked {
         Walked::Arrived {
             page,
             writable,
             reads,
-        } => {
-            let word = with_bytes(mem, page, address, width, value);
-            written(mem, layout, before, held, page, address, word, reads, exits)
-        }
+        } => written(
+            mem,
+            layout,
+            before,
+            held,
+            page,
+            address,
+            width,
+            value,
+            reads,
+            exits,
+        ),
         Walked::Faulted { fault, reads } => Served {
             held: held,
             answer: Answer::Faulted {
                 fault: fault,
                 references: reads,
                 exits: exits,
+            },
+        },
+        Walked::Damaged => refused(before, 11),
+    }
+}
+
+// The same of one that may have bits to set: after the drops, which may meet damage, and before its bytes.
+fn stored_by_bits(
+    mem: &mut [u64],
+    space: Space,
+    root: GuestPhysical,
+    before: Held,
+    t: Translated,
+    address: GuestVirtual,
+    width: u64,
+    value: u64,
+) -> Served
+    requires { ⌜ (LayoutFits (space .layout)) × (t .held .pool .fresh ≤ space .layout .shadows) × (ReachesFrame (t .walked)) × (Inside (address .0) width) × (t .exits ≤ 65536) ⌝ }
+    ensures { λ r. ⌜ yields r (now (mem .exit)) ≡ storeFrom (config (space .layout)) (space .top) (root .0) before (address .0) width value (yields t (now (mem .entry))) ⌝ }
+{
+    let walked = t.walked;
+    let held = t.held;
+    match walked {
+        Walked::Arrived {
+            page,
+            writable,
+            reads,
+        } => {
+            let put = drop_readers(mem, space.layout, held.pool, page, address.0);
+            if !put.ok {
+                return refused(before, 11);
+            }
+            settle(mem, space, root, true, address, walked, t.sets);
+            finish(
+                mem,
+                held,
+                put,
+                page,
+                address.0,
+                width,
+                value,
+                reads,
+                t.exits,
+            )
+        }
+        Walked::Faulted { fault, reads } => Served {
+            held: held,
+            answer: Answer::Faulted {
+                fault: fault,
+                references: reads,
+                exits: t.exits,
             },
         },
         Walked::Damaged => refused(before, 11),
@@ -309,19 +471,23 @@ pub fn store(
     if depth <= space.layout.levels {
         match path_held(mem, space.layout, held, true, address, depth) {
             HostWalk::Found { page, writable } => {
-                let walked = translate::direct(mem, space, request, page, writable);
-                let exits = translate::exit_of(walked);
-                return stored(
-                    mem,
-                    space.layout,
-                    held,
-                    held,
-                    walked,
-                    exits,
-                    address.0,
-                    width,
-                    value,
-                );
+                if translate::bitless(space.layout, depth) {
+                    let walked = translate::direct(mem, space, request, page, writable);
+                    let exits = translate::exit_of(walked);
+                    return stored(
+                        mem,
+                        space.layout,
+                        held,
+                        held,
+                        walked,
+                        exits,
+                        address.0,
+                        width,
+                        value,
+                    );
+                }
+                let t = translate::through(mem, space, root, held, request, page, writable);
+                return stored_by_bits(mem, space, root, held, t, address, width, value);
             }
             HostWalk::Absent { reads } => {}
             HostWalk::Damaged => {
@@ -330,22 +496,10 @@ pub fn store(
         }
     }
     let t = translate::unserved(mem, space, root, held, request);
-    let walked = t.walked;
-    let after = t.held;
-    stored(
-        mem,
-        space.layout,
-        held,
-        after,
-        walked,
-        t.exits,
-        address.0,
-        width,
-        value,
-    )
+    stored_by_bits(mem, space, root, held, t, address, width, value)
 }
 
-// A device's store at a guest-physical address: its host walk, then the bytes as for a store: 11.
+// A device's store at a guest-physical address: its host walk, then the bytes as for a store; no bits: 11.
 pub fn device_store(
     mem: &mut [u64],
     space: Space,
@@ -363,10 +517,18 @@ pub fn device_store(
             page,
             writable,
             reads,
-        } => {
-            let word = with_bytes(mem, page, address, width, value);
-            written(mem, space.layout, held, held, page, address, word, reads, 0)
-        }
+        } => written(
+            mem,
+            space.layout,
+            held,
+            held,
+            page,
+            address,
+            width,
+            value,
+            reads,
+            0,
+        ),
         Walked::Faulted { fault, reads } => Served {
             held: held,
             answer: Answer::Faulted {

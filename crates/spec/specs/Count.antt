@@ -1,20 +1,22 @@
--- What a call changes in the book, and what it costs. Document 01, "Marks and held paths" and "Counts".
+-- What a call changes in the book, and what it costs. Document 01, "Marks and held paths" and "Counts";
+-- document 02, 6).
 -- Assumes nothing.
 use Prim.Native.Nat.{ℕ, zero, suc, _+_, _-_}
-use mathlib.Core.Bool.{Bool, true, false, not, _||_, cond}
+use mathlib.Core.Bool.{Bool, true, false, not, _&&_, _||_, cond}
 use mathlib.Core.List.{List, _∷_}
 use mathlib.Core.Option.{Option, none, some}
-use lib.Dec.{leb}
+use lib.Dec.{eqb, leb}
 use Rattle.spec.specs.declared.Fault.{Fault}
 use Rattle.spec.specs.declared.Fault.the-variants.{Absent, Malformed, Protected, HostAbsent, HostReadOnly}
 use Rattle.spec.specs.Config.{Config}
 use Rattle.spec.specs.Entry.{wordOf}
-use Rattle.spec.specs.Prefix.{keep}
-use Rattle.spec.specs.Walk.{Trace, Result, granted, failed, trace}
+use Rattle.spec.specs.Prefix.{same, keep}
+use Rattle.spec.specs.Walk.{World, Trace, Result, granted, failed, trace}
 use Rattle.spec.specs.Plain.{Place, upper, shadowPart, directPart}
 use Rattle.spec.specs.Machine.{Machine, world}
+use Rattle.spec.specs.Bits.{owes, judged, dirtyAt}
 use Rattle.spec.specs.Book.{Mark, Held, Book, markAt, sameMark, depth, find, holding, fill, dropWord, dropMapping, dropPrefix, dropAll, watched}
-use Rattle.spec.specs.Call.{Call, root, map, unmap, setMark, clearMark, load, store, device, forecast, addressIndexes, plain, deviceWalk}
+use Rattle.spec.specs.Call.{Call, root, map, unmap, setMark, clearMark, load, store, device, forecast, addressIndexes, plain, verdict, deviceWalk}
 
 pub record Counted : Type 0 where
   pub references : ℕ
@@ -43,33 +45,59 @@ serves st (suc d) (some h) = true
 abbrev pub heldBy : List ℕ → Trace Fault Place → Bool → Held
 heldBy p s w = record { path = p; right = w; reads = s .reads; uses = s .uses }
 
--- A request at depth d of at most N, whose path is p; held: a held path serves it; s is the trace of its shadow part.
--- A fault in the shadow part counts the words up to it, as the plain walk does, and fills nothing. Else the references are N − d
--- shadow entries and the words of the direct part, N + 1 a level if it is granted, and a path that was not held is filled.
--- Exits: one if no held path serves, and one for H or W in the direct part
-abbrev pub shadowed : Config → Machine → Book → Bool → ℕ → List ℕ → List ℕ → Bool → Trace Fault Place → Result Fault Place → Counted
-shadowed c m b st d is p held s (failed x) = record { references = s .count; exits = one (not held); book = b }
-shadowed c m b st d is p held s (granted r) =
-    let t : Trace Fault Place = trace (world c m) (directPart c st d r is) in
+abbrev pub isGranted : {A : Type 0} → Result Fault A → Bool
+isGranted (granted a) = true
+isGranted (failed x) = false
+
+-- the writable bit of a path that is filled at depth d by a load or a store (st), whose shadow part s came to a place with the write right:
+-- with bits on, a load whose walk ends at an entry that is not dirty fills a path that forbids stores
+abbrev pub rightOf : Config → World → Bool → ℕ → Trace Fault Place → Bool → Bool
+rightOf c w st d s right = right && (not (c .bits && eqb d 0) || st || dirtyAt w (s .reads))
+
+-- the held paths beside p, which is filled anew; with bits off a path that is filled is not held
+abbrev pub others : Config → List ℕ → List Held → List Held
+others c p hs = cond (c .bits) (keep (λ h. not (same p (h .path))) hs) hs
+
+-- the exit of a request past its shadow part: one for H or W of its direct part, whose result is x, or for the bit that it owes, if the
+-- entry of that level is one of the d that the direct part reads
+abbrev pub lateExit : ℕ → Option (ℕ × ℕ) → Result Fault Place → ℕ
+lateExit d o (failed x) = hostExit {A = Place} (failed x)
+lateExit d none (granted p) = 0
+lateExit d (some o) (granted p) = one (leb (o .0) d)
+
+-- A request at depth d of at most N, past its shadow part s, which came to the place r. held: a held path serves it; t: its direct part; o:
+-- what it owes. The references are N − d shadow entries and the words of the direct part, N + 1 a level if it is granted, and a path that
+-- was not held is filled. With bits on a request that is not granted fills nothing, and counts as the plain walk does at depth 0 and where
+-- no held path serves it. Exits: one if none serves, and the late one
+abbrev pub arrived : Config → World → Book → Bool → ℕ → List ℕ → Bool → Trace Fault Place → Place → Trace Fault Place → Option (ℕ × ℕ) → Counted
+arrived c w b st d p held s r t o =
+    let quits : Bool = c .bits && not (isGranted (judged o (t .result))) in
     record {
-      references = (c .levels - d) + t .count;
-      exits = one (not held) + hostExit (t .result);
-      book = cond held b (holding b (fill c (heldBy p s (r .1)) (b .held)));
+      references = cond (quits && (eqb d 0 || not held)) (s .count + t .count) ((c .levels - d) + t .count);
+      exits = one (not held) + lateExit d o (t .result);
+      book = cond (held || quits) b (holding b (fill c (heldBy p s (rightOf c w st d s (r .1))) (others c p (b .held))));
     }
 
--- nothing is shadowed: the words of the walk r count, and H or W is an exit. At depth N + 1 r is the plain walk, for a device store
--- the host walk of its frame
-abbrev pub unshadowed : Book → Trace Fault Place → Counted
-unshadowed b r = record { references = r .count; exits = hostExit (r .result); book = b }
+-- The same from its beginning. A fault in the shadow part counts the words up to it, as the plain walk does, and fills nothing; its exit is
+-- that of a request which no held path serves
+abbrev pub shadowed : Config → World → Book → Bool → ℕ → List ℕ → List ℕ → Bool → Option (ℕ × ℕ) → Trace Fault Place → Result Fault Place → Counted
+shadowed c w b st d is p held o s (failed x) = record { references = s .count; exits = one (not held); book = b }
+shadowed c w b st d is p held o s (granted r) = arrived c w b st d p held s r (trace w (directPart c st d r is)) o
+
+-- nothing is shadowed: the n words of the walk count, and H or W is an exit. At depth N + 1 that is the plain walk, for a device store the host
+-- walk of its frame; x: what the request comes to
+abbrev pub unshadowed : Book → ℕ → Result Fault Place → Counted
+unshadowed b n x = record { references = n; exits = hostExit x; book = b }
 
 -- a load, or a store before its word is stored
 unfoldable pub request : Config → Machine → Book → Bool → ℕ → ℕ → Counted
 request c m b st a d =
     let is : List ℕ = addressIndexes c a in
-    let s : Trace Fault Place = trace (world c m) (shadowPart c st d (m .root) is) in
+    let w : World = world c m in
+    let s : Trace Fault Place = trace w (shadowPart c st d (m .root) is) in
     cond (leb d (c .levels))
-    (shadowed c m b st d is (upper c d is) (serves st d (find (upper c d is) (b .held))) s (s .result))
-    (unshadowed b (plain c m st a))
+    (shadowed c w b st d is (upper c d is) (serves st d (find (upper c d is) (b .held))) (owes c w st (plain c m st a)) s (s .result))
+    (unshadowed b ((plain c m st a) .count) (verdict c m st a))
 
 -- a store that is granted, after its path is filled: one exit more if its frame is watched, then the paths that read the word are
 -- dropped. i: the word of the frame around the bytes that the store came to
@@ -96,8 +124,8 @@ bookStep c (clearMark a n) m b =
     free (record { marks = keep (λ y. not (sameMark x y)) (b .marks); held = dropPrefix (x .prefix) (b .held) })
 bookStep c (load a w) m b = request c m b false a (depth (b .marks) (addressIndexes c a))
 bookStep c (store a w v) m b =
-    storing (wordOf a) ((plain c m true a) .result) (request c m b true a (depth (b .marks) (addressIndexes c a)))
+    storing (wordOf a) (verdict c m true a) (request c m b true a (depth (b .marks) (addressIndexes c a)))
 bookStep c (device a w v) m b =
     let r : Trace Fault Place = deviceWalk c m a in
-    storing (wordOf a) (r .result) (unshadowed b r)
+    storing (wordOf a) (r .result) (unshadowed b (r .count) (r .result))
 bookStep c (forecast xs) m b = free b

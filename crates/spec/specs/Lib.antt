@@ -6,6 +6,7 @@ pub mod Bytes
 pub mod Walk
 pub mod Plain
 pub mod Machine
+pub mod Bits
 pub mod Book
 pub mod Search
 pub mod Call
@@ -17,3 +18,4 @@ pub mod Serving
 pub mod Quiet
 pub mod Computing
 pub mod Guest
+pub mod GuestBits

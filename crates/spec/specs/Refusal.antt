@@ -26,8 +26,8 @@ wordsFit words = eqb (words % 512) 0 && ltb 0 (words / 512) && leb (words / 512)
 abbrev pub areasFit : Config → Bool
 areasFit c = leb (c .levels) (c .hosts) && leb (c .levels) (c .shadows) && ltb (guestBase c) (c .frames)
 
-abbrev pub configOf : ℕ → ℕ → ℕ → ℕ → ℕ → Config
-configOf levels room words h s = record { levels = levels; markRoom = room; hosts = h; shadows = s; frames = words / 512 }
+abbrev pub configOf : ℕ → ℕ → ℕ → ℕ → ℕ → Bool → Config
+configOf levels room words h s bits = record { levels = levels; markRoom = room; hosts = h; shadows = s; frames = words / 512; bits = bits }
 
 unfoldable pub openRefusal : Config → ℕ → Option ℕ
 openRefusal c words = firstFailed ((wordsFit words, 1) ∷ (areasFit c, 2) ∷ [])
@@ -95,7 +95,7 @@ addressFits c a = alikeFrom (signBit c) a
 abbrev pub deviceFits : Config → ℕ → Bool
 deviceFits c a = ltb a (2 ^ (12 + frameBits c))
 
--- how many addresses a forecast takes; more are refused with 14, whatever they are (document 02, 2)
+-- how many addresses a forecast takes; more are refused with 14, whatever they are (document 02, 2). With bits on there is no forecast: 16
 abbrev pub forecastRoom : ℕ
 forecastRoom = 256
 
@@ -118,7 +118,7 @@ tests c (setMark a n) m b =
 tests c (clearMark a n) m b =
     let set : Bool = isSet (markAt c n (addressIndexes c a)) (b .marks) in
     (addressFits c a, 4) ∷ (levelFits c n, 5) ∷ (set, 6) ∷ []
-tests c (forecast xs) m b = (leb (length xs) forecastRoom, 14) ∷ []
+tests c (forecast xs) m b = (not (c .bits), 16) ∷ (leb (length xs) forecastRoom, 14) ∷ []
 
 -- the number that a call is refused with on this machine and book: that of its first test that fails
 unfoldable pub refusal : Config → Call → Machine → Book → Option ℕ

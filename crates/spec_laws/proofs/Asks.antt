@@ -7,15 +7,17 @@ use native.Mathlib.Omega.{arith}
 use mathlib.Core.Bool.{Bool, true, false, not, _&&_, _||_}
 use mathlib.Core.List.{List, [], _∷_}
 use mathlib.Core.Option.{Option, none, some}
-use lib.Dec.{T, eqb, eqb→eq}
+use borrow.Author.Tests.{eqb-true, not-true, not-false}
+use lib.Dec.{eqb}
 use lib.Pow.{pow-pos, shr-shr, field, split}
 use Rattle.spec.specs.declared.Fault.{Fault}
 use Rattle.spec.specs.declared.Fault.the-variants.{Absent, Malformed, Protected, HostAbsent, HostReadOnly}
 use Rattle.spec.specs.Config.{Config, frameBits}
 use Rattle.spec.specs.Entry.{present, writable, frameOf, malformed}
-use Rattle.spec.specs.Walk.{Walk, done, fail, host, word, _>>=_, _>>_, World, Trace, Result, granted, failed, trace}
-use Rattle.spec.specs.Plain.{Place, must, mapped, hosted, entry, next, levels, walk}
+use Rattle.spec.specs.Walk.{Walk, done, fail, host, word, _>>=_, _>>_, World, Trace, granted, failed, trace}
+use Rattle.spec.specs.Plain.{Place, must, hosted, entry, next, levels, walk}
 use Rattle.spec.specs.Prefix.{All}
+use Rattle.spec_laws.proofs.Lists.{or-first}
 use Rattle.spec_laws.proofs.Granted.{no-grant, granted-is, failed-is}
 
 -- Q is known of each host answer; G is owed of each guest frame asked for, P of each word asked for, E of each fault, R of the result
@@ -68,20 +70,12 @@ pub frame-bound : (c : Config) (level e : ℕ) → malformed c level e ≡ false
 unfolding malformed frameOf
 frame-bound c level e h =
     let b = frameBits c in
-    let high = or-false (not (eqb (e / 2 ^ (12 + b) % 2 ^ (40 - b)) 0)) _ h in
-    let none : e / 2 ^ (12 + b) % 2 ^ (40 - b) ≡ 0 = eqb→eq _ 0 (not-not (eqb (e / 2 ^ (12 + b) % 2 ^ (40 - b)) 0) high) in
+    let high = or-first (not (eqb (e / 2 ^ (12 + b) % 2 ^ (40 - b)) 0)) _ h in
+    let none : e / 2 ^ (12 + b) % 2 ^ (40 - b) ≡ 0 = eqb-true _ 0 (not-false (eqb (e / 2 ^ (12 + b) % 2 ^ (40 - b)) 0) high) in
     let width : 40 - b + b ≡ 40 = omega arith in
     let x : e / 4096 % 2 ^ 40 / 2 ^ b ≡ 0 = rw width at (field (e / 4096) (40 - b) b) ∙ ap (λ (n : ℕ). n % 2 ^ (40 - b)) (shr-shr e 12 b) ∙ none in
     no-high (e / 4096 % 2 ^ 40) b x
   where
-    or-false : (x y : Bool) → (x || y) ≡ false → x ≡ false
-    or-false true y z = z
-    or-false false y z = refl
-
-    not-not : (x : Bool) → not x ≡ false → T x
-    not-not true z = tt
-    not-not false z = let y : _≡_ {A = ℕ} 0 1 = cc in absurd (omega arith)
-
     no-high : (a k : ℕ) → a / 2 ^ k ≡ 0 → a < 2 ^ k
     no-high a k z =
         let zero : a / 2 ^ k * 2 ^ k ≡ 0 = ap (λ (n : ℕ). n * 2 ^ k) z ∙ zero-mul (2 ^ k) in
@@ -111,11 +105,7 @@ module _ (c : Config) (F : ℕ → Type 0) where
   entry-asks : (n t i : ℕ) (R : ℕ × Bool → Type 0) → F t → i < 512 → ((e : ℕ × Bool) → e .0 < 2 ^ frameBits c → R e) → Guest (entry c n t i) R
   unfolding entry
   entry-asks n t i R f b h =
-      ((f, b), λ e. must-asks (present e) (Absent n) _ R tt (λ _. must-asks (not (malformed c n e)) (Malformed n) _ R tt (λ k. h (frameOf e, writable e) (frame-bound c n e (not-false (malformed c n e) k)))))
-    where
-      not-false : (b : Bool) → not b ≡ true → b ≡ false
-      not-false true z = let y : _≡_ {A = ℕ} 0 1 = cc in absurd (omega arith)
-      not-false false z = refl
+      ((f, b), λ e. must-asks (present e) (Absent n) _ R tt (λ _. must-asks (not (malformed c n e)) (Malformed n) _ R tt (λ k. h (frameOf e, writable e) (frame-bound c n e (not-true (malformed c n e) k)))))
 
   next-asks : (st last : Bool) (g : ℕ) (v : Bool) → g < 2 ^ frameBits c → Guest (next st last g v) (λ r. F (r .0))
   unfolding next

@@ -7,7 +7,7 @@ use native.Mathlib.Omega.{arith}
 use mathlib.Core.Bool.{Bool, true, false, not, _&&_, _||_}
 use mathlib.Core.List.{List, [], _∷_}
 use mathlib.Core.Option.{Option, none, some}
-use borrow.Author.Tests.{eq-eqb}
+use borrow.Author.Tests.{eq-eqb, not-true}
 use lib.Dec.{eqb}
 use lib.ListN.{length}
 use Rattle.spec.specs.declared.Fault.{Fault}
@@ -16,6 +16,7 @@ use Rattle.spec.specs.Config.{Config}
 use Rattle.spec.specs.Entry.{present, writable, frameOf, malformed}
 use Rattle.spec.specs.Walk.{Walk, done, _>>=_, _>>_, World, Trace, Result, granted, failed, trace}
 use Rattle.spec.specs.Plain.{Place, must, mapped, hosted, entry, next, levels, walk}
+use Rattle.spec_laws.proofs.Lists.{and-first, and-second}
 use Rattle.spec_laws.proofs.Bind.{andThen, onto, more, trace-bind}
 
 pub no-grant : {X A : Type 0} {x : X} {a : A} → _≡_ {A = Result X A} (failed x) (granted a) → ⊥
@@ -83,11 +84,7 @@ entry-granted w c n t i e h =
     let a = must-granted w (present x) _ _ e h in
     let b = must-granted w (not (malformed c n x)) _ _ e (a .1) in
     let q : (frameOf x, writable x) ≡ e = granted-is (frameOf x, writable x) e (b .1) in
-    (ap (more 1 ((t, i) ∷ []) []) (a .2 ∙ b .2) ∙ ap (ran 1 ((t, i) ∷ []) []) q, sym q, not-false (malformed c n x) (b .0))
-  where
-    not-false : (b : Bool) → not b ≡ true → b ≡ false
-    not-false true z = let y : _≡_ {A = ℕ} 0 1 = cc in absurd (omega arith)
-    not-false false z = refl
+    (ap (more 1 ((t, i) ∷ []) []) (a .2 ∙ b .2) ∙ ap (ran 1 ((t, i) ∷ []) []) q, sym q, not-true (malformed c n x) (b .0))
 
 -- past the host walk of an entry's frame
 pub record Arrived (w : World) (st last : Bool) (g : ℕ) (v : Bool) (r : Place) : Type 0 where
@@ -199,14 +196,6 @@ walk-same w c root is r h =
 
 -- ---- a load's walk that comes to a place with the write right serves a store too
 
-and-left : (a b : Bool) → a && b ≡ true → a ≡ true
-and-left true b h = refl
-and-left false b h = h
-
-and-right : (a b : Bool) → a && b ≡ true → b ≡ true
-and-right true b h = h
-and-right false b h = let z : _≡_ {A = ℕ} 0 1 = cc in absurd (omega arith)
-
 right-of : (a : ℕ) (v : Bool) (f : ℕ) → _≡_ {A = Result Fault Place} (granted (a, v)) (granted (f, true)) → v ≡ true
 right-of a v f h = ap (λ x. x .1) (granted-is (a, v) (f, true) h)
 
@@ -217,7 +206,7 @@ on-right w g k v f h e = let t = through w (hosted g) k (f, true) e in h (t .mid
 next-right : (w : World) (last : Bool) (g : ℕ) (v : Bool) (f : ℕ) → (trace w (next false last g v)) .result ≡ granted (f, true) → v ≡ true
 unfolding next trace
 next-right w false g v f h = on-right w g (λ q. done (q .0, v)) v f (λ q e. right-of (q .0) v f e) h
-next-right w true g v f h = on-right w g (λ q. done (q .0, (v && q .1))) v f (λ q e. and-left v (q .1) (right-of (q .0) (v && q .1) f e)) h
+next-right w true g v f h = on-right w g (λ q. done (q .0, (v && q .1))) v f (λ q e. and-first v (q .1) (right-of (q .0) (v && q .1) f e)) h
 
 levels-right : (w : World) (c : Config) (n t : ℕ) (v : Bool) (is : List ℕ) (f : ℕ) → (trace w (levels c false n t v is)) .result ≡ granted (f, true) → v ≡ true
 unfolding levels trace
@@ -227,7 +216,7 @@ levels-right w c n t v (i ∷ is) f h =
     let a = through w (entry c n t i) (λ e. next false last (e .0) (v && e .1) >>= λ q. levels c false (pred n) (q .0) (q .1) is) (f, true) h in
     let b = through w (next false last (a .mid .0) (v && a .mid .1)) (λ q. levels c false (pred n) (q .0) (q .1) is) (f, true) (a .next) in
     let r = levels-right w c (pred n) (b .mid .0) (b .mid .1) is f (b .next) in
-    and-left v (a .mid .1) (next-right w last (a .mid .0) (v && a .mid .1) (b .mid .0) (b .first ∙ ap (λ x. granted (b .mid .0, x)) r))
+    and-first v (a .mid .1) (next-right w last (a .mid .0) (v && a .mid .1) (b .mid .0) (b .first ∙ ap (λ x. granted (b .mid .0, x)) r))
 
 must-on : {B : Type 0} (w : World) (b : Bool) (x : Fault) (p : Walk Fault B) → b ≡ true → trace w (must b x >> p) ≡ trace w p
 must-on w b x p h = ap (λ y. trace w (must y x >> p)) h
@@ -239,7 +228,7 @@ next-serves w false g v f h = refl
 next-serves w true g v f h =
     must-on w v _ _ (next-right w true g v f h)
     ∙ same-bind w (hosted g) (hosted g) (λ q. done (q .0, (v && q .1))) _ (f, true) (λ _ _. refl)
-    (λ q e. must-on w (q .1) _ _ (and-right v (q .1) (right-of (q .0) (v && q .1) f e))) h
+    (λ q e. must-on w (q .1) _ _ (and-second v (q .1) (right-of (q .0) (v && q .1) f e))) h
 
 pub levels-serve : (w : World) (c : Config) (n t : ℕ) (v : Bool) (is : List ℕ) (f : ℕ)
     → (trace w (levels c false n t v is)) .result ≡ granted (f, true) → trace w (levels c true n t v is) ≡ trace w (levels c false n t v is)

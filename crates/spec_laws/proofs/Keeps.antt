@@ -1,43 +1,81 @@
 -- A held path that a call does not drop stays valid: its shadow part still comes to what the book has of it.
 -- Assumes nothing.
 use mathlib.Core.Path.{_≡_, refl, sym, ap, _∙_, subst}
-use mathlib.Core.Logic.{_≢_}
+use mathlib.Core.Logic.{_≢_, _⊎_, inl, inr}
 use Prim.Native.Nat.{ℕ, _+_, _*_, _-_, _%_, _^_, _<_, _≤_}
 use native.Mathlib.Omega.{arith}
-use mathlib.Core.Bool.{Bool, true, false, not, _&&_, _||_, cond}
+use mathlib.Core.Bool.{Bool, true, false, not, _&&_, _||_, cond, and-true, and-false, false≢true}
 use mathlib.Core.List.{List, [], _∷_}
 use mathlib.Core.Option.{some}
+use borrow.Author.Tests.{eqb-true, not-false}
 use lib.Dec.{T, eqb, eqb→eq, eqb-refl}
-use lib.Seq.{getD-set-other}
+use lib.ListN.{length}
+use lib.Seq.{getD-set-other, length-take-le}
 use lib.Arith.{digits-mod}
 use Rattle.spec.specs.declared.Fault.{Fault}
 use Rattle.spec.specs.Config.{Config, guestBase, frameBits}
 use Rattle.spec.specs.Entry.{pageOf}
 use Rattle.spec.specs.Walk.{World, Trace, Result, granted, trace}
-use Rattle.spec.specs.Plain.{Place, walk}
-use Rattle.spec.specs.Machine.{Machine, Mapping, world, place, stored, remapped, lookup, with, without}
+use Rattle.spec.specs.Plain.{Place, walk, upper}
+use Rattle.spec.specs.Machine.{Machine, Mapping, hostCost, world, place, wordIn, stored, remapped, lookup, with, without}
+use Rattle.spec.specs.Bits.{dirtyAt}
 use Rattle.spec.specs.Book.{Held, readsWord, readsFrame, dropWord, watched, usesMapping}
 use Rattle.spec.specs.Call.{addressIndexes, plain}
-use Rattle.spec.specs.Count.{heldBy}
+use Rattle.spec.specs.Count.{heldBy, rightOf}
 use Rattle.spec.specs.Prefix.{All, any}
-use Rattle.spec_laws.proofs.Lists.{all-map, all-any, all-both, keep-all, none-passes, is-true, both, not-both, not-eqb}
-use Rattle.spec_laws.proofs.Indexes.{indexes-all}
+use Rattle.spec_laws.proofs.Lists.{all-map, all-take, all-any, all-both, keep-all, none-passes, is-true, both, not-both, and-first, and-second, or-first, not-eqb}
+use Rattle.spec_laws.proofs.Indexes.{indexes-length, indexes-all}
 use Rattle.spec_laws.proofs.Local.{Seen, seen, local-seen, SameMapping, SameWord}
-use Rattle.spec_laws.proofs.Granted.{walk-same}
+use Rattle.spec_laws.proofs.EntryBits.{AlikeWord}
+use Rattle.spec_laws.proofs.Ignored.{AlikeWorld, walk-alike}
+use Rattle.spec_laws.proofs.Granted.{granted-is, walk-same}
 use Rattle.spec_laws.proofs.Asks.{Asked, asks-trace, AnswerIn, FaultFits, walk-asks}
 
 -- what the shadow part of a path comes to on the machine, as a load walks it; and what the book has of a held path
 unfoldable pub again : Config → Machine → List ℕ → Seen Fault Place
 again c m p = seen (world c m) (walk c false (m .root) p)
 
-abbrev pub booked : ℕ → Held → Seen Fault Place
-booked f h = record { result = granted (f, h .right); reads = h .reads; uses = h .uses }
+abbrev pub booked : ℕ → Bool → Held → Seen Fault Place
+booked f w h = record { result = granted (f, w); reads = h .reads; uses = h .uses }
+
+abbrev pub as-seen : Result Fault Place → Trace Fault Place → Seen Fault Place
+as-seen x r = record { result = x; reads = r .reads; uses = r .uses }
+
+-- a granted walk, a store's too, is one that a load makes
+pub sees : (c : Config) (m : Machine) (st : Bool) (p : List ℕ) (r : Place) → (trace (world c m) (walk c st (m .root) p)) .result ≡ granted r
+    → again c m p ≡ as-seen (granted r) (trace (world c m) (walk c st (m .root) p))
+unfolding again seen
+sees c m false p r e = ap (λ x. as-seen x (trace (world c m) (walk c false (m .root) p))) e
+sees c m true p r e =
+    ap (λ x. as-seen (x .result) x) (walk-same (world c m) c (m .root) p r e) ∙ ap (λ x. as-seen x (trace (world c m) (walk c true (m .root) p))) e
 
 -- a held path stands for its shadow part on the machine
 pub record Valid (c : Config) (m : Machine) (h : Held) : Type 0 where
   pub small : All (λ i. i < 512) (h .path)
   pub frame : ℕ
-  pub comes : again c m (h .path) ≡ booked frame h
+  pub wide : Bool  -- the write right that its shadow part comes to
+  pub comes : again c m (h .path) ≡ booked frame wide h
+  pub right : (h .right ≡ wide) ⊎ ((h .right ≡ false) × (length (h .path) ≡ c .levels) × (c .bits ≡ true))  -- with bits on one of depth 0 may forbid more
+
+-- where the walk of its path, a store's too, comes to
+pub held-place : (c : Config) (m : Machine) (h : Held) (v : Valid c m h) (st : Bool) (r : Place) → (trace (world c m) (walk c st (m .root) (h .path))) .result ≡ granted r
+    → r ≡ (v .frame, v .wide)
+held-place c m h v st r e =
+    granted-is r (v .frame, v .wide) (sym (ap (λ (x : Seen Fault Place). x .result) (sees c m st (h .path) r e)) ∙ ap (λ (x : Seen Fault Place). x .result) (v .comes))
+
+-- it lets no store pass that the walk does not, and lets those pass that the walk does: with bits off, and below depth 0
+pub right-wide : (c : Config) (m : Machine) (h : Held) (v : Valid c m h) → h .right ≡ true → v .wide ≡ true
+right-wide c m h v e = elim (v .right) [ inl k ↦ sym k ∙ e | inr k ↦ absurd (false≢true (sym (k .0) ∙ e)) ]
+
+pub right-off : (c : Config) (m : Machine) (h : Held) (v : Valid c m h) → c .bits ≡ false → h .right ≡ v .wide
+right-off c m h v off = elim (v .right) [ inl k ↦ k | inr k ↦ absurd (false≢true (sym off ∙ k .2)) ]
+
+pub right-deep : (c : Config) (m : Machine) (h : Held) (v : Valid c m h) → length (h .path) ≢ c .levels → h .right ≡ v .wide
+right-deep c m h v deep = elim (v .right) [ inl k ↦ k | inr k ↦ absurd (deep (k .1)) ]
+
+-- and it stays valid on each machine on which its shadow part comes to the same
+pub valid-again : (c : Config) (m n : Machine) (h : Held) → Valid c m h → again c n (h .path) ≡ again c m (h .path) → Valid c n h
+valid-again c m n h v e = record { small = v .small; frame = v .frame; wide = v .wide; right = v .right; comes = e ∙ v .comes }
 
 -- ---- the words that a shadow part reads are in the guest area
 
@@ -63,7 +101,7 @@ plain-in c m st a r mi b h = shadow-asked c m st (addressIndexes c a) mi b (inde
 -- ---- a store
 
 -- the tests that fail on two numbers: one of them differs
-differ : (t i u j : ℕ) → T (not (eqb t u && eqb i j)) → t ≡ u → i ≡ j → ⊥
+pub differ : (t i u j : ℕ) → T (not (eqb t u && eqb i j)) → t ≡ u → i ≡ j → ⊥
 differ t i u j h p q =
     not-both (eqb t u && eqb i j) (both (eqb t u) (eqb i j) (subst (λ x. T (eqb t x)) p (eqb-refl t)) (subst (λ x. T (eqb i x)) q (eqb-refl i))) h
 
@@ -77,17 +115,14 @@ places b t i u j bt bu hi hj h e =
 pub store-keeps : (c : Config) (m : Machine) (t i v : ℕ) (h : Held) → MappedIn c m → m .root < 2 ^ frameBits c → guestBase c ≤ t → i < 512
     → Valid c m h → T (not (readsWord t i h)) → Valid c (stored c m t i v) h
 unfolding again world seen
-store-keeps c m t i v h mi rb bt bi va nr = record {
-  small = va .small;
-  frame = va .frame;
-  comes = local-seen w u (walk c false (m .root) (h .path)) (all-any (SameMapping w u) ((again c m (h .path)) .uses) (λ g. refl))
-      (all-map (λ x. In x × Off x) (SameWord w u) ((again c m (h .path)) .reads)
-      (λ x k. getD-set-other (m .area) (place c t i) (place c (x .0) (x .1)) v 0
-      (places (guestBase c) t i (x .0) (x .1) bt (k .0 .0 .0) bi (k .0 .1) (differ t i (x .0) (x .1) (k .1))))
-      (all-both In Off ((again c m (h .path)) .reads) ((shadow-asked c m false (h .path) mi rb (va .small)) .reads)
-      (subst (λ (s : Seen Fault Place). All Off (s .reads)) (sym (va .comes)) (none-passes _ (h .reads) nr))))
-      ∙ va .comes;
-}
+store-keeps c m t i v h mi rb bt bi va nr =
+    valid-again c m (stored c m t i v) h va
+    (local-seen w u (walk c false (m .root) (h .path)) (all-any (SameMapping w u) ((again c m (h .path)) .uses) (λ g. refl))
+    (all-map (λ x. In x × Off x) (SameWord w u) ((again c m (h .path)) .reads)
+    (λ x k. getD-set-other (m .area) (place c t i) (place c (x .0) (x .1)) v 0
+    (places (guestBase c) t i (x .0) (x .1) bt (k .0 .0 .0) bi (k .0 .1) (differ t i (x .0) (x .1) (k .1))))
+    (all-both In Off ((again c m (h .path)) .reads) ((shadow-asked c m false (h .path) mi rb (va .small)) .reads)
+    (subst (λ (s : Seen Fault Place). All Off (s .reads)) (sym (va .comes)) (none-passes _ (h .reads) nr)))))
   where
     w : World
     w = world c m
@@ -141,29 +176,63 @@ lookup-with g f t w xs h = go (eqb f g) refl
 pub mapping-keeps : (c : Config) (m : Machine) (xs : List Mapping) (g : ℕ) (h : Held) → ((f : ℕ) → (f ≡ g → ⊥) → lookup f xs ≡ lookup f (m .mappings))
     → Valid c m h → T (not (usesMapping g h)) → Valid c (remapped m xs) h
 unfolding again world
-mapping-keeps c m xs g h same va nu = record {
-  small = va .small;
-  frame = va .frame;
-  comes = local-seen (world c m) (world c (remapped m xs)) (walk c false (m .root) (h .path))
-      (all-map (λ f. T (not (eqb g f))) (SameMapping (world c m) (world c (remapped m xs))) ((again c m (h .path)) .uses) (λ f k. same f (λ e. not-eqb g f k (sym e)))
-      (subst (λ (s : Seen Fault Place). All (λ f. T (not (eqb g f))) (s .uses)) (sym (va .comes)) (none-passes _ (h .uses) nu)))
-      (all-any (SameWord (world c m) (world c (remapped m xs))) ((again c m (h .path)) .reads) (λ x. refl))
-      ∙ va .comes;
-}
+mapping-keeps c m xs g h same va nu =
+    valid-again c m (remapped m xs) h va
+    (local-seen (world c m) (world c (remapped m xs)) (walk c false (m .root) (h .path))
+    (all-map (λ f. T (not (eqb g f))) (SameMapping (world c m) (world c (remapped m xs))) ((again c m (h .path)) .uses) (λ f k. same f (λ e. not-eqb g f k (sym e)))
+    (subst (λ (s : Seen Fault Place). All (λ f. T (not (eqb g f))) (s .uses)) (sym (va .comes)) (none-passes _ (h .uses) nu)))
+    (all-any (SameWord (world c m) (world c (remapped m xs))) ((again c m (h .path)) .reads) (λ x. refl)))
+
+-- ---- bits 5 and 6 of its words
+
+-- mappings and words make up the world
+pub alike-world : (c : Config) (m n : Machine) → n .mappings ≡ m .mappings → ((t i : ℕ) → AlikeWord (wordIn c m t i) (wordIn c n t i)) → AlikeWorld (world c m) (world c n)
+unfolding world
+alike-world c m n e k = record { hosts = λ g. ap (lookup g) e; costs = λ g. ap (λ xs. hostCost c xs g) e; words = k }
+
+-- whatever becomes of them, every held path stays valid
+pub alike-keeps : (c : Config) (m n : Machine) (h : Held) → n .root ≡ m .root → AlikeWorld (world c m) (world c n) → Valid c m h → Valid c n h
+unfolding again seen
+alike-keeps c m n h r alike va =
+    valid-again c m n h va
+    (ap (λ x. seen (world c n) (walk c false x (h .path))) r
+    ∙ ap (λ (x : Trace Fault Place). as-seen (x .result) x) (walk-alike (world c m) (world c n) alike c false (m .root) (h .path)))
 
 -- ---- a fill
 
-abbrev as-seen : Result Fault Place → Trace Fault Place → Seen Fault Place
-as-seen x r = record { result = x; reads = r .reads; uses = r .uses }
+-- the path of an address at depth d
+pub upper-small : (c : Config) (d a : ℕ) → All (λ i. i < 512) (upper c d (addressIndexes c a))
+upper-small c d a = all-take (λ i. i < 512) (c .levels - d) (addressIndexes c a) (indexes-all (c .levels) (pageOf a))
 
--- what a granted shadow part, a store's too, fills is valid
-pub fill-valid : (c : Config) (m : Machine) (st : Bool) (p : List ℕ) (r : Place) → All (λ i. i < 512) p
-    → (trace (world c m) (walk c st (m .root) p)) .result ≡ granted r → Valid c m (heldBy p (trace (world c m) (walk c st (m .root) p)) (r .1))
-unfolding again seen
-fill-valid c m false p r s h = record { small = s; frame = r .0; comes = ap (λ x. as-seen x (trace (world c m) (walk c false (m .root) p))) h }
-fill-valid c m true p r s h = record {
-  small = s;
+pub upper-long : (c : Config) (d a : ℕ) → length (upper c d (addressIndexes c a)) ≡ c .levels - d
+upper-long c d a = length-take-le (c .levels - d) (addressIndexes c a) (omega (arith, indexes-length (c .levels) (pageOf a)))
+
+-- what a granted shadow part fills, a store's too, is valid: with bits on a load may fill a path that forbids stores
+pub fill-valid : (c : Config) (m : Machine) (st : Bool) (d : ℕ) (p : List ℕ) (r : Place) → All (λ i. i < 512) p → length p ≡ c .levels - d
+    → (trace (world c m) (walk c st (m .root) p)) .result ≡ granted r
+    → let s = trace (world c m) (walk c st (m .root) p) in Valid c m (heldBy p s (rightOf c (world c m) st d s (r .1)))
+fill-valid c m st d p r small long e = record {
+  small = small;
   frame = r .0;
-  comes = ap (λ x. as-seen (x .result) x) (walk-same (world c m) c (m .root) p r h)
-      ∙ ap (λ x. as-seen x (trace (world c m) (walk c true (m .root) p))) h;
+  wide = r .1;
+  comes = sees c m st p r e;
+  right = go (passes || st || dirtyAt (world c m) (s .reads)) refl;
 }
+  where
+    s : Trace Fault Place
+    s = trace (world c m) (walk c st (m .root) p)
+
+    passes : Bool
+    passes = not (c .bits && eqb d 0)
+
+    forbids : not (c .bits && eqb d 0) ≡ false → (length p ≡ c .levels) × (c .bits ≡ true)
+    forbids k =
+        let on = not-false (c .bits && eqb d 0) k in
+        let z : d ≡ 0 = eqb-true d 0 (and-second (c .bits) (eqb d 0) on) in
+        (long ∙ ap (λ n. c .levels - n) z ∙ omega arith, and-first (c .bits) (eqb d 0) on)
+
+    go : (x : Bool) → (passes || st || dirtyAt (world c m) (s .reads)) ≡ x → ((r .1 && x) ≡ r .1) ⊎ (((r .1 && x) ≡ false) × (length p ≡ c .levels) × (c .bits ≡ true))
+    go true k = inl (and-true (r .1))
+    go false k =
+        let f = forbids (or-first passes st (or-first (passes || st) (dirtyAt (world c m) (s .reads)) k)) in
+        inr (and-false (r .1), f .0, f .1)

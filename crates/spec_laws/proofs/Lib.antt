@@ -2,8 +2,14 @@ pub mod Lists
 pub mod Indexes
 pub mod Bind
 pub mod Bytes
+pub mod Before
+pub mod EntryBits
 pub mod Local
+pub mod Ignored
 pub mod Distinct
+pub mod Added
+pub mod Members
+pub mod Refill
 pub mod Parts
 pub mod Granted
 pub mod Counts
@@ -13,8 +19,10 @@ pub mod Runs
 pub mod Asks
 pub mod Trail
 pub mod Keeps
-pub mod Added
-pub mod Members
+pub mod SetBits
+pub mod Covered
+pub mod Served
+pub mod Missed
 pub mod Price
 pub mod Forecast
 pub mod Quiet

@@ -61,6 +61,9 @@ pub tables-within : (ps qs : List (List ℕ)) → Within ps qs → tablesOf ps �
 tables-within ps qs h =
     distinct-within (allPropers ps) (allPropers qs) (λ q k. let t = all-propers q ps k in propers-all q (t .path) qs (h (t .path) (t .listed)) (t .proper))
 
+pub tables-same : (ps qs : List (List ℕ)) → SamePaths ps qs → tablesOf ps ≡ tablesOf qs
+tables-same ps qs e = le-antisymm (tables-within ps qs (same-within ps qs e)) (tables-within qs ps (same-within qs ps (λ p. sym (e p))))
+
 -- ---- members that a list adds to another
 
 -- the different ones of both are those of the second, and the new ones of the first

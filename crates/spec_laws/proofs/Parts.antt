@@ -1,9 +1,9 @@
 -- The plain walk is its shadow part, and from there its direct part: the same questions, so the same trace.
 -- Assumes nothing.
-use mathlib.Core.Path.{_≡_, refl, sym, ap, ap₂, _∙_, subst}
-use Prim.Native.Nat.{ℕ, zero, suc, pred, _+_, _-_, _≤_}
+use mathlib.Core.Path.{_≡_, refl, sym, ap, _∙_}
+use Prim.Native.Nat.{ℕ, pred, _+_, _-_, _≤_}
 use native.Mathlib.Omega.{arith}
-use mathlib.Core.Bool.{Bool, true, false, _&&_}
+use mathlib.Core.Bool.{Bool, true, _&&_}
 use mathlib.Core.List.{List, [], _∷_, _++_}
 use lib.Dec.{eqb}
 use lib.ListN.{length, take, drop}
@@ -11,8 +11,8 @@ use lib.ListN.{take-append-drop}
 use lib.Seq.{length-take-le}
 use Rattle.spec.specs.declared.Fault.{Fault}
 use Rattle.spec.specs.Config.{Config}
-use Rattle.spec.specs.Walk.{Walk, done, fail, host, word, _>>=_, _>>_, World, Trace, Result, granted, failed, trace}
-use Rattle.spec.specs.Plain.{Place, hosted, entry, next, levels, walk, shadowPart, directPart, upper}
+use Rattle.spec.specs.Walk.{Walk, _>>=_, _>>_, World, Trace, granted, failed, trace}
+use Rattle.spec.specs.Plain.{Place, hosted, entry, next, levels, walk, shadowPart, directPart}
 use Rattle.spec_laws.proofs.Bind.{andThen, onto, more, trace-bind, bind-assoc, bind-cong}
 
 -- the level that is left after some indexes
@@ -79,11 +79,18 @@ shadow-fault w c st d root is x l b h =
     let e = parts-trace w c st d root is l b ∙ ap (λ y. onto y (s .count) (s .reads) (s .uses) (λ r. trace w (directPart c st d r is))) h in
     (ap (λ (t : Trace Fault Place). t .result) e, ap (λ (t : Trace Fault Place). t .count) e)
 
+-- the whole trace past a granted shadow part
+pub direct-trace : (w : World) (c : Config) (st : Bool) (d root : ℕ) (is : List ℕ) (r : Place) → length is ≡ c .levels → d ≤ c .levels
+    → let s = trace w (shadowPart c st d root is) in
+    s .result ≡ granted r → trace w (walk c st root is) ≡ more (s .count) (s .reads) (s .uses) (trace w (directPart c st d r is))
+direct-trace w c st d root is r l b h =
+    let s = trace w (shadowPart c st d root is) in
+    parts-trace w c st d root is l b ∙ ap (λ y. onto y (s .count) (s .reads) (s .uses) (λ q. trace w (directPart c st d q is))) h
+
 pub direct-result : (w : World) (c : Config) (st : Bool) (d root : ℕ) (is : List ℕ) (r : Place) → length is ≡ c .levels → d ≤ c .levels
     → (trace w (shadowPart c st d root is)) .result ≡ granted r
     → ((trace w (walk c st root is)) .result ≡ (trace w (directPart c st d r is)) .result)
     × ((trace w (walk c st root is)) .count ≡ (trace w (shadowPart c st d root is)) .count + (trace w (directPart c st d r is)) .count)
 direct-result w c st d root is r l b h =
-    let s = trace w (shadowPart c st d root is) in
-    let e = parts-trace w c st d root is l b ∙ ap (λ y. onto y (s .count) (s .reads) (s .uses) (λ q. trace w (directPart c st d q is))) h in
+    let e = direct-trace w c st d root is r l b h in
     (ap (λ (t : Trace Fault Place). t .result) e, ap (λ (t : Trace Fault Place). t .count) e)

@@ -19,13 +19,13 @@ use Rattle.spec.specs.Plain.{Place, walk, upper, shadowPart, directPart}
 use Rattle.spec.specs.Machine.{Machine, world}
 use Rattle.spec.specs.Book.{Held, Book, find, paths, fill, shadowTables}
 use Rattle.spec.specs.Call.{addressIndexes, plain}
-use Rattle.spec.specs.Count.{Counted, one, hostExit, serves, heldBy, shadowed, unshadowed, request}
+use Rattle.spec.specs.Count.{Counted, one, hostExit, serves, heldBy, request}
 use Rattle.spec_laws.proofs.Lists.{all-map, all-any, same-is}
 use Rattle.spec_laws.proofs.Indexes.{indexes-length}
-use Rattle.spec_laws.proofs.Local.{Seen, seen}
-use Rattle.spec_laws.proofs.Granted.{granted-is, walk-same, walk-store}
+use Rattle.spec_laws.proofs.Before.{shadowedBefore, unshadowedBefore, requestBefore, off-request}
+use Rattle.spec_laws.proofs.Granted.{walk-store}
 use Rattle.spec_laws.proofs.Counts.{shadow-granted}
-use Rattle.spec_laws.proofs.Keeps.{Valid, again}
+use Rattle.spec_laws.proofs.Keeps.{Valid, held-place, right-off}
 
 -- ---- the paths that are held after a fill
 
@@ -61,11 +61,11 @@ serves-load d p hs = serves-held false d p hs (all-any _ hs (λ h e. go d h))
     go zero h = refl
     go (suc n) h = refl
 
--- a store that is granted has it: a path of depth 0 that forbade it would not stand for the walk
-pub serves-store : (c : Config) (m : Machine) (a d : ℕ) (hs : List Held) (r : Place) → All (Valid c m) hs → (plain c m true a) .result ≡ granted r
+-- a store that is granted has it: with bits off a path of depth 0 that forbade it would not stand for the walk
+pub serves-store : (c : Config) (m : Machine) (a d : ℕ) (hs : List Held) (r : Place) → c .bits ≡ false → All (Valid c m) hs → (plain c m true a) .result ≡ granted r
     → let p = upper c d (addressIndexes c a) in serves true d (find p hs) ≡ any (same p) (paths hs)
-unfolding plain again seen
-serves-store c m a d hs r va h =
+unfolding plain
+serves-store c m a d hs r off va h =
     serves-held true d p hs (all-map (Valid c m) (λ k. T (same p (k .path)) → serves true d (some k) ≡ true) hs (λ k v e. go d refl k v (sym (same-is p (k .path) e))) va)
   where
     is : List ℕ
@@ -78,11 +78,8 @@ serves-store c m a d hs r va h =
     go zero z k v e =
         let l : length is ≡ c .levels = indexes-length (c .levels) (pageOf a) in
         let whole : k .path ≡ is = e ∙ take-all (c .levels - d) is (omega arith) in
-        let f = ap (λ (x : Trace Fault Place). x .result) (walk-same (world c m) c (m .root) is r h) ∙ h in
-        let g = ap (λ (x : Seen Fault Place). x .result) (v .comes) in
-        let arrived : r ≡ (v .frame, k .right) =
-        granted-is r (v .frame, k .right) (sym f ∙ ap (λ x. (trace (world c m) (walk c false (m .root) x)) .result) (sym whole) ∙ g) in
-        sym (ap (λ (x : Place). x .1) arrived) ∙ walk-store (world c m) c (m .root) is r l h
+        let at = held-place c m k v true r (ap (λ x. (trace (world c m) (walk c true (m .root) x)) .result) whole ∙ h) in
+        right-off c m k v off ∙ sym (ap (λ (x : Place). x .1) at) ∙ walk-store (world c m) c (m .root) is r l h
     go (suc n) z k v e = refl
 
 -- what is paid, and whether the path is filled
@@ -115,15 +112,14 @@ pub record Priced (c : Config) (b : Book) (p : List ℕ) (x : Price) (k : Counte
   pub marks : k .book .marks ≡ b .marks
   pub held : paths (k .book .held) ≡ cond (x .fills) (filled c p (paths (b .held))) (paths (b .held))
 
--- where its path serves it if it is held
-pub request-priced : (c : Config) (m : Machine) (b : Book) (st : Bool) (a d : ℕ)
+-- with bits off, and where its path serves it if it is held
+pub request-priced : (c : Config) (m : Machine) (b : Book) (st : Bool) (a d : ℕ) → c .bits ≡ false
     → let p = upper c d (addressIndexes c a) in
     serves st d (find p (b .held)) ≡ any (same p) (paths (b .held)) → Priced c b p (price c m st a d (any (same p) (paths (b .held)))) (request c m b st a d)
-unfolding request price
-request-priced c m b st a d e =
-    subst (λ t. Priced c b p (cond (leb d (c .levels)) (shadowPrice c m st d is t (s .count) (s .result)) (plainPrice (plain c m st a)))
-    (cond (leb d (c .levels)) (shadowed c m b st d is p held s (s .result)) (unshadowed b (plain c m st a))))
-    e (go (leb d (c .levels)) held (s .result))
+unfolding requestBefore price
+request-priced c m b st a d off e =
+    subst (Priced c b p (price c m st a d (any (same p) (paths (b .held))))) (sym (off-request c m b st a d off))
+    (subst (λ t. Priced c b p (price c m st a d t) (requestBefore c m b st a d)) e (go (leb d (c .levels)) held (s .result)))
   where
     is : List ℕ
     is = addressIndexes c a
@@ -139,16 +135,16 @@ request-priced c m b st a d e =
 
     go : (low h : Bool) (x : Result Fault Place)
         → Priced c b p (cond low (shadowPrice c m st d is h (s .count) x) (plainPrice (plain c m st a)))
-        (cond low (shadowed c m b st d is p h s x) (unshadowed b (plain c m st a)))
+        (cond low (shadowedBefore c m b st d is p h s x) (unshadowedBefore b (plain c m st a)))
     go false h x = record { references = refl; exits = refl; marks = refl; held = refl }
     go true h (failed x) = record { references = refl; exits = refl; marks = refl; held = refl }
     go true true (granted r) = record { references = refl; exits = refl; marks = refl; held = refl }
     go true false (granted r) = record { references = refl; exits = refl; marks = refl; held = fill-paths c (heldBy p s (r .1)) (b .held) }
 
-pub load-priced : (c : Config) (m : Machine) (b : Book) (a d : ℕ)
+pub load-priced : (c : Config) (m : Machine) (b : Book) (a d : ℕ) → c .bits ≡ false
     → let p = upper c d (addressIndexes c a) in
     Priced c b p (price c m false a d (any (same p) (paths (b .held)))) (request c m b false a d)
-load-priced c m b a d = request-priced c m b false a d (serves-load d (upper c d (addressIndexes c a)) (b .held))
+load-priced c m b a d off = request-priced c m b false a d off (serves-load d (upper c d (addressIndexes c a)) (b .held))
 
 -- one that is granted pays for its fill alone, and at depth N + 1 it has none
 pub granted-price : (c : Config) (m : Machine) (st : Bool) (a d : ℕ) (held : Bool) (r : Place) → (plain c m st a) .result ≡ granted r

@@ -1,4 +1,4 @@
--- Document 02, 5): a quiet stretch keeps what is held and adds what it touches, and each path that it adds costs one exit.
+-- Document 02, 5): with bits off a quiet stretch keeps what is held and adds what it touches, and each path that it adds costs one exit.
 -- Assumes nothing.
 use mathlib.Core.Path.{_≡_, refl, sym, ap, ap₂, _∙_, subst}
 use mathlib.Core.Logic.{inl, inr}
@@ -12,22 +12,23 @@ use lib.Dec.{T, leb, leb→le, le→leb}
 use Rattle.spec.specs.declared.Fault.{Fault}
 use Rattle.spec.specs.Answer.{Line}
 use Rattle.spec.specs.Config.{Config, frameBits}
-use Rattle.spec.specs.Entry.{pageOf, wordOf}
+use Rattle.spec.specs.Entry.{wordOf}
 use Rattle.spec.specs.Prefix.{All, same, any, tablesOf, distinct}
 use Rattle.spec.specs.Walk.{Result, granted, failed}
 use Rattle.spec.specs.Plain.{Place, upper}
 use Rattle.spec.specs.Machine.{Machine, stored}
 use Rattle.spec.specs.Book.{Held, Book, depth, find, paths, holding, watched, readsWord}
 use Rattle.spec.specs.Call.{Call, root, map, unmap, setMark, clearMark, load, store, device, forecast, Outcome, addressIndexes, plain, access, machineStep}
-use Rattle.spec.specs.Count.{Counted, one, serves, request, storing, bookStep}
+use Rattle.spec.specs.Count.{Counted, one, serves, others, request, storing, bookStep}
 use Rattle.spec.specs.Refusal.{allOf, refusal}
 use Rattle.spec.specs.Run.{State, lineOf, answered, step, run, after}
 use Rattle.spec.specs.Serving.{exitsPaid, allPaid}
 use Rattle.spec.specs.Quiet.{Role, roleOf, roleBy, met, isGranted, grantedAt, onlyGranted, translated, comesToWatched, unwatchedAt, noneWatched, pathOf, pathAt, added, pathsAt, touched, allFit, quiet, quietExits}
-use Rattle.spec_laws.proofs.Lists.{all-take, all-map, all-both, and-left, and-right, is-true, is-false, not-both, same-is, or-cases, or-left, or-right}
-use Rattle.spec_laws.proofs.Indexes.{indexes-all}
+use Rattle.spec_laws.proofs.Lists.{all-map, all-both, and-left, and-right, is-true, is-false, not-both, same-is, or-cases, or-left, or-right}
+use Rattle.spec_laws.proofs.Before.{off-verdict, off-bits}
 use Rattle.spec_laws.proofs.Distinct.{in-right}
-use Rattle.spec_laws.proofs.Keeps.{Valid, InArea, MappedIn, plain-in, store-keeps, unwatched-unread, drop-unwatched, fill-valid}
+use Rattle.spec_laws.proofs.Refill.{others-all}
+use Rattle.spec_laws.proofs.Keeps.{Valid, InArea, MappedIn, upper-small, upper-long, plain-in, store-keeps, unwatched-unread, drop-unwatched, fill-valid}
 use Rattle.spec_laws.proofs.Runs.{fill-all, request-book}
 use Rattle.spec_laws.proofs.Added.{any-append}
 use Rattle.spec_laws.proofs.Members.{Within, SamePaths, distinct-same, tables-within, distinct-new, none-new}
@@ -54,19 +55,19 @@ abbrev holds : Config → Option (List ℕ) → List (List ℕ) → List (List �
 holds c none hs = hs
 holds c (some p) hs = cond (any (same p) hs) hs (filled c p hs)
 
-serves-granted : (c : Config) (m : Machine) (st : Bool) (a d : ℕ) (hs : List Held) (r : Place) → All (Valid c m) hs → (plain c m st a) .result ≡ granted r
+serves-granted : (c : Config) (m : Machine) (st : Bool) (a d : ℕ) (hs : List Held) (r : Place) → c .bits ≡ false → All (Valid c m) hs → (plain c m st a) .result ≡ granted r
     → let p = upper c d (addressIndexes c a) in serves st d (find p hs) ≡ any (same p) (paths hs)
-serves-granted c m false a d hs r va h = serves-load d (upper c d (addressIndexes c a)) hs
-serves-granted c m true a d hs r va h = serves-store c m a d hs r va h
+serves-granted c m false a d hs r off va h = serves-load d (upper c d (addressIndexes c a)) hs
+serves-granted c m true a d hs r off va h = serves-store c m a d hs r off va h
 
 record Costs (c : Config) (hs : List (List ℕ)) (t : Option (List ℕ)) (e : ℕ) (ks : List (List ℕ)) : Type 0 where
   exits : e ≡ pays t hs
   held : ks ≡ holds c t hs
 
-request-costs : (c : Config) (m : Machine) (b : Book) (st : Bool) (a : ℕ) (r : Place) → All (Valid c m) (b .held) → (plain c m st a) .result ≡ granted r
+request-costs : (c : Config) (m : Machine) (b : Book) (st : Bool) (a : ℕ) (r : Place) → c .bits ≡ false → All (Valid c m) (b .held) → (plain c m st a) .result ≡ granted r
     → let k = request c m b st a (depth (b .marks) (addressIndexes c a)) in Costs c (paths (b .held)) (pathOf c (b .marks) a) (k .exits) (paths (k .book .held))
-request-costs c m b st a r va h =
-    let k = request-priced c m b st a d (serves-granted c m st a d (b .held) r va h) in
+request-costs c m b st a r off va h =
+    let k = request-priced c m b st a d off (serves-granted c m st a d (b .held) r off va h) in
     let g = granted-price c m st a d held r h in
     go (leb d (c .levels)) _ _ (k .exits ∙ g .0 ∙ ap one (g .1)) (k .held ∙ ap (λ t. cond t (filled c p (paths (b .held))) (paths (b .held))) (g .1))
   where
@@ -93,8 +94,11 @@ request-sound c m b st a d i = record {
   mapped = i .mapped;
   root = i .root;
   valid = request-book (λ x. All (Valid c m) (x .held)) c m b st a d (i .valid)
-      (λ r l e. fill-all (Valid c m) c _ (b .held) (fill-valid c m st (upper c d (addressIndexes c a)) r (all-take (λ i. i < 512) (c .levels - d) (addressIndexes c a) (indexes-all (c .levels) (pageOf a))) e) (i .valid));
+      (λ r l e g. fill-all (Valid c m) c _ (others c p (b .held)) (fill-valid c m st d p r (upper-small c d a) (upper-long c d a) e) (others-all (Valid c m) c p (b .held) (i .valid)));
 }
+  where
+    p : List ℕ
+    p = upper c d (addressIndexes c a)
 
 -- ---- a store into a frame that is not watched
 
@@ -124,68 +128,70 @@ record Stepped (s : State) (t : Option (List ℕ)) (o : Line × State) : Type 0 
 -- what a granted load or store (v: its value) does, r being where it comes to, if its step on the book is k
 abbrev does : State → ℕ → ℕ → Option ℕ → Place → Counted → Line × State
 does s a w v r k =
-    let o : Outcome × Machine = access (s .config) (s .machine) a w v (granted r) in
+    let o : Outcome × Machine = access (s .config) (s .machine) (s .machine) a w v (granted r) in
     (lineOf (o .0) (k .references) (k .exits), record { config = s .config; machine = o .1; book = k .book })
 
 -- its request's
 abbrev requested : State → Bool → ℕ → Counted
 requested s st a = request (s .config) (s .machine) (s .book) st a (depth (s .book .marks) (addressIndexes (s .config) a))
 
-request-stepped : (s : State) (st : Bool) (a w : ℕ) (v : Option ℕ) (r : Place) → SoundAt s → (plain (s .config) (s .machine) st a) .result ≡ granted r
+request-stepped : (s : State) (st : Bool) (a w : ℕ) (v : Option ℕ) (r : Place) → s .config .bits ≡ false → SoundAt s → (plain (s .config) (s .machine) st a) .result ≡ granted r
     → SoundAt ((does s a w v r (requested s st a)) .1) → Stepped s (pathOf (s .config) (s .book .marks) a) (does s a w v r (requested s st a))
-request-stepped s st a w v r i h next =
+request-stepped s st a w v r off i h next =
     let k = requested s st a in
-    let t = request-costs (s .config) (s .machine) (s .book) st a r (i .valid) h in
+    let t = request-costs (s .config) (s .machine) (s .book) st a r off (i .valid) h in
     record {
       config = refl;
-      costs = record { exits = access-paid (s .config) (s .machine) a w v (granted r) (k .references) (k .exits) .1 ∙ t .exits; held = t .held };
+      costs = record { exits = access-paid (s .config) (s .machine) (s .machine) a w v (granted r) (k .references) (k .exits) .1 ∙ t .exits; held = t .held };
       sound = next;
     }
 
-load-stepped : (a w : ℕ) (s : State) (r : Place) → SoundAt s → (plain (s .config) (s .machine) false a) .result ≡ granted r
+load-stepped : (a w : ℕ) (s : State) (r : Place) → s .config .bits ≡ false → SoundAt s → (plain (s .config) (s .machine) false a) .result ≡ granted r
     → Stepped s (pathOf (s .config) (s .book .marks) a) (answered (load a w) s none)
 unfolding machineStep bookStep access
-load-stepped a w s r i h =
+load-stepped a w s r off i h =
     let c = s .config in
     let m = s .machine in
     let k = requested s false a in
     let e : answered (load a w) s none ≡ does s a w none r k =
-    ap (λ x. (lineOf ((access c m a w none x) .0) (k .references) (k .exits), record { config = c; machine = (access c m a w none x) .1; book = k .book })) h in
+    ap₂ (λ n x. (lineOf ((access c m n a w none x) .0) (k .references) (k .exits), record { config = c; machine = (access c m n a w none x) .1; book = k .book }))
+    (off-bits c false m (plain c m false a) off) (off-verdict c m false a off ∙ h) in
     subst (Stepped s (pathOf c (s .book .marks) a)) (sym e)
-    (request-stepped s false a w none r i h (request-sound c m (s .book) false a (depth (s .book .marks) (addressIndexes c a)) i))
+    (request-stepped s false a w none r off i h (request-sound c m (s .book) false a (depth (s .book .marks) (addressIndexes c a)) i))
 
-store-stepped : (a w v : ℕ) (s : State) (r : Place) → SoundAt s → (plain (s .config) (s .machine) true a) .result ≡ granted r → T (not (watched (r .0) (translated s true a)))
+store-stepped : (a w v : ℕ) (s : State) (r : Place) → s .config .bits ≡ false → SoundAt s → (plain (s .config) (s .machine) true a) .result ≡ granted r → T (not (watched (r .0) (translated s true a)))
     → Stepped s (pathOf (s .config) (s .book .marks) a) (answered (store a w v) s none)
 unfolding machineStep bookStep access wordOf
-store-stepped a w v s r i h n =
+store-stepped a w v s r off i h n =
     let c = s .config in
     let m = s .machine in
     let k = requested s true a in
     let e : answered (store a w v) s none ≡ does s a w (some v) r k =
-    ap (λ x.
+    ap₂ (λ n x.
     let y : Counted = storing (wordOf a) x k in
-    (lineOf ((access c m a w (some v) x) .0) (y .references) (y .exits), record { config = c; machine = (access c m a w (some v) x) .1; book = y .book })) h
+    (lineOf ((access c m n a w (some v) x) .0) (y .references) (y .exits), record { config = c; machine = (access c m n a w (some v) x) .1; book = y .book }))
+    (off-bits c true m (plain c m true a) off) (off-verdict c m true a off ∙ h)
     ∙ ap (does s a w (some v) r) (storing-unwatched (wordOf a) r k n) in
     subst (Stepped s (pathOf c (s .book .marks) a)) (sym e)
-    (request-stepped s true a w (some v) r i h
+    (request-stepped s true a w (some v) r off i h
     (stored-sound c m (r .0) (wordOf a) _ (k .book .held) (plain-in c m true a r (i .mapped) (i .root) h) (omega arith) n
     (request-sound c m (s .book) true a (depth (s .book .marks) (addressIndexes c a)) i)))
 
 -- a call that has its place in a quiet stretch
-quiet-call : (x : Call) (s : State) → SoundAt s
+quiet-call : (x : Call) (s : State) → s .config .bits ≡ false → SoundAt s
     → let o : Role × State = (roleBy x (refusal (s .config) x (s .machine) (s .book)), s) in
     T (grantedAt o) → T (unwatchedAt o) → Stepped s (pathAt o) (step x s)
 unfolding step machineStep bookStep
-quiet-call x s i g n = go (refusal (s .config) x (s .machine) (s .book)) g n
+quiet-call x s off i g n = go (refusal (s .config) x (s .machine) (s .book)) g n
   where
     loads : (a w : ℕ) (y : Result Fault Place) → (plain (s .config) (s .machine) false a) .result ≡ y → T (isGranted y)
         → Stepped s (pathOf (s .config) (s .book .marks) a) (answered (load a w) s none)
-    loads a w (granted r) h k = load-stepped a w s r i h
+    loads a w (granted r) h k = load-stepped a w s r off i h
     loads a w (failed f) h k = absurd k
 
     stores : (a w v : ℕ) (y : Result Fault Place) → (plain (s .config) (s .machine) true a) .result ≡ y → T (isGranted y) → T (not (comesToWatched (translated s true a) y))
         → Stepped s (pathOf (s .config) (s .book .marks) a) (answered (store a w v) s none)
-    stores a w v (granted r) h k u = store-stepped a w v s r i h u
+    stores a w v (granted r) h k u = store-stepped a w v s r off i h u
     stores a w v (failed f) h k u = absurd k
 
     by : (y : Call) → T (grantedAt (roleOf y, s)) → T (unwatchedAt (roleOf y, s)) → Stepped s (pathAt (roleOf y, s)) (answered y s none)
@@ -251,43 +257,43 @@ record Stretched (ps hs ks : List (List ℕ)) (e : ℕ) : Type 0 where
   paid : distinct ks ≡ e + distinct hs
   kept : SamePaths ks (ps ++ hs)
 
-stretched : (xs : List Call) (s : State) → SoundAt s → T (allOf grantedAt (met xs s)) → T (allOf unwatchedAt (met xs s))
+stretched : (xs : List Call) (s : State) → s .config .bits ≡ false → SoundAt s → T (allOf grantedAt (met xs s)) → T (allOf unwatchedAt (met xs s))
     → tablesOf (pathsAt (met xs s) ++ paths (s .book .held)) ≤ s .config .shadows
     → Stretched (pathsAt (met xs s)) (paths (s .book .held)) (paths ((after xs s) .book .held)) (allPaid exitsPaid (run xs s))
 unfolding met run after
-stretched [] s i g n l = record { paid = omega arith; kept = λ p. refl }
-stretched (x ∷ xs) s i g n l =
+stretched [] s off i g n l = record { paid = omega arith; kept = λ p. refl }
+stretched (x ∷ xs) s off i g n l =
     let o : Role × State = (roleBy x (refusal (s .config) x (s .machine) (s .book)), s) in
     let u = (step x s) .1 in
     let ps = pathsAt (met xs u) in
     let hs = paths (s .book .held) in
-    let f = quiet-call x s i (and-left (grantedAt o) _ g) (and-left (unwatchedAt o) _ n) in
+    let f = quiet-call x s off i (and-left (grantedAt o) _ g) (and-left (unwatchedAt o) _ n) in
     let now : paths (u .book .held) ≡ grown (pathAt o) hs = f .costs .held ∙ grown-fits (s .config) (pathAt o) ps hs l in
     let moved : SamePaths (ps ++ paths (u .book .held)) (added (pathAt o) ps ++ hs) = λ p. ap (λ y. any (same p) (ps ++ y)) now ∙ grown-same (pathAt o) ps hs p in
     let room = tables-within (ps ++ paths (u .book .held)) (added (pathAt o) ps ++ hs) (λ p h. subst T (moved p) h) in
-    let rest = stretched xs u (f .sound) (and-right (grantedAt o) _ g) (and-right (unwatchedAt o) _ n) (subst (λ c. tablesOf (ps ++ paths (u .book .held)) ≤ c .shadows) (sym (f .config)) (omega (arith, room, l))) in
+    let rest = stretched xs u (ap (λ (c : Config). c .bits) (f .config) ∙ off) (f .sound) (and-right (grantedAt o) _ g) (and-right (unwatchedAt o) _ n) (subst (λ c. tablesOf (ps ++ paths (u .book .held)) ≤ c .shadows) (sym (f .config)) (omega (arith, room, l))) in
     let here = ap distinct now ∙ grown-paid (pathAt o) hs ∙ ap (λ e. e + distinct hs) (sym (f .costs .exits)) in
     record { paid = omega (arith, rest .paid, here); kept = λ p. rest .kept p ∙ moved p }
 
 -- ---- of machine and book
 
-quiet-stretched : (xs : List Call) (s : State) → SoundAt s → T (quiet xs s)
+quiet-stretched : (xs : List Call) (s : State) → s .config .bits ≡ false → SoundAt s → T (quiet xs s)
     → Stretched (touched xs s) (paths (s .book .held)) (paths ((after xs s) .book .held)) (allPaid exitsPaid (run xs s))
 unfolding quiet onlyGranted noneWatched allFit touched
-quiet-stretched xs s i q =
+quiet-stretched xs s off i q =
     let k = and-left (onlyGranted xs s && noneWatched xs s) (allFit xs s) q in
-    stretched xs s i (and-left (onlyGranted xs s) (noneWatched xs s) k) (and-right (onlyGranted xs s) (noneWatched xs s) k)
+    stretched xs s off i (and-left (onlyGranted xs s) (noneWatched xs s) k) (and-right (onlyGranted xs s) (noneWatched xs s) k)
     (leb→le (tablesOf (pathsAt (met xs s) ++ paths (s .book .held))) (s .config .shadows) (and-right (onlyGranted xs s && noneWatched xs s) (allFit xs s) q))
 
 -- after a quiet stretch just those paths are held that were held, or that it touched
-pub quiet-keeps : (xs : List Call) (s : State) → SoundAt s → T (quiet xs s) → SamePaths (paths ((after xs s) .book .held)) (touched xs s ++ paths (s .book .held))
-quiet-keeps xs s i q = quiet-stretched xs s i q .kept
+pub quiet-keeps : (xs : List Call) (s : State) → s .config .bits ≡ false → SoundAt s → T (quiet xs s) → SamePaths (paths ((after xs s) .book .held)) (touched xs s ++ paths (s .book .held))
+quiet-keeps xs s off i q = quiet-stretched xs s off i q .kept
 
 -- and its exits are the figure
-pub quiet-costs : (xs : List Call) (s : State) → SoundAt s → T (quiet xs s) → allPaid exitsPaid (run xs s) ≡ quietExits xs s
+pub quiet-costs : (xs : List Call) (s : State) → s .config .bits ≡ false → SoundAt s → T (quiet xs s) → allPaid exitsPaid (run xs s) ≡ quietExits xs s
 unfolding quietExits
-quiet-costs xs s i q =
-    let k = quiet-stretched xs s i q in
+quiet-costs xs s off i q =
+    let k = quiet-stretched xs s off i q in
     let a = distinct-same (paths ((after xs s) .book .held)) (touched xs s ++ paths (s .book .held)) (k .kept) in
     let b = distinct-new (touched xs s) (paths (s .book .held)) in
     omega (arith, k .paid, a, b)

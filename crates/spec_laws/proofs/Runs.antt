@@ -1,12 +1,13 @@
 -- What the book keeps over a run: every held path has the depth that the marks say, so none is a proper prefix of another;
 -- and a granted request reads N + N·d words.
 -- Assumes nothing.
-use mathlib.Core.Path.{_≡_, refl, sym, subst}
+use mathlib.Core.Path.{_≡_, refl, sym, ap, _∙_, subst}
 use Prim.Native.Nat.{ℕ, suc, _+_, _*_, _-_, _≤_}
 use native.Mathlib.Omega.{arith}
-use mathlib.Core.Bool.{Bool, true, false, not, cond}
+use mathlib.Core.Bool.{Bool, true, false, not, _&&_, _||_, cond}
 use mathlib.Core.List.{List, [], _∷_}
 use mathlib.Core.Option.{Option, none, some}
+use borrow.Author.Tests.{not-false}
 use lib.Dec.{T, eqb, leb, leb→le}
 use lib.ListN.{length}
 use lib.Seq.{length-take-le}
@@ -14,16 +15,19 @@ use Rattle.spec.specs.declared.Fault.{Fault}
 use Rattle.spec.specs.Config.{Config}
 use Rattle.spec.specs.Entry.{pageOf, wordOf}
 use Rattle.spec.specs.Prefix.{begins, same, keep}
-use Rattle.spec.specs.Walk.{Trace, Result, granted, failed, trace}
-use Rattle.spec.specs.Plain.{Place, upper, shadowPart}
+use Rattle.spec.specs.Walk.{World, Trace, Result, granted, failed, trace}
+use Rattle.spec.specs.Plain.{Place, upper, shadowPart, directPart}
 use Rattle.spec.specs.Machine.{Machine, world}
+use Rattle.spec.specs.Bits.{owes, judged}
 use Rattle.spec.specs.Book.{Mark, Held, Book, markAt, sameMark, depth, find, holding, fill, shadowTables, dropPrefix, usesMapping, readsWord}
-use Rattle.spec.specs.Call.{Call, root, map, unmap, setMark, clearMark, load, store, device, forecast, addressIndexes, plain}
-use Rattle.spec.specs.Count.{Counted, serves, heldBy, shadowed, unshadowed, request, storing, bookStep}
+use Rattle.spec.specs.Call.{Call, root, map, unmap, setMark, clearMark, load, store, device, forecast, addressIndexes, plain, verdict}
+use Rattle.spec.specs.Count.{Counted, serves, heldBy, isGranted, rightOf, others, shadowed, unshadowed, request, storing, bookStep}
 use Rattle.spec.specs.Refusal.{firstFailed, levelFits, tests, refusal}
 use Rattle.spec.specs.Run.{State, answered, step, after, opened}
 use Rattle.spec.specs.Prefix.{All}
-use Rattle.spec_laws.proofs.Lists.{all-map, all-keep, not-both, same-is, and-right}
+use Rattle.spec_laws.proofs.Lists.{all-map, all-keep, all-kept, not-both, same-is, and-right, or-second}
+use Rattle.spec_laws.proofs.Parts.{direct-result}
+use Rattle.spec_laws.proofs.Refill.{others-all}
 use Rattle.spec_laws.proofs.Counts.{request-count}
 use Rattle.spec_laws.proofs.Indexes.{indexes-length}
 use Rattle.spec_laws.proofs.Depth.{MarkFits, PathFits, depth-bound, no-proper-prefix, fill-fits, set-fits, clear-fits}
@@ -46,11 +50,7 @@ HeldFits c ms h = PathFits (c .levels) ms (h .path)
 
 -- fewer held paths
 pub kept-fits : (c : Config) (b : Book) (f : Held → Bool) → BookFits c b → BookFits c (holding b (keep f (b .held)))
-kept-fits c b f i = record {
-  marks = i .marks;
-  held = all-map (λ h. HeldFits c (b .marks) h × T (f h)) (HeldFits c (b .marks)) (keep f (b .held)) (λ h k. k .0)
-      (all-keep (HeldFits c (b .marks)) f (b .held) (i .held));
-}
+kept-fits c b f i = record { marks = i .marks; held = all-kept (HeldFits c (b .marks)) f (b .held) (i .held) }
 
 mark-fits : (c : Config) (n a : ℕ) → T (levelFits c n) → MarkFits (c .levels) (markAt c n (addressIndexes c a))
 mark-fits c n a h =
@@ -73,8 +73,7 @@ not-not false h = h
 clear-keeps : (c : Config) (b : Book) (m : Mark) → BookFits c b
     → BookFits c (record { marks = keep (λ y. not (sameMark m y)) (b .marks); held = dropPrefix (m .prefix) (b .held) })
 clear-keeps c b m i = record {
-  marks = all-map (λ y. MarkFits (c .levels) y × T (not (sameMark m y))) (MarkFits (c .levels)) (keep (λ y. not (sameMark m y)) (b .marks)) (λ y k. k .0)
-      (all-keep (MarkFits (c .levels)) (λ y. not (sameMark m y)) (b .marks) (i .marks));
+  marks = all-kept (MarkFits (c .levels)) (λ y. not (sameMark m y)) (b .marks) (i .marks);
   held = all-map (λ h. HeldFits c (b .marks) h × T (not (begins (m .prefix) (h .path)))) (HeldFits c (keep (λ y. not (sameMark m y)) (b .marks)))
       (dropPrefix (m .prefix) (b .held))
       (λ h k. clear-fits (c .levels) (b .marks) (h .path) (k .0) (λ y. not (sameMark m y)) (i .marks)
@@ -92,36 +91,56 @@ fill-all P c h hs one all = go (leb (shadowTables (h ∷ hs)) (c .shadows))
     go true = (one, all)
     go false = (one, tt)
 
-pub fill-keeps : (c : Config) (b : Book) (h : Held) → HeldFits c (b .marks) h → BookFits c b → BookFits c (holding b (fill c h (b .held)))
-fill-keeps c b h ok i = record { marks = i .marks; held = fill-all (HeldFits c (b .marks)) c h (b .held) ok (i .held) }
+-- a filled path replaces the one of the same indexes
+pub fill-keeps : (c : Config) (b : Book) (h : Held) → HeldFits c (b .marks) h → BookFits c b → BookFits c (holding b (fill c h (others c (h .path) (b .held))))
+fill-keeps c b h ok i = record {
+  marks = i .marks;
+  held = fill-all (HeldFits c (b .marks)) c h (others c (h .path) (b .held)) ok (others-all (HeldFits c (b .marks)) c (h .path) (b .held) (i .held));
+}
 
--- a request leaves the book as it is, or fills its path where its shadow part is granted
+-- a request leaves the book as it is, or fills its path where its shadow part is granted, and with bits on only where it is granted itself
 pub request-book : (P : Book → Type 0) (c : Config) (m : Machine) (b : Book) (st : Bool) (a d : ℕ)
-    → let p = upper c d (addressIndexes c a) in
-    let s = trace (world c m) (shadowPart c st d (m .root) (addressIndexes c a)) in
-    P b → ((r : Place) → d ≤ c .levels → s .result ≡ granted r → P (holding b (fill c (heldBy p s (r .1)) (b .held)))) → P ((request c m b st a d) .book)
-unfolding request
+    → let w = world c m in
+    let p = upper c d (addressIndexes c a) in
+    let s = trace w (shadowPart c st d (m .root) (addressIndexes c a)) in
+    P b → ((r : Place) → d ≤ c .levels → s .result ≡ granted r → (c .bits ≡ true → isGranted (verdict c m st a) ≡ true)
+    → P (holding b (fill c (heldBy p s (rightOf c w st d s (r .1))) (others c p (b .held))))) → P ((request c m b st a d) .book)
+unfolding request verdict plain
 request-book P c m b st a d same fills = go (leb d (c .levels)) refl
   where
     is : List ℕ
     is = addressIndexes c a
 
-    held : Bool
-    held = serves st d (find (upper c d is) (b .held))
+    p : List ℕ
+    p = upper c d is
+
+    w : World
+    w = world c m
 
     s : Trace Fault Place
-    s = trace (world c m) (shadowPart c st d (m .root) is)
+    s = trace w (shadowPart c st d (m .root) is)
 
-    kept : (r : Place) (k : Bool) → d ≤ c .levels → s .result ≡ granted r → P (cond k b (holding b (fill c (heldBy (upper c d is) s (r .1)) (b .held))))
-    kept r true l e = same
-    kept r false l e = fills r l e
+    o : Option (ℕ × ℕ)
+    o = owes c w st (plain c m st a)
 
-    part : (x : Result Fault Place) → s .result ≡ x → d ≤ c .levels → P ((shadowed c m b st d is (upper c d is) held s x) .book)
+    held : Bool
+    held = serves st d (find p (b .held))
+
+    only : (h on g : Bool) → (h || (on && not g)) ≡ false → on ≡ true → g ≡ true
+    only h on g e z = not-false g (ap (λ x. x && not g) (sym z) ∙ or-second h (on && not g) e)
+
+    kept : (r : Place) → d ≤ c .levels → s .result ≡ granted r → let x = (trace w (directPart c st d r is)) .result in
+        (k : Bool) → (held || (c .bits && not (isGranted (judged o x)))) ≡ k → P (cond k b (holding b (fill c (heldBy p s (rightOf c w st d s (r .1))) (others c p (b .held)))))
+    kept r l e true q = same
+    kept r l e false q =
+        fills r l e (λ on. ap (λ x. isGranted (judged o x)) (direct-result w c st d (m .root) is r (indexes-length (c .levels) (pageOf a)) l e .0) ∙ only held (c .bits) _ q on)
+
+    part : (x : Result Fault Place) → s .result ≡ x → d ≤ c .levels → P ((shadowed c w b st d is p held o s x) .book)
     part (failed x) e l = same
-    part (granted r) e l = kept r held l e
+    part (granted r) e l = kept r l e _ refl
 
     go : (t : Bool) → leb d (c .levels) ≡ t
-        → P ((cond t (shadowed c m b st d is (upper c d is) held s (s .result)) (unshadowed b (plain c m st a))) .book)
+        → P ((cond t (shadowed c w b st d is p held o s (s .result)) (unshadowed b ((plain c m st a) .count) (verdict c m st a))) .book)
     go true e = part (s .result) refl (leb→le d (c .levels) (subst T (sym e) tt))
     go false e = same
 
@@ -130,7 +149,7 @@ pub request-keeps : (c : Config) (m : Machine) (b : Book) (st : Bool) (a : ℕ) 
 request-keeps c m b st a i =
     let is = addressIndexes c a in
     request-book (BookFits c) c m b st a (depth (b .marks) is) i
-    (λ r l e. fill-keeps c b _ (fill-fits (c .levels) (b .marks) is (i .marks) (indexes-length (c .levels) (pageOf a)) l) i)
+    (λ r l e g. fill-keeps c b _ (fill-fits (c .levels) (b .marks) is (i .marks) (indexes-length (c .levels) (pageOf a)) l) i)
 
 storing-keeps : (c : Config) (i : ℕ) (x : Result Fault Place) (k : Counted) → BookFits c (k .book) → BookFits c ((storing i x k) .book)
 unfolding storing
@@ -184,12 +203,12 @@ held-apart c memory xs =
     all-map (HeldFits k (b .marks)) _ (b .held)
     (λ h fh. all-map (HeldFits k (b .marks)) _ (b .held) (λ y fy. no-proper-prefix (k .levels) (b .marks) (h .path) (y .path) fh fy) (f .held)) (f .held)
 
--- after any list of calls from an opening, a request that the plain walk grants reads N + N·d words
+-- after any list of calls from an opening, a request that is granted reads N + N·d words
 pub granted-reads : (c : Config) (memory : List ℕ) (xs : List Call) (st : Bool) (a : ℕ) (r : Place)
     → let s = after xs (opened c memory) in
     let k = s .config in
     let d = depth (s .book .marks) (addressIndexes k a) in
-    (plain k (s .machine) st a) .result ≡ granted r → (request k (s .machine) (s .book) st a d) .references ≡ k .levels + k .levels * d
+    verdict k (s .machine) st a ≡ granted r → (request k (s .machine) (s .book) st a d) .references ≡ k .levels + k .levels * d
 granted-reads c memory xs st a r h =
     let s = after xs (opened c memory) in
     let f = run-fits xs (opened c memory) (opened-fits c memory) in

@@ -4,7 +4,7 @@ use mathlib.Core.Path.{_≡_, refl}
 use mathlib.Core.Logic.{inl, inr}
 use Prim.Native.Nat.{ℕ, suc, pred, _+_, _-_, _*_, _<_, _≤_}
 use native.Mathlib.Omega.{arith}
-use native.Mathlib.Nat.{mul-suc}
+use native.Mathlib.Nat.{mul-suc, mul-le-mul}
 use mathlib.Core.Bool.{Bool, true, false, cond}
 use mathlib.Core.List.{List, [], _∷_}
 use lib.Dec.{eqb, ltb}
@@ -13,7 +13,7 @@ use Rattle.spec.specs.declared.Fault.the-variants as fault
 use Rattle.spec.specs.Config.{Config}
 use Rattle.spec.specs.Entry.{present, writable, frameOf, indexes, pageOf, frameLimit}
 use Rattle.spec.specs.Refusal.{inGuestArea}
-use Rattle.spec.specs.Plain.{next, levels, walk}
+use Rattle.spec.specs.Plain.{Place, next, levels, walk}
 use Rattle.area.specs.declared.Look.{Look}
 use Rattle.area.specs.declared.Look.the-variants.{Seen, Damaged}
 use Rattle.area.specs.Tree.{lookupOf}
@@ -23,11 +23,15 @@ use Rattle.layout.specs.Layout.{page, leafOf, namedBy}
 use Rattle.layout.proofs.Laws.{InGuestArea, in-guest-area}
 use Rattle.walk.specs.declared.Walked.{Walked}
 use Rattle.walk.specs.declared.Walked.the-variants as walked
-use Rattle.walk.specs.Memory.{walkedOf, turn}
+use Rattle.walk.specs.Memory.{memoryWorld, absentBy, walkedBy, walkedOf, turn}
 use Rattle.walk.proofs.Laws.{thenWalked, TurnFits, table-fits, turn-fits, levels-step, levels-end, walk-step}
 use Rattle.shadow.specs.Held.{heldOf}
 use Rattle.translate.specs.declared.Held.{Held}
-use Rattle.translate.specs.Translate.{exitBy, pathIndexes, HeldFits, ReadsMost, directOf, foundOf}
+use Rattle.translate.specs.Translate.{exitBy, pathOf, pathIndexes, HeldFits, ReadsMost, ReadsFrom, directOf, foundOf}
+use Rattle.spec.specs.declared.Fault.{Fault}
+use Rattle.spec.specs.Walk.{Walk, Result, granted, failed, trace}
+use Rattle.spec_laws.proofs.Indexes.{indexes-length}
+use Rattle.host.specs.Walk.{hostWalkOf}
 
 pub exit-small : (r : Walked) → exitBy r ≤ 1
 exit-small (walked.Arrived t w n) = omega arith
@@ -37,6 +41,10 @@ exit-small (walked.Faulted (fault.Protected l) n) = omega arith
 exit-small (walked.Faulted (fault.HostAbsent g) n) = omega arith
 exit-small (walked.Faulted (fault.HostReadOnly g) n) = omega arith
 exit-small walked.Damaged = omega arith
+
+-- so that more can be added
+pub exit-few : (r : Walked) → exitBy r ≤ 65536
+exit-few r = let k = exit-small r in omega arith
 
 -- ---- walks
 abbrev pub ArrivedIn : Config → Walked → Type 0
@@ -101,6 +109,40 @@ module _ (c : Config) (ht : ℕ) (m : List ℕ) (st : Bool) where
       go (walked.Arrived p w j) f = levels-most is j (c .levels) (p .0) true k (omega (arith, f .1, l))
       go (walked.Faulted x j) f = omega (arith, f, l)
       go walked.Damaged f = tt
+
+  pub shadow-most : (root a d : ℕ) → c .levels ≤ 5 → ReadsMost 65536 (walkedOf c ht m 0 (walk c st root (pathIndexes c d a)))
+  shadow-most root a d five =
+      let long : length (pathIndexes c d a) ≡ c .levels - d = indexes-length (c .levels - d) (pathOf d a) in
+      let wide : 1 + c .levels ≤ 6 = omega arith in
+      let steps : length (pathIndexes c d a) ≤ 5 = omega (arith, long) in
+      let many : (1 + c .levels) * length (pathIndexes c d a) ≤ 6 * 5 = mul-le-mul wide steps in
+      walk-most 0 root (pathIndexes c d a) 65536 (omega arith)
+
+  -- and no fewer than it began with
+  walked-least : (n : ℕ) (p : Walk Fault Place) (k : ℕ) → ReadsMost k (walkedOf c ht m n p) → k ≤ 65536 → ReadsFrom n (walkedOf c ht m n p)
+  unfolding walkedOf
+  walked-least n p k = go ((trace (memoryWorld c ht m) p) .result) (n + (trace (memoryWorld c ht m) p) .count) (omega arith)
+    where
+      absent : (h : HostWalk) (g j : ℕ) → n ≤ j → ReadsMost k (absentBy h (walked.Faulted (fault.HostAbsent g) j)) → k ≤ 65536 → ReadsFrom n (absentBy h (walked.Faulted (fault.HostAbsent g) j))
+      absent (host.Found q v) g j l b d = (l, omega arith)
+      absent (host.Absent i) g j l b d = (l, omega arith)
+      absent host.Damaged g j l b d = tt
+
+      go : (x : Result Fault Place) (j : ℕ) → n ≤ j → ReadsMost k (walkedBy c ht m x j) → k ≤ 65536 → ReadsFrom n (walkedBy c ht m x j)
+      go (granted q) j l b d = (l, omega arith)
+      go (failed (fault.Absent i)) j l b d = (l, omega arith)
+      go (failed (fault.Malformed i)) j l b d = (l, omega arith)
+      go (failed (fault.Protected i)) j l b d = (l, omega arith)
+      go (failed (fault.HostAbsent g)) j l b d = absent (hostWalkOf c ht m g) g j l b d
+      go (failed (fault.HostReadOnly g)) j l b d = (l, omega arith)
+
+  pub direct-reads : (a d t : ℕ) (w : Bool) → c .levels ≤ 5 → d ≤ c .levels → ReadsFrom (c .levels - d) (directOf c ht m st a d t w)
+  unfolding directOf
+  direct-reads a d t w five low =
+      let wide : 1 + c .levels ≤ 6 = omega arith in
+      let steps : length (indexes d (pageOf a)) ≤ 5 = omega (arith, indexes-length d (pageOf a)) in
+      let many : (1 + c .levels) * length (indexes d (pageOf a)) ≤ 6 * 5 = mul-le-mul wide steps in
+      walked-least (c .levels - d) (levels c st (0 + d) t w (indexes d (pageOf a))) 65536 (levels-most (indexes d (pageOf a)) (c .levels - d) (0 + d) t w 65536 (omega arith)) (omega arith)
 
 -- ---- held paths: what is true of every frame of the guest area, and of the frame in the record, is true of a frame found
 module _ (c : Config) (P : ℕ → Type 0) (all : (f : ℕ) → InGuestArea c f → P f) where

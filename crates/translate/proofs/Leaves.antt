@@ -1,12 +1,12 @@
 -- What a translation leaves, whatever the memory holds: no word outside the shadow tables' area changes, and what it hands back is
 -- again in range.
 -- Assumes nothing.
-use mathlib.Core.Path.{_≡_}
+use mathlib.Core.Path.{_≡_, refl}
 use mathlib.Core.Logic.{inl, inr}
-use Prim.Native.Nat.{ℕ, _-_, _≤_}
+use Prim.Native.Nat.{ℕ, _+_, _-_, _≤_}
 use native.Mathlib.Omega.{arith}
 use borrow.Author.Tests.{eqb-false}
-use mathlib.Core.Bool.{Bool, true, false, cond}
+use mathlib.Core.Bool.{Bool, true, false, cond, false≢true}
 use mathlib.Core.List.{List}
 use lib.Dec.{eqb, leb, ltb}
 use Rattle.spec.specs.Config.{Config}
@@ -22,14 +22,19 @@ use Rattle.layout.specs.declared.HostWalk.the-variants as host
 use Rattle.layout.proofs.Laws.{InGuestArea}
 use Rattle.walk.specs.declared.Walked.{Walked}
 use Rattle.walk.specs.declared.Walked.the-variants as walked
-use Rattle.walk.specs.Memory.{walkedOf, trailFrom, trailOf}
+use Rattle.spec.specs.Walk.{trace}
+use Rattle.spec.specs.Bits.{lacks}
+use Rattle.walk.specs.Memory.{memoryWorld, walkedOf, trailFrom, trailOf}
 use Rattle.shadow.specs.Held.{entryFor}
 use Rattle.shadow.specs.Fill.{fillOf}
 use Rattle.shadow.proofs.Outside.{fill-out}
 use Rattle.shadow.proofs.Fresh.{fill-fits}
 use Rattle.translate.specs.declared.Held.{Held}
-use Rattle.translate.specs.Translate.{pathOf, pathIndexes, holding, HeldFits, translation, directOf, servedOf, servesOf, foundOf, fillBy, filledOf, missedBy, missedOf, foundBy, plainOf, translateOf}
+use Rattle.translate.specs.declared.Checked.{Checked}
+use Rattle.translate.specs.declared.Checked.the-variants as checked
+use Rattle.translate.specs.Translate.{exitBy, pathOf, pathIndexes, holding, HeldFits, ExitsOnce, translation, whole, direct, directOf, servedOf, plainOf, checkedOf, settledBy, judgedBy, throughOf, unshadowedOf, servesOf, foundOf, fillBy, filledOf, passesOf, grantBy, strictBy, brokenBy, laxOf, arrivedOf, missedBy, missedOf, foundBy, translateOf}
 use Rattle.translate.proofs.Fits.{exit-small, ArrivedIn, direct-in, walk-in, FoundIs, found-is}
+use Rattle.translate.proofs.Bits.{checked-once}
 use Rattle.words.specs.After.{After, yields}
 use Rattle.pool.specs.declared.Went.{Went}
 use Rattle.translate.specs.declared.Translated.{Translated}
@@ -43,77 +48,139 @@ pub record Leaves (c : Config) (m : List ℕ) (o : After Translated) : Type 0 wh
   pub held : HeldFits c (o .result .held)
   pub exits : o .result .exits ≤ 2
   pub arrived : ArrivedIn c (o .result .walked)
+  pub sets : o .result .sets ≡ true → c .bits ≡ true
 
-module _ (c : Config) (ht : ℕ) (m : List ℕ) (st : Bool) where
-  served-leaves : (n : List ℕ) (h : Held) (a d t : ℕ) (w : Bool) (e : ℕ) → SameOutside (c .hosts) (c .shadows) m n
-      → HeldFits c h → InGuestArea c t → e ≤ 1 → Leaves c m (yields (servedOf c ht n h st a d t w e) n)
-  unfolding servedOf
-  served-leaves n h a d t w e s f g l =
-      record { same = s; held = f; exits = omega (arith, exit-small (directOf c ht n st a d t w)); arrived = direct-in c ht n st a d t w g }
+module _ (c : Config) (ht : ℕ) (m : List ℕ) (st : Bool) (h : Held) (f : HeldFits c h) (root a d : ℕ) where
+  none : SameOutside (c .hosts) (c .shadows) m m
+  none = out-refl (c .hosts) (c .shadows) m
 
-  module _ (h : Held) (f : HeldFits c h) (root a d : ℕ) where
-    none : SameOutside (c .hosts) (c .shadows) m m
-    none = out-refl (c .hosts) (c .shadows) m
+  ended : (n : List ℕ) (e : ℕ) (r : Walked) → SameOutside (c .hosts) (c .shadows) m n → e ≤ 2 → ArrivedIn c r → Leaves c m (yields (translation h e r false) n)
+  ended n e r o l g = record { same = o; held = f; exits = l; arrived = g; sets = λ z. absurd (false≢true z) }
 
-    stopped : (n : List ℕ) (e : ℕ) (r : Walked) → SameOutside (c .hosts) (c .shadows) m n → e ≤ 1 → ArrivedIn c r → Leaves c m (yields (translation h e r) n)
-    stopped n e r s l g = record { same = s; held = f; exits = omega arith; arrived = g }
+  -- ---- bits
 
-    filled-leaves : (gs : List ℕ) (t : ℕ) (w : Bool) → InGuestArea c t → Leaves c m (filledOf c ht m h gs st a d t w)
-    unfolding filledOf
-    filled-leaves gs t w g = go (leb (c .levels) d)
-      where
-        e : ℕ
-        e = entryFor t (ltb 0 d) w
+  settled-leaves : c .bits ≡ true → (n : ℕ) (r : Walked) (k : Checked) → ArrivedIn c r → ExitsOnce k → Leaves c m (yields (settledBy h n r k) m)
+  settled-leaves on n r (checked.Clear l) g o = record { same = none; held = f; exits = omega arith; arrived = g; sets = λ z. on }
+  settled-leaves on n r (checked.Stopped x e) g o = ended m e (walked.Faulted x n) none (omega arith) tt
+  settled-leaves on n r checked.Damaged g o = ended m 0 walked.Damaged none (omega arith) tt
 
-        s : After Went
-        s = fillOf c gs (h .pool) m (pathIndexes c d a) e
+  judged-leaves : c .bits ≡ true → (b : Bool) (r : Walked) → ArrivedIn c r → Leaves c m (yields (judgedBy h b (checkedOf c ht m root st a d) r) m)
+  judged-leaves on true (walked.Arrived t w n) g = settled-leaves on n (walked.Arrived t w n) (checkedOf c ht m root st a d) g (checked-once c ht m root st a d)
+  judged-leaves on false (walked.Arrived t w n) g = ended m 0 (walked.Arrived t w n) none (omega arith) g
+  judged-leaves on b (walked.Faulted x n) g = ended m _ (walked.Faulted x n) none (let k = exit-small (walked.Faulted x n) in omega arith) tt
+  judged-leaves on b walked.Damaged g = ended m 0 walked.Damaged none (omega arith) tt
 
-        same : SameOutside (c .hosts) (c .shadows) m (s .memory)
-        same = fill-out c gs (h .pool) m (pathIndexes c d a) e (indexes-narrow (c .levels - d) (pathOf d a))
+  through-leaves : (t : ℕ) (w : Bool) → InGuestArea c t → Leaves c m (yields (throughOf c ht m h root st a d t w) m)
+  unfolding throughOf servedOf
+  through-leaves t w g = go (c .bits) refl
+    where
+      r : Walked
+      r = directOf c ht m st a d t w
 
-        by : (x : Way) → Leaves c m (fillBy c ht h st a d t w s x)
-        by (To i) = served-leaves (s .memory) (record { pool = s .result .pool; frame = h .frame }) a d t w 1 same (fill-fits c gs (h .pool) m (pathIndexes c d a) e (f .0), f .1) g (omega arith)
-        by Not = stopped (s .memory) 0 walked.Damaged same (omega arith) tt
-        by Damaged = stopped (s .memory) 0 walked.Damaged same (omega arith) tt
+      lack : Bool
+      lack = lacks (memoryWorld c ht m) st ((trace (memoryWorld c ht m) (direct c st a d t w)) .reads)
 
-        go : (b : Bool) → Leaves c m (cond b (yields (servedOf c ht m (holding (h .pool) t) st a d t w 1) m) (fillBy c ht h st a d t w s (s .result .way)))
-        go true = served-leaves m (holding (h .pool) t) a d t w 1 none (f .0, inr g) g (omega arith)
-        go false = by (s .result .way)
+      go : (b : Bool) → c .bits ≡ b → Leaves c m (yields (cond b (judgedBy h lack (checkedOf c ht m root st a d) r) (translation h (0 + exitBy r) r false)) m)
+      go true on = judged-leaves on lack r (direct-in c ht m st a d t w g)
+      go false off = ended m _ r none (let k = exit-small r in omega arith) (direct-in c ht m st a d t w g)
 
-    missed-leaves : Leaves c m (missedOf c ht m h root st a d)
-    unfolding missedOf trailFrom
-    missed-leaves = go (walkedOf c ht m 0 (walk c st root (pathIndexes c d a))) (walk-in c ht m st 0 root (pathIndexes c d a))
-      where
-        gs : List ℕ
-        gs = trailOf c ht m 0 (walk c st root (pathIndexes c d a)) .tables
+  unshadowed-leaves : Leaves c m (yields (unshadowedOf c ht m h root st a d) m)
+  unfolding unshadowedOf plainOf
+  unshadowed-leaves = go (c .bits) refl
+    where
+      r : Walked
+      r = walkedOf c ht m 0 (whole c st root a)
 
-        go : (r : Walked) → ArrivedIn c r → Leaves c m (missedBy c ht m h st a d gs r)
-        go (walked.Arrived t w n) g = filled-leaves gs (t .0) w g
-        go (walked.Faulted x n) g = stopped m 1 (walked.Faulted x n) none (omega arith) tt
-        go walked.Damaged g = stopped m 0 walked.Damaged none (omega arith) tt
+      here : ArrivedIn c r
+      here = walk-in c ht m st 0 root (indexes (c .levels) (pageOf a))
 
-    found-leaves : (r : HostWalk) → FoundIs c (InGuestArea c) (λ i g. g) r → Leaves c m (foundBy c ht m h root st a d r)
-    found-leaves (host.Found t w) g = go (servesOf st d w)
-      where
-        go : (b : Bool) → Leaves c m (cond b (yields (servedOf c ht m h st a d (t .0) w 0) m) (missedOf c ht m h root st a d))
-        go true = served-leaves m h a d (t .0) w 0 none f g (omega arith)
-        go false = missed-leaves
-    found-leaves (host.Absent n) g = missed-leaves
-    found-leaves host.Damaged g = stopped m 0 walked.Damaged none (omega arith) tt
+      go : (b : Bool) → c .bits ≡ b → Leaves c m (yields (cond b (judgedBy h true (checkedOf c ht m root st a d) r) (translation h (exitBy r) r false)) m)
+      go true on = judged-leaves on true r here
+      go false off = ended m _ r none (let k = exit-small r in omega arith) here
 
-    plain-leaves : Leaves c m (yields (plainOf c ht m h root st a) m)
-    unfolding plainOf
-    plain-leaves =
-        let is = indexes (c .levels) (pageOf a) in
-        stopped m _ _ none (exit-small (walkedOf c ht m 0 (walk c st root is))) (walk-in c ht m st 0 root is)
+  -- ---- fills
 
-    pub translate-leaves : Leaves c m (translateOf c ht m h root st a d)
-    unfolding translateOf
-    translate-leaves = go (ltb (c .levels) d)
-      where
-        at-depth : Leaves c m (foundBy c ht m h root st a d (foundOf c m h a d))
-        at-depth = found-leaves (foundOf c m h a d) (found-is c (InGuestArea c) (λ i g. g) m h a d (top-held c h f))
+  filled-leaves : (gs : List ℕ) (t : ℕ) (w : Bool) (e : ℕ) (r : Walked) (sets : Bool) → InGuestArea c t → e ≤ 2 → ArrivedIn c r → (sets ≡ true → c .bits ≡ true) → Leaves c m (filledOf c m h gs a d t w e r sets)
+  unfolding filledOf
+  filled-leaves gs t w e r sets g l i on = go (leb (c .levels) d)
+    where
+      x : ℕ
+      x = entryFor t (ltb 0 d) w
 
-        go : (b : Bool) → Leaves c m (cond b (yields (plainOf c ht m h root st a) m) (foundBy c ht m h root st a d (foundOf c m h a d)))
-        go true = plain-leaves
-        go false = at-depth
+      s : After Went
+      s = fillOf c gs (h .pool) m (pathIndexes c d a) x
+
+      same : SameOutside (c .hosts) (c .shadows) m (s .memory)
+      same = fill-out c gs (h .pool) m (pathIndexes c d a) x (indexes-narrow (c .levels - d) (pathOf d a))
+
+      by : (y : Way) → Leaves c m (fillBy h e r sets s y)
+      by (To j) = record { same = same; held = (fill-fits c gs (h .pool) m (pathIndexes c d a) x (f .0), f .1); exits = l; arrived = i; sets = on }
+      by Not = ended (s .memory) 0 walked.Damaged same (omega arith) tt
+      by Damaged = ended (s .memory) 0 walked.Damaged same (omega arith) tt
+
+      go : (b : Bool) → Leaves c m (cond b (yields (translation (holding (h .pool) t) e r sets) m) (fillBy h e r sets s (s .result .way)))
+      go true = record { same = none; held = (f .0, inr g); exits = l; arrived = i; sets = on }
+      go false = by (s .result .way)
+
+  arrived-leaves : (gs : List ℕ) (n t : ℕ) (w : Bool) → InGuestArea c t → Leaves c m (arrivedOf c ht m h root gs st a d n t w)
+  unfolding arrivedOf laxOf
+  arrived-leaves gs n t w g = go (c .bits) refl
+    where
+      r : Walked
+      r = directOf c ht m st a d t w
+
+      here : ArrivedIn c r
+      here = direct-in c ht m st a d t w g
+
+      grant : c .bits ≡ true → (x : Walked) (j : ℕ) (k : Checked) → ArrivedIn c x → ExitsOnce k → Leaves c m (grantBy c m h gs st a d n t w x j k)
+      grant on x j (checked.Clear l) i o = filled-leaves gs t (passesOf c m gs st a d w) 1 x l g (omega arith) i (λ z. on)
+      grant on x j (checked.Stopped y e) i o = ended m _ _ none (omega arith) tt
+      grant on x j checked.Damaged i o = ended m 0 walked.Damaged none (omega arith) tt
+
+      strict : c .bits ≡ true → (x : Walked) → ArrivedIn c x → Leaves c m (strictBy c m h gs st a d n t w (checkedOf c ht m root st a d) x)
+      strict on (walked.Arrived p v j) i = grant on (walked.Arrived p v j) j (checkedOf c ht m root st a d) i (checked-once c ht m root st a d)
+      strict on (walked.Faulted x j) i = ended m _ _ none (let k = exit-small (walked.Faulted x j) in omega arith) tt
+      strict on walked.Damaged i = ended m 0 walked.Damaged none (omega arith) tt
+
+      lax : (b : Bool) → Leaves c m (cond b (yields (translation h 0 walked.Damaged false) m) (filledOf c m h gs a d t w (1 + exitBy r) r false))
+      lax true = ended m 0 walked.Damaged none (omega arith) tt
+      lax false = filled-leaves gs t w (1 + exitBy r) r false g (let k = exit-small r in omega arith) here (λ z. absurd (false≢true z))
+
+      go : (b : Bool) → c .bits ≡ b → Leaves c m (cond b (strictBy c m h gs st a d n t w (checkedOf c ht m root st a d) r)
+          (cond (brokenBy r) (yields (translation h 0 walked.Damaged false) m) (filledOf c m h gs a d t w (1 + exitBy r) r false)))
+      go true on = strict on r here
+      go false off = lax (brokenBy r)
+
+  missed-leaves : Leaves c m (missedOf c ht m h root st a d)
+  unfolding missedOf trailFrom
+  missed-leaves = go (walkedOf c ht m 0 (walk c st root (pathIndexes c d a))) (walk-in c ht m st 0 root (pathIndexes c d a))
+    where
+      gs : List ℕ
+      gs = trailOf c ht m 0 (walk c st root (pathIndexes c d a)) .tables
+
+      go : (r : Walked) → ArrivedIn c r → Leaves c m (missedBy c ht m h root st a d gs r)
+      go (walked.Arrived t w n) g = arrived-leaves gs n (t .0) w g
+      go (walked.Faulted x n) g = ended m 1 (walked.Faulted x n) none (omega arith) tt
+      go walked.Damaged g = ended m 0 walked.Damaged none (omega arith) tt
+
+  -- ---- a translation
+
+  found-leaves : (r : HostWalk) → FoundIs c (InGuestArea c) (λ i g. g) r → Leaves c m (foundBy c ht m h root st a d r)
+  found-leaves (host.Found t w) g = go (servesOf st d w)
+    where
+      go : (b : Bool) → Leaves c m (cond b (yields (throughOf c ht m h root st a d (t .0) w) m) (missedOf c ht m h root st a d))
+      go true = through-leaves (t .0) w g
+      go false = missed-leaves
+  found-leaves (host.Absent n) g = missed-leaves
+  found-leaves host.Damaged g = ended m 0 walked.Damaged none (omega arith) tt
+
+  pub translate-leaves : Leaves c m (translateOf c ht m h root st a d)
+  unfolding translateOf
+  translate-leaves = go (ltb (c .levels) d)
+    where
+      at-depth : Leaves c m (foundBy c ht m h root st a d (foundOf c m h a d))
+      at-depth = found-leaves (foundOf c m h a d) (found-is c (InGuestArea c) (λ i g. g) m h a d (top-held c h f))
+
+      go : (b : Bool) → Leaves c m (cond b (yields (unshadowedOf c ht m h root st a d) m) (foundBy c ht m h root st a d (foundOf c m h a d)))
+      go true = unshadowed-leaves
+      go false = at-depth

@@ -1,2 +1,3 @@
 pub mod Fits
+pub mod Bits
 pub mod Leaves

@@ -1,10 +1,14 @@
 // From an address and its depth to a host frame or a fault: a held path is found, or the guest tables are walked and the path filled.
 ghost use mathlib.Core.Path.{_≡_};
-ghost use Prim.Native.Nat.{_<_, _≤_};
-ghost use Rattle.spec.specs.Entry.{frameLimit};
+ghost use mathlib.Core.Bool.{true, false};
+ghost use Prim.Native.Nat.{_-_, _<_, _≤_};
+ghost use Rattle.spec.specs.Entry.{indexes, pageOf, frameLimit};
 ghost use Rattle.words.specs.After.{yields};
 ghost use Rattle.layout.specs.Layout.{LayoutFits, config};
-ghost use Rattle.translate.specs.Translate.{exitBy, directOf, servedOf, servesOf, pathOf, foundOf, filledOf, missedOf, plainOf, unservedOf};
+ghost use Rattle.translate.specs.Translate.{exitBy, ReadsFrom, translation, whole, directOf, servedOf, plainOf, checkedOf, debtBy, entriesOf, settledBy, judgedBy, bitlessOf, partOf, throughOf, unshadowedOf, servesOf, pathOf, foundOf, filledOf, passesOf, faulted, strictBy, brokenBy, laxOf, missedOf, unservedOf};
+ghost use Rattle.walk.specs.Memory.{trailOf};
+ghost use Rattle.accessed.specs.Entries.{entries, Frames};
+use accessed::Debt;
 use entry::GuestPhysical;
 use entry::GuestVirtual;
 use entry::HostPhysical;
@@ -14,6 +18,7 @@ use layout::Layout;
 use pool::Pool;
 use pool::Way;
 use spec::Fault;
+use walk::Trail;
 use walk::Walked;
 
 // What is held: the shadow tables, and the host frame of the path of no index, which stands in the record; frame 0 if it is
@@ -30,14 +35,41 @@ pub struct Request {
     pub depth: u64,
 }
 
-// What a translation leaves: what is held then, the exits so far, and what the walk came to.
+// What a translation leaves: what is held then, the exits so far, what the request came to, and whether its bits are to be set before
+// its word is used.
 pub struct Translated {
     pub held: Held,
     pub exits: u64,
     pub walked: Walked,
+    pub sets: bool,
 }
 
-// ---- the direct part
+// What the direct part of a held path came to, and whether one of its entries lacks a bit.
+pub struct Part {
+    pub walked: Walked,
+    pub lack: bool,
+}
+
+// What the accessed and dirty bits of a walk say: that they are set or may be, or what the request meets instead, with its exit.
+pub enum Checked {
+    Clear { lack: bool },
+    Stopped { fault: Fault, exits: u64 },
+    Damaged,
+}
+
+// A translation that met damage: what was held, and no exit.
+fn damaged(held: Held) -> Translated
+    ensures { λ r. ⌜ r ≡ record { held = held; exits = 0; walked = Walked.Damaged; sets = false } ⌝ }
+{
+    Translated {
+        held: held,
+        exits: 0,
+        walked: Walked::Damaged,
+        sets: false,
+    }
+}
+
+// ---- the direct part, whatever the bits
 
 // One exit for a fault of the host.
 pub fn exit_of(walked: Walked) -> u64
@@ -110,6 +142,279 @@ pub fn serve(
         held: held,
         exits: exits + exit_of(walked),
         walked: walked,
+        sets: false,
+    }
+}
+
+// The whole plain walk.
+pub fn whole(
+    mem: &[u64],
+    space: Space,
+    store: bool,
+    root: GuestPhysical,
+    address: GuestVirtual,
+) -> Trail
+    requires { ⌜ LayoutFits (space .layout) ⌝ }
+    ensures { λ r. ⌜ r ≡ trailOf (config (space .layout)) (space .top) (now (mem .entry)) 0 (whole (config (space .layout)) store (root .0) (address .0)) ⌝ }
+{
+    walk::walk_root(
+        mem,
+        space,
+        store,
+        root,
+        address.page(),
+        space.layout.levels,
+        0,
+    )
+}
+
+// Where nothing is shadowed, and whatever the bits.
+pub fn plain(
+    mem: &[u64],
+    space: Space,
+    root: GuestPhysical,
+    held: Held,
+    store: bool,
+    address: GuestVirtual,
+) -> Translated
+    requires { ⌜ LayoutFits (space .layout) ⌝ }
+    ensures { λ r. ⌜ r ≡ plainOf (config (space .layout)) (space .top) (now (mem .entry)) held (root .0) store (address .0) ⌝ }
+{
+    let trail = whole(mem, space, store, root, address);
+    let walked = trail.walked;
+    Translated {
+        held: held,
+        exits: exit_of(walked),
+        walked: walked,
+        sets: false,
+    }
+}
+
+// ---- bits
+
+// What is said where a table is owed a bit. The exit is the direct part's, if that reads the entry.
+fn owes(debt: Debt, depth: u64) -> Checked
+    ensures { λ r. ⌜ r ≡ debtBy depth debt ⌝ }
+{
+    match debt {
+        Debt::Nothing => Checked::Clear { lack: true },
+        Debt::Table { level, frame } => Checked::Stopped {
+            fault: Fault::HostReadOnly(frame),
+            exits: if level <= depth { 1 } else { 0 },
+        },
+    }
+}
+
+// The bits of the entries that a request's whole walk read, in these tables.
+fn judge(
+    mem: &[u64],
+    space: Space,
+    root: GuestPhysical,
+    request: Request,
+    tables: &[u64; 8],
+) -> Checked
+    requires { ⌜ (LayoutFits (space .layout)) × (Frames (now tables)) ⌝ }
+    ensures { λ r. ⌜ r ≡ entriesOf (config (space .layout)) (space .top) (now (mem .entry)) (root .0) (request .store) (request .depth) (entries (now (tables .entry)) 0 (indexes (space .layout .levels) (pageOf (request .address .0)))) ⌝ }
+{
+    let levels = space.layout.levels;
+    let number = request.address.page();
+    if !accessed::lacks(mem, request.store, number, levels, tables) {
+        return Checked::Clear { lack: false };
+    }
+    let debt = accessed::owed(mem, space, request.store, root, number, levels, tables);
+    owes(debt, request.depth)
+}
+
+// The bits of a request's whole walk.
+fn check(mem: &[u64], space: Space, root: GuestPhysical, request: Request) -> Checked
+    requires { ⌜ LayoutFits (space .layout) ⌝ }
+    ensures { λ r. ⌜ r ≡ checkedOf (config (space .layout)) (space .top) (now (mem .entry)) (root .0) (request .store) (request .address .0) (request .depth) ⌝ }
+{
+    let trail = whole(mem, space, request.store, root, request.address);
+    let walked = trail.walked;
+    match walked {
+        Walked::Arrived {
+            page,
+            writable,
+            reads,
+        } => judge(mem, space, root, request, &trail.tables),
+        Walked::Faulted { fault, reads } => Checked::Stopped {
+            fault: fault,
+            exits: exit_of(walked),
+        },
+        Walked::Damaged => Checked::Damaged,
+    }
+}
+
+// A request that arrived after so many words, by its bits.
+fn settled(held: Held, walked: Walked, reads: u64, checked: Checked) -> Translated
+    ensures { λ r. ⌜ r ≡ settledBy held reads walked checked ⌝ }
+{
+    match checked {
+        Checked::Clear { lack } => Translated {
+            held: held,
+            exits: 0,
+            walked: walked,
+            sets: lack,
+        },
+        Checked::Stopped { fault, exits } => Translated {
+            held: held,
+            exits: exits,
+            walked: Walked::Faulted {
+                fault: fault,
+                reads: reads,
+            },
+            sets: false,
+        },
+        Checked::Damaged => damaged(held),
+    }
+}
+
+// A request that ended before its word, without its bits.
+fn stopped(held: Held, walked: Walked) -> Translated
+    ensures { λ r. ⌜ r ≡ translation held (exitBy walked) walked false ⌝ }
+{
+    Translated {
+        held: held,
+        exits: exit_of(walked),
+        walked: walked,
+        sets: false,
+    }
+}
+
+// Is there no bit to look at? Bits are off, or no guest entry is read.
+pub fn bitless(layout: Layout, depth: u64) -> bool
+    ensures { λ r. ⌜ r ≡ bitlessOf (config layout) depth ⌝ }
+{
+    if depth == 0 {
+        return true;
+    }
+    layout.bits == 0
+}
+
+// The direct part of a held path, and whether one of its entries lacks a bit; those that the path covers have theirs.
+pub fn direct_part(
+    mem: &[u64],
+    space: Space,
+    request: Request,
+    page: HostPhysical,
+    writable: bool,
+) -> Part
+    requires { ⌜ (LayoutFits (space .layout)) × (request .depth ≤ space .layout .levels) × (page .0 < frameLimit) ⌝ }
+    ensures { λ r. ⌜ r ≡ partOf (config (space .layout)) (space .top) (now (mem .entry)) (request .store) (request .address .0) (request .depth) (page .0) writable ⌝ }
+{
+    let number = request.address.page();
+    let trail = walk::walk_tables(
+        mem,
+        space,
+        request.store,
+        number,
+        request.depth,
+        0,
+        page,
+        writable,
+        space.layout.levels - request.depth,
+    );
+    let walked = trail.walked;
+    if space.layout.bits == 0 {
+        return Part {
+            walked: walked,
+            lack: false,
+        };
+    }
+    match walked {
+        Walked::Arrived {
+            page,
+            writable,
+            reads,
+        } => Part {
+            walked: walked,
+            lack: accessed::lacks(mem, request.store, number, request.depth, &trail.tables),
+        },
+        Walked::Faulted { fault, reads } => Part {
+            walked: walked,
+            lack: false,
+        },
+        Walked::Damaged => Part {
+            walked: walked,
+            lack: false,
+        },
+    }
+}
+
+// A request whose walk came so far, by the bits of its whole walk.
+pub fn judged(
+    mem: &[u64],
+    space: Space,
+    root: GuestPhysical,
+    held: Held,
+    request: Request,
+    walked: Walked,
+) -> Translated
+    requires { ⌜ LayoutFits (space .layout) ⌝ }
+    ensures { λ r. ⌜ r ≡ judgedBy held true (checkedOf (config (space .layout)) (space .top) (now (mem .entry)) (root .0) (request .store) (request .address .0) (request .depth)) walked ⌝ }
+{
+    match walked {
+        Walked::Arrived {
+            page,
+            writable,
+            reads,
+        } => settled(held, walked, reads, check(mem, space, root, request)),
+        Walked::Faulted { fault, reads } => stopped(held, walked),
+        Walked::Damaged => damaged(held),
+    }
+}
+
+// A request that a held path serves, which leads to that page or table: judged by its bits where one lacks.
+pub fn through(
+    mem: &[u64],
+    space: Space,
+    root: GuestPhysical,
+    held: Held,
+    request: Request,
+    page: HostPhysical,
+    writable: bool,
+) -> Translated
+    requires { ⌜ (LayoutFits (space .layout)) × (request .depth ≤ space .layout .levels) × (page .0 < frameLimit) ⌝ }
+    ensures { λ r. ⌜ r ≡ throughOf (config (space .layout)) (space .top) (now (mem .entry)) held (root .0) (request .store) (request .address .0) (request .depth) (page .0) writable ⌝ }
+{
+    let part = direct_part(mem, space, request, page, writable);
+    let walked = part.walked;
+    if part.lack {
+        return judged(mem, space, root, held, request, walked);
+    }
+    stopped(held, walked)
+}
+
+// A request at the depth where nothing is shadowed.
+fn unshadowed(
+    mem: &[u64],
+    space: Space,
+    root: GuestPhysical,
+    held: Held,
+    request: Request,
+) -> Translated
+    requires { ⌜ LayoutFits (space .layout) ⌝ }
+    ensures { λ r. ⌜ r ≡ unshadowedOf (config (space .layout)) (space .top) (now (mem .entry)) held (root .0) (request .store) (request .address .0) (request .depth) ⌝ }
+{
+    if space.layout.bits == 0 {
+        return plain(mem, space, root, held, request.store, request.address);
+    }
+    let trail = whole(mem, space, request.store, root, request.address);
+    let walked = trail.walked;
+    match walked {
+        Walked::Arrived {
+            page,
+            writable,
+            reads,
+        } => settled(
+            held,
+            walked,
+            reads,
+            judge(mem, space, root, request, &trail.tables),
+        ),
+        Walked::Faulted { fault, reads } => stopped(held, walked),
+        Walked::Damaged => damaged(held),
     }
 }
 
@@ -158,71 +463,202 @@ pub fn found(mem: &[u64], layout: Layout, held: Held, address: GuestVirtual, dep
     }
 }
 
-// A translation that met damage: what was held, and no exit.
-fn damaged(held: Held) -> Translated
-    ensures { λ r. ⌜ r ≡ record { held = held; exits = 0; walked = Walked.Damaged } ⌝ }
-{
-    Translated {
-        held: held,
-        exits: 0,
-        walked: Walked::Damaged,
-    }
-}
-
-// The path is filled, and the request served through it; guests: the host frames of the guest tables on its way.
+// The path is filled; guests: the host frames of the guest tables on its way. The request came to what was walked, after so many exits.
 fn filled(
     mem: &mut [u64],
-    space: Space,
+    layout: Layout,
     held: Held,
     guests: &[u64; 8],
     request: Request,
     page: HostPhysical,
     writable: bool,
+    exits: u64,
+    walked: Walked,
+    sets: bool,
 ) -> Translated
-    requires { ⌜ (LayoutFits (space .layout)) × (request .depth ≤ space .layout .levels) × (page .0 < frameLimit) ⌝ }
-    ensures { λ r. ⌜ yields r (now (mem .exit)) ≡ filledOf (config (space .layout)) (space .top) (now (mem .entry)) held (now (guests .entry)) (request .store) (request .address .0) (request .depth) (page .0) writable ⌝ }
+    requires { ⌜ (LayoutFits layout) × (request .depth ≤ layout .levels) × (page .0 < frameLimit) ⌝ }
+    ensures { λ r. ⌜ yields r (now (mem .exit)) ≡ filledOf (config layout) (now (mem .entry)) held (now (guests .entry)) (request .address .0) (request .depth) (page .0) writable exits walked sets ⌝ }
 {
-    let l = space.layout;
     let pool = held.pool;
     let frame = held.frame;
-    if l.levels <= request.depth {
-        return serve(
-            mem,
-            space,
-            Held {
+    if layout.levels <= request.depth {
+        return Translated {
+            held: Held {
                 pool: pool,
                 frame: page,
             },
-            request,
-            page,
-            writable,
-            1,
-        );
+            exits: exits,
+            walked: walked,
+            sets: sets,
+        };
     }
     let e = shadow::entry_for(page, 0 < request.depth, writable);
     let path = path_of(request.address, request.depth);
-    let went = shadow::fill(mem, l, pool, guests, path, l.levels - request.depth, e);
+    let went = shadow::fill(
+        mem,
+        layout,
+        pool,
+        guests,
+        path,
+        layout.levels - request.depth,
+        e,
+    );
     let way = went.way;
     let after = went.pool;
     match way {
-        Way::To(f) => serve(
-            mem,
-            space,
-            Held {
+        Way::To(f) => Translated {
+            held: Held {
                 pool: after,
                 frame: frame,
             },
-            request,
-            page,
-            writable,
-            1,
-        ),
+            exits: exits,
+            walked: walked,
+            sets: sets,
+        },
         Way::Not => damaged(held),
         Way::Damaged => damaged(held),
     }
 }
 
-// The path does not serve: its shadow part is walked, and filled where it arrives.
+// Did the walk meet damage?
+fn broken(walked: Walked) -> bool
+    ensures { λ r. ⌜ r ≡ brokenBy walked ⌝ }
+{
+    match walked {
+        Walked::Arrived {
+            page,
+            writable,
+            reads,
+        } => false,
+        Walked::Faulted { fault, reads } => false,
+        Walked::Damaged => true,
+    }
+}
+
+// With bits off: filled, whatever the direct part came to.
+fn lax(
+    mem: &mut [u64],
+    layout: Layout,
+    held: Held,
+    guests: &[u64; 8],
+    request: Request,
+    page: HostPhysical,
+    writable: bool,
+    walked: Walked,
+) -> Translated
+    requires { ⌜ (LayoutFits layout) × (request .depth ≤ layout .levels) × (page .0 < frameLimit) ⌝ }
+    ensures { λ r. ⌜ yields r (now (mem .exit)) ≡ laxOf (config layout) (now (mem .entry)) held (now (guests .entry)) (request .address .0) (request .depth) (page .0) writable walked ⌝ }
+{
+    if broken(walked) {
+        return damaged(held);
+    }
+    filled(
+        mem,
+        layout,
+        held,
+        guests,
+        request,
+        page,
+        writable,
+        1 + exit_of(walked),
+        walked,
+        false,
+    )
+}
+
+// With bits on, does the path that a request fills let stores pass? Not where a load comes to an entry that is not dirty.
+fn passes(mem: &[u64], layout: Layout, guests: &[u64; 8], request: Request, writable: bool) -> bool
+    requires { ⌜ (LayoutFits layout) × (request .depth ≤ layout .levels) × (Frames (now guests)) ⌝ }
+    ensures { λ r. ⌜ r ≡ passesOf (config layout) (now (mem .entry)) (now (guests .entry)) (request .store) (request .address .0) (request .depth) writable ⌝ }
+{
+    if !writable {
+        return false;
+    }
+    if request.depth != 0 {
+        return true;
+    }
+    if request.store {
+        return true;
+    }
+    accessed::last_dirty(
+        mem,
+        path_of(request.address, request.depth),
+        layout.levels - request.depth,
+        guests,
+    )
+}
+
+// A request that a fault ended past its shadow part, with bits on: it counts as the plain walk does. `before` words were read by the shadow
+// part, and the direct part says `reads` with the shadow entries.
+fn faulted(
+    layout: Layout,
+    held: Held,
+    depth: u64,
+    fault: Fault,
+    before: u64,
+    reads: u64,
+    exits: u64,
+) -> Translated
+    requires { ⌜ (depth ≤ layout .levels) × (layout .levels - depth ≤ reads) × (before ≤ 65536) × (reads ≤ 65536) × (exits ≤ 65536) ⌝ }
+    ensures { λ r. ⌜ r ≡ faulted (config layout) held depth before fault reads exits ⌝ }
+{
+    Translated {
+        held: held,
+        exits: 1 + exits,
+        walked: Walked::Faulted {
+            fault: fault,
+            reads: before + (reads - (layout.levels - depth)),
+        },
+        sets: false,
+    }
+}
+
+// With bits on: filled if it is granted; a fault counts as the plain walk does.
+fn strict(
+    mem: &mut [u64],
+    space: Space,
+    root: GuestPhysical,
+    held: Held,
+    guests: &[u64; 8],
+    request: Request,
+    page: HostPhysical,
+    writable: bool,
+    before: u64,
+    walked: Walked,
+) -> Translated
+    requires { ⌜ (LayoutFits (space .layout)) × (request .depth ≤ space .layout .levels) × (page .0 < frameLimit) × (Frames (now guests)) × (before ≤ 65536) × (ReadsFrom (space .layout .levels - request .depth) walked) ⌝ }
+    ensures { λ r. ⌜ yields r (now (mem .exit)) ≡ strictBy (config (space .layout)) (now (mem .entry)) held (now (guests .entry)) (request .store) (request .address .0) (request .depth) before (page .0) writable (checkedOf (config (space .layout)) (space .top) (now (mem .entry)) (root .0) (request .store) (request .address .0) (request .depth)) walked ⌝ }
+{
+    let l = space.layout;
+    match walked {
+        Walked::Arrived {
+            page: p,
+            writable: w,
+            reads,
+        } => match check(mem, space, root, request) {
+            Checked::Clear { lack } => {
+                let lets = passes(mem, l, guests, request, writable);
+                filled(mem, l, held, guests, request, page, lets, 1, walked, lack)
+            }
+            Checked::Stopped { fault, exits } => {
+                faulted(l, held, request.depth, fault, before, reads, exits)
+            }
+            Checked::Damaged => damaged(held),
+        },
+        Walked::Faulted { fault, reads } => faulted(
+            l,
+            held,
+            request.depth,
+            fault,
+            before,
+            reads,
+            exit_of(walked),
+        ),
+        Walked::Damaged => damaged(held),
+    }
+}
+
+// The path does not serve: its shadow part is walked, and on from where it arrives.
 fn missed(
     mem: &mut [u64],
     space: Space,
@@ -243,52 +679,50 @@ fn missed(
         space.layout.levels - request.depth,
         request.depth,
     );
-    let walked = trail.walked;
-    match walked {
+    let upper = trail.walked;
+    match upper {
         Walked::Arrived {
             page,
             writable,
             reads,
-        } => filled(mem, space, held, &trail.tables, request, page, writable),
+        } => {
+            let walked = direct(mem, space, request, page, writable);
+            if space.layout.bits == 0 {
+                return lax(
+                    mem,
+                    space.layout,
+                    held,
+                    &trail.tables,
+                    request,
+                    page,
+                    writable,
+                    walked,
+                );
+            }
+            strict(
+                mem,
+                space,
+                root,
+                held,
+                &trail.tables,
+                request,
+                page,
+                writable,
+                reads,
+                walked,
+            )
+        }
         Walked::Faulted { fault, reads } => Translated {
             held: held,
             exits: 1,
-            walked: walked,
+            walked: upper,
+            sets: false,
         },
         Walked::Damaged => damaged(held),
     }
 }
 
 // ---- translation
-
-// Where nothing is shadowed: the whole plain walk.
-pub fn plain(
-    mem: &[u64],
-    space: Space,
-    root: GuestPhysical,
-    held: Held,
-    store: bool,
-    address: GuestVirtual,
-) -> Translated
-    requires { ⌜ LayoutFits (space .layout) ⌝ }
-    ensures { λ r. ⌜ r ≡ plainOf (config (space .layout)) (space .top) (now (mem .entry)) held (root .0) store (address .0) ⌝ }
-{
-    let trail = walk::walk_root(
-        mem,
-        space,
-        store,
-        root,
-        address.page(),
-        space.layout.levels,
-        0,
-    );
-    let walked = trail.walked;
-    Translated {
-        held: held,
-        exits: exit_of(walked),
-        walked: walked,
-    }
-}
 
 // The translation of a request that no held path serves.
 pub fn unserved(
@@ -302,7 +736,7 @@ pub fn unserved(
     ensures { λ r. ⌜ yields r (now (mem .exit)) ≡ unservedOf (config (space .layout)) (space .top) (now (mem .entry)) held (root .0) (request .store) (request .address .0) (request .depth) ⌝ }
 {
     if space.layout.levels < request.depth {
-        return plain(mem, space, root, held, request.store, request.address);
+        return unshadowed(mem, space, root, held, request);
     }
     missed(mem, space, root, held, request)
 }

@@ -66,11 +66,11 @@ fn answer_of(refusal: u64) -> Answer
     }
 }
 
-// Opens the memory: 1, 2.
-pub fn open(mem: &mut [u64], hosts: u64, shadows: u64) -> Reply
-    ensures { λ r. ⌜ Promises r (now (mem .exit)) (openCall (now (mem .entry)) hosts shadows) ⌝ }
+// Opens the memory, with or without accessed and dirty bits: 1, 2.
+pub fn open(mem: &mut [u64], hosts: u64, shadows: u64, bits: bool) -> Reply
+    ensures { λ r. ⌜ Promises r (now (mem .exit)) (openCall (now (mem .entry)) hosts shadows bits) ⌝ }
 {
-    let opened = opening::open(mem, hosts, shadows);
+    let opened = opening::open(mem, hosts, shadows, bits);
     let unit = opened.unit;
     Reply {
         unit: unit,

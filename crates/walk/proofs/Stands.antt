@@ -43,7 +43,7 @@ pub record Stands (c : Config) (s : Machine) (ht : ℕ) (m : List ℕ) : Type 0 
 
 module _ (c : Config) (s : Machine) (ht : ℕ) (m : List ℕ) (st : Stands c s ht m) where
   -- what memory answers of a guest frame
-  same-host : (g : ℕ) → g < 2 ^ frameBits c → SameHost (world c s) (memoryWorld c ht m) g
+  pub same-host : (g : ℕ) → g < 2 ^ frameBits c → SameHost (world c s) (memoryWorld c ht m) g
   unfolding world memoryWorld hostCost
   same-host g b = rw (st .tables g b) (go (lookup g (s .mappings)))
     where
@@ -58,7 +58,7 @@ module _ (c : Config) (s : Machine) (ht : ℕ) (m : List ℕ) (st : Stands c s h
       let at : 512 * guestBase c + place c t i ≡ t * 512 + i = omega (arith, b .0) in
       sym (ap (λ k. getD m k 0) at) ∙ sym (getD-drop (512 * guestBase c) m (place c t i) 0) ∙ ap (λ xs. getD xs (place c t i) 0) (st .area)
 
-  asked : {A : Type 0} (p : Walk Fault A) (R : A → Type 0) → Guest c (InGuestArea c) p R
+  pub asked : {A : Type 0} (p : Walk Fault A) (R : A → Type 0) → Guest c (InGuestArea c) p R
       → Asked (AnswerIn (InGuestArea c)) (λ g. g < 2 ^ frameBits c) (λ t i. InGuestArea c t × (i < 512)) (FaultFits c) R (trace (world c s) p)
   unfolding world
   asked p R a =

@@ -3,7 +3,7 @@
 -- Assumes nothing.
 use mathlib.Core.Path.{_≡_, refl, ap}
 use Prim.Native.Nat.{ℕ, _+_, _^_}
-use mathlib.Core.Bool.{Bool, true}
+use mathlib.Core.Bool.{Bool, true, false}
 use mathlib.Core.List.{List, [], _∷_, _++_}
 use Rattle.spec.specs.Answer.{value, no}
 use Rattle.spec.specs.Call.{Call, map, setMark, clearMark, loadWord, storeWord, deviceWord}
@@ -15,7 +15,7 @@ use Rattle.record.specs.declared.Record.{Record}
 use Rattle.record.specs.Record.{configOf}
 use Rattle.calls.specs.Calls.{hostTop, mapCall, callOf}
 use Rattle.wrong_units.specs.Unit.{afterBy, specified, Demand-3, told, unitBy}
-use Rattle.wrong_units.specs.Wrong.{storeWith, deviceWith, putKeeping, mapKeeping, markKeeping, neverDrops, staleMapping, staleSwitch, deviceForgotten, byOwnPage, forgetsAtStore}
+use Rattle.wrong_units.specs.Wrong.{storeWith, deviceWith, dropNothing, mapKeeping, markKeeping, neverDrops, staleMapping, staleSwitch, deviceForgotten, byOwnPage, forgetsAtStore}
 use Rattle.wrong_units.proofs.Computing.{calling}
 use Rattle.wrong_units.proofs.Mapped.{memory, openedRecord, openedWords, tables, firstRecord}
 use Rattle.wrong_units.proofs.Filled.{others, mappedWords, other-maps, marked, marks-set, heldRecord, heldWords}
@@ -52,7 +52,7 @@ stale-mapping-says : ((unitBy staleMapping) .call (loadWord 0) (afterBy (unitBy 
 unfolding staleMapping mapKeeping afterBy calling
 stale-mapping-says = refl
 
-remap-right : (step (loadWord 0) (specified memory 4 4 ((begin ++ hold) ++ remap))) .0 ≡ value 0x2003 16 1
+remap-right : (step (loadWord 0) (specified memory 4 4 false ((begin ++ hold) ++ remap))) .0 ≡ value 0x2003 16 1
 unfolding specifying
 remap-right = refl
 
@@ -78,7 +78,7 @@ stale-switch-says : ((unitBy staleSwitch) .call (loadWord 0) (afterBy (unitBy st
 unfolding staleSwitch markKeeping afterBy calling
 stale-switch-says = refl
 
-unmark-right : (step (loadWord 0) (specified memory 4 4 ((begin ++ hold) ++ unmark))) .0 ≡ value 0x3003 4 1
+unmark-right : (step (loadWord 0) (specified memory 4 4 false ((begin ++ hold) ++ unmark))) .0 ≡ value 0x3003 4 1
 unfolding specifying
 unmark-right = refl
 
@@ -97,10 +97,10 @@ unfolding deviceForgotten afterBy
 device-forgotten-comes = holds-at deviceForgotten marks-set refl (begins-at deviceForgotten refl other-maps)
 
 device-forgotten-says : ((unitBy deviceForgotten) .call (loadWord 0) (afterBy (unitBy deviceForgotten) write (heldRecord, heldWords))) .0 ≡ value 0x3003 16 0
-unfolding deviceForgotten deviceWith putKeeping afterBy calling
+unfolding deviceForgotten deviceWith dropNothing afterBy calling
 device-forgotten-says = refl
 
-write-right : (step (loadWord 0) (specified memory 4 4 ((begin ++ hold) ++ write))) .0 ≡ value 0x2003 16 1
+write-right : (step (loadWord 0) (specified memory 4 4 false ((begin ++ hold) ++ write))) .0 ≡ value 0x2003 16 1
 unfolding specifying
 write-right = refl
 
@@ -114,7 +114,7 @@ device-forgotten-refuted = refuted deviceForgotten (begin ++ hold) write (loadWo
 abbrev pub through : List Call
 through = storeWord (2 ^ 39 + 0x1000) 0x2003 ∷ []
 
-through-right : (step (loadWord 0) (specified memory 4 4 ((begin ++ hold) ++ through))) .0 ≡ value 0x2003 16 1
+through-right : (step (loadWord 0) (specified memory 4 4 false ((begin ++ hold) ++ through))) .0 ≡ value 0x2003 16 1
 unfolding specifying
 through-right = refl
 
@@ -123,7 +123,7 @@ unfolding byOwnPage afterBy
 by-own-page-comes = holds-at byOwnPage marks-set refl (begins-at byOwnPage refl other-maps)
 
 by-own-page-says : ((unitBy byOwnPage) .call (loadWord 0) (afterBy (unitBy byOwnPage) through (heldRecord, heldWords))) .0 ≡ value 0x3003 16 0
-unfolding byOwnPage storeWith putKeeping afterBy calling
+unfolding byOwnPage storeWith dropNothing afterBy calling
 by-own-page-says = refl
 
 pub by-own-page-refuted : Demand-3 (unitBy byOwnPage) → ⊥
@@ -145,7 +145,7 @@ unfolding neverDrops afterBy
 never-drops-comes = holds-at neverDrops never-drops-marks refl (begins-at neverDrops first-same never-drops-others)
 
 never-drops-says : ((unitBy neverDrops) .call (loadWord 0) (afterBy (unitBy neverDrops) through (heldRecord, heldWords))) .0 ≡ value 0x3003 16 0
-unfolding neverDrops storeWith putKeeping afterBy calling
+unfolding neverDrops storeWith dropNothing afterBy calling
 never-drops-says = refl
 
 pub never-drops-refuted : Demand-3 (unitBy neverDrops) → ⊥
@@ -166,7 +166,7 @@ forgets-says : ((unitBy forgetsAtStore) .call (loadWord 0) (afterBy (unitBy forg
 unfolding forgetsAtStore afterBy calling
 forgets-says = refl
 
-fill-store-right : (step (loadWord 0) (specified memory 4 4 (begin ++ fill-store))) .0 ≡ value 0x3003 20 0
+fill-store-right : (step (loadWord 0) (specified memory 4 4 false (begin ++ fill-store))) .0 ≡ value 0x3003 20 0
 unfolding specifying
 fill-store-right = refl
 

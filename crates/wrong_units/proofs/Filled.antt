@@ -2,7 +2,7 @@
 -- Assumes nothing.
 use mathlib.Core.Path.{_≡_, refl, _∙_}
 use Prim.Native.Nat.{ℕ, _+_, _*_, _^_}
-use mathlib.Core.Bool.{true}
+use mathlib.Core.Bool.{true, false}
 use mathlib.Core.List.{List, [], _∷_}
 use lib.ListN.{replicate}
 use Rattle.spec.specs.Call.{Call, map, setMark, loadWord}
@@ -49,7 +49,7 @@ abbrev pub heldWords : List ℕ
 heldWords = placed ((2048, 8 * entryLimit + 0x9203) ∷ (2049, levelWord 4) ∷ []) mappedWords
 
 abbrev area : Area
-area = shadowArea (configBy 6144 4 4)
+area = shadowArea (configBy 6144 4 4 false)
 
 -- the host frames of the guest tables on the path: the top one's is 8
 abbrev trail : List ℕ
@@ -71,7 +71,7 @@ place-end : placeOf area trail none mappedWords 0 [] 0x9203 ≡ end (heldRecord 
 unfolding besides placeOf downOf
 place-end = rw (enter-clear area none mappedWords 8 ready no-top)
 
-inserts : insertOf area trail none mappedWords (0 ∷ []) 0x9203 ≡ end (heldRecord .pools .shadow) (To 4) heldWords
+pub inserts : insertOf area trail none mappedWords (0 ∷ []) 0x9203 ≡ end (heldRecord .pools .shadow) (To 4) heldWords
 inserts = insert-place ∙ place-end
 
 pub fills : callOf (loadWord 0) marked mappedWords ≡ ended heldRecord (answer.Value 0x3003 16 1) heldWords

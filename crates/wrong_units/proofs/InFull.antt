@@ -5,7 +5,7 @@ use mathlib.Core.Path.{_≡_, refl, sym, ap, _∙_, subst}
 use mathlib.Core.Logic.{inl}
 use Prim.Native.Nat.{ℕ}
 use native.Mathlib.Omega.{arith}
-use mathlib.Core.Bool.{Bool, false}
+use mathlib.Core.Bool.{Bool, false, false≢true}
 use mathlib.Core.List.{List, [], _∷_, _++_}
 use mathlib.Core.Option.{none}
 use lib.Dec.{T, eqb, eqb→eq}
@@ -25,8 +25,8 @@ use Rattle.walk.specs.declared.Walked.the-variants as walked
 use Rattle.record.specs.declared.Record.{Record}
 use Rattle.calls.specs.declared.Reply.{Reply}
 use Rattle.calls.specs.Calls.{callOf}
-use Rattle.claims.specs.Counted.{Word, SameWords, HeldOrPlain, walkWords, pathWords, countedOf, touchedOf}
-use Rattle.claims.specs.Plain.{plainWalk, AsWalked, Unrefused}
+use Rattle.claims.specs.Counted.{Word, SameWords, HeldOrPlain, SetsNone, walkWords, pathWords, countedOf, touchedOf}
+use Rattle.claims.specs.Plain.{plainWalk, withOwn, AsWalked, Unrefused}
 use Rattle.claims.proofs.Plain.{as-walked}
 use Rattle.wrong_units.specs.Unit.{afterBy, specified, Demand-3, WordsCounted, unitBy}
 use Rattle.wrong_units.specs.Wrong.{rewalked, walksInFull}
@@ -40,7 +40,7 @@ use Rattle.wrong_units.proofs.Refute.{Comes, begin, begins-at, hold, ho
 
 -- what the plain walk over the memory comes to is what the load said
 rewalked-same : (r : Record) (m : List ℕ) (a w : ℕ) (e : After Reply) (y : Walked) (x : Answer) → e .result .answer ≡ x → (Unrefused x → AsWalked r m a w none e y)
-    → line (rewalked m a w y x) ≡ line x
+    → line (rewalked (withOwn r m false a) a w y x) ≡ line x
 rewalked-same r m a w e y answer.Ok p k = refl
 rewalked-same r m a w e y (answer.Done n c) p k = refl
 rewalked-same r m a w e y (answer.Refused n) p k = refl
@@ -62,17 +62,17 @@ rewalked-same r m a w e walked.Damaged (answer.Faulted x n c) p k = absurd (k tt
 
 in-full-as-ours : AsOurs walksInFull
 unfolding walksInFull
-in-full-as-ours s r m i (load a w) =
+in-full-as-ours s r m i o (load a w) =
     let e = callOf (load a w) r m in
-    ap (λ l. (l, (e .result .unit, e .memory))) (rewalked-same r m a w e (plainWalk r m false a) (e .result .answer) refl (as-walked s r m i a w none))
-in-full-as-ours s r m i (root g) = refl
-in-full-as-ours s r m i (map g f w) = refl
-in-full-as-ours s r m i (unmap g) = refl
-in-full-as-ours s r m i (setMark a n) = refl
-in-full-as-ours s r m i (clearMark a n) = refl
-in-full-as-ours s r m i (store a w v) = refl
-in-full-as-ours s r m i (device a w v) = refl
-in-full-as-ours s r m i (forecast xs) = refl
+    ap (λ l. (l, (e .result .unit, e .memory))) (rewalked-same r m a w e (plainWalk r m false a) (e .result .answer) refl (as-walked s r m i o a w none))
+in-full-as-ours s r m i o (root g) = refl
+in-full-as-ours s r m i o (map g f w) = refl
+in-full-as-ours s r m i o (unmap g) = refl
+in-full-as-ours s r m i o (setMark a n) = refl
+in-full-as-ours s r m i o (clearMark a n) = refl
+in-full-as-ours s r m i o (store a w v) = refl
+in-full-as-ours s r m i o (device a w v) = refl
+in-full-as-ours s r m i o (forecast xs) = refl
 
 pub in-full-demand-3 : Demand-3 (unitBy walksInFull)
 in-full-demand-3 = as-ours-demand-3 walksInFull in-full-as-ours
@@ -105,9 +105,14 @@ same-touched : T (SameOn (touchedOf heldRecord heldWords false 0))
 unfolding touchedOf calling
 same-touched = tt
 
-path-held : HeldOrPlain ((specified memory 4 4 (begin ++ hold)) .config) ((specified memory 4 4 (begin ++ hold)) .book) false 0
+path-held : HeldOrPlain ((specified memory 4 4 false (begin ++ hold)) .config) ((specified memory 4 4 false (begin ++ hold)) .book) false 0
 unfolding HeldOrPlain specifying
 path-held = inl tt
+
+-- with bits off no load sets one
+bits-off : SetsNone heldRecord heldWords false 0
+unfolding SetsNone
+bits-off on l = absurd (false≢true on)
 
 says-before : line (walksInFull (loadWord 0) heldRecord heldWords .result .answer) ≡ value 0x3003 16 0
 unfolding walksInFull calling
@@ -122,11 +127,11 @@ unfolding WordsCounted
 walks-in-full-refuted d =
     differ (fault 65 4 0 16 0) (value 0x3003 16 0) tt
     (sym says-altered
-    ∙ subst Same in-full-comes (d memory 4 4 (begin ++ hold) grants 0 8 path-held) altered (length-set heldWords 4096 0)
+    ∙ subst Same in-full-comes (d memory 4 4 false (begin ++ hold) (grants false) 0 8 path-held) bits-off altered (length-set heldWords 4096 0)
     (same-words heldWords altered (countedOf heldRecord heldWords false 0) same-counted)
     (same-words heldWords altered (touchedOf heldRecord heldWords false 0) same-touched)
     ∙ says-before)
   where
     Same : Record × List ℕ → Type 0
-    Same e = (n : List ℕ) → length n ≡ length (e .1) → SameWords (e .1) n (countedOf (e .0) (e .1) false 0) → SameWords (e .1) n (touchedOf (e .0) (e .1) false 0)
+    Same e = SetsNone (e .0) (e .1) false 0 → (n : List ℕ) → length n ≡ length (e .1) → SameWords (e .1) n (countedOf (e .0) (e .1) false 0) → SameWords (e .1) n (touchedOf (e .0) (e .1) false 0)
         → line (walksInFull (loadWord 0) (e .0) n .result .answer) ≡ line (walksInFull (loadWord 0) (e .0) (e .1) .result .answer)

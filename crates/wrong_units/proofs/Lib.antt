@@ -13,3 +13,4 @@ pub mod Forecasts
 pub mod Lookups
 pub mod Widths
 pub mod Quiet
+pub mod Bits

@@ -2,7 +2,7 @@
 -- Assumes nothing.
 use mathlib.Core.Path.{_≡_, refl, ap, _∙_}
 use Prim.Native.Nat.{ℕ, suc, _-_, _*_}
-use mathlib.Core.Bool.{true}
+use mathlib.Core.Bool.{Bool, true, false}
 use mathlib.Core.List.{List, [], _∷_, _++_}
 use lib.ListN.{length, set, replicate}
 use Rattle.spec.specs.Call.{map}
@@ -48,13 +48,17 @@ memory = replicate 4096 0 ++ guest
 
 -- ---- the opening
 
--- a record by its host tables, its shadow tables and its marks
-abbrev pub recordAt : Pool → Pool → List ℕ → Record
-recordAt host shadow keys = record {
-  layout = layoutOf 6144 4 4;
+-- a record by its choice of bits, its host tables, its shadow tables and its marks
+abbrev pub recordBy : Bool → Pool → Pool → List ℕ → Record
+recordBy bits host shadow keys = record {
+  layout = layoutOf 6144 4 4 bits;
   pools = record { host = host; shadow = shadow };
   guest = record { root = guestFrame 0; held = page 0; marks = marks.tableOf keys };
 }
+
+-- with bits off
+abbrev pub recordAt : Pool → Pool → List ℕ → Record
+recordAt host shadow keys = recordBy false host shadow keys
 
 abbrev pub none : Pool
 none = record { fresh = 0; free = 0; used = 0; top = 0 }
@@ -66,28 +70,35 @@ levelWord n = n * 16 * entryLimit
 abbrev pub openedWords : List ℕ
 openedWords = placed ((1, levelWord 4) ∷ []) memory
 
+abbrev pub openedBy : Bool → Record
+openedBy bits = recordBy bits (record { fresh = 1; free = 0; used = 1; top = 1 }) none []
+
 abbrev pub openedRecord : Record
-openedRecord = recordAt (record { fresh = 1; free = 0; used = 1; top = 1 }) none []
+openedRecord = openedBy false
+
+-- where the host tables stand does not depend on the choice of bits
+abbrev area : Area
+area = hostArea (configBy 6144 4 4 false)
 
 abbrev enteredOn : List ℕ → After Went
-enteredOn m = enterOf (hostArea (configBy 6144 4 4)) noneOf m 0
+enteredOn m = enterOf area noneOf m 0
 
-abbrev grantedBy : After Went → After Reply
-grantedBy t = ended (firstOf (layoutOf 6144 4 4) (t .result .pool)) answer.Ok (t .memory)
+abbrev grantedBy : Bool → After Went → After Reply
+grantedBy bits t = ended (firstOf (layoutOf 6144 4 4 bits) (t .result .pool)) answer.Ok (t .memory)
 
-pub grants : refusalOf (length memory) 4 4 ≡ 0
+pub grants : (bits : Bool) → refusalOf (length memory) 4 4 bits ≡ 0
 unfolding refusalOf openRefusal
-grants = refl
+grants bits = refl
 
 clears : clearedOf memory 8 ≡ memory
 unfolding clearedOf
 clears = zeroed-clear memory 0 4096 tt
 
-first-is : ended (grantedOf memory 4 4 .result) answer.Ok (grantedOf memory 4 4 .memory) ≡ grantedBy (enteredOn (clearedOf memory 8))
+first-is : (bits : Bool) → ended (grantedOf memory 4 4 bits .result) answer.Ok (grantedOf memory 4 4 bits .memory) ≡ grantedBy bits (enteredOn (clearedOf memory 8))
 unfolding grantedOf enteredOf
-first-is = refl
+first-is bits = refl
 
-ready : Ready (hostArea (configBy 6144 4 4)) noneOf memory
+ready : Ready area noneOf memory
 unfolding noneOf insideOf followOf present bitSet
 ready = record { room = refl; noFreed = refl; fresh = refl; clear = tt }
 
@@ -95,12 +106,12 @@ no-top : followOf 0 4 (noneOf .top) ≡ Not
 unfolding noneOf followOf present bitSet
 no-top = refl
 
-enters : grantedBy (enteredOn memory) ≡ ended openedRecord answer.Ok openedWords
+enters : (bits : Bool) → grantedBy bits (enteredOn memory) ≡ ended (openedBy bits) answer.Ok openedWords
 unfolding noneOf withTop link headerOf firstOf
-enters = ap grantedBy (enter-clear (hostArea (configBy 6144 4 4)) noneOf memory 0 ready no-top)
+enters bits = ap (grantedBy bits) (enter-clear area noneOf memory 0 ready no-top)
 
-pub opens : openCall memory 4 4 ≡ ended openedRecord answer.Ok openedWords
-opens = granted-call memory 4 4 grants ∙ first-is ∙ ap (λ m. grantedBy (enteredOn m)) clears ∙ enters
+pub opens : (bits : Bool) → openCall memory 4 4 bits ≡ ended (openedBy bits) answer.Ok openedWords
+opens bits = granted-call memory 4 4 bits (grants bits) ∙ first-is bits ∙ ap (λ m. grantedBy bits (enteredOn m)) clears ∙ enters bits
 
 -- ---- guest frame 0 is mapped to host frame 8: there are host tables of all four levels then
 
@@ -114,11 +125,11 @@ tables xs =
 abbrev pub fourTables : Pool
 fourTables = record { fresh = 4; free = 0; used = 4; top = 1 }
 
-abbrev pub firstRecord : Record
-firstRecord = recordAt fourTables none []
+abbrev pub firstBy : Bool → Record
+firstBy bits = recordBy bits fourTables none []
 
-abbrev area : Area
-area = hostArea (configBy 6144 4 4)
+abbrev pub firstRecord : Record
+firstRecord = firstBy false
 
 -- n tables are in use
 abbrev inUse : ℕ → Pool
@@ -176,6 +187,7 @@ inserts =
     ∙ down-clear area [] (inUse 3) hung2 2 2 0 0 [] 0x8003 ready1 none1
     ∙ down-end
 
-pub first-map : callOf (map 0 8 true) openedRecord openedWords ≡ ended firstRecord answer.Ok (tables [])
+pub first-map : (bits : Bool) → callOf (map 0 8 true) (openedBy bits) openedWords ≡ ended (firstBy bits) answer.Ok (tables [])
 unfolding besides
-first-map = rw inserts
+first-map false = rw inserts
+first-map true = rw inserts

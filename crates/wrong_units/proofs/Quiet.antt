@@ -3,6 +3,7 @@
 use mathlib.Core.Path.{_≡_, refl, sym, ap, _∙_}
 use Prim.Native.Nat.{ℕ}
 use native.Mathlib.Omega.{arith}
+use mathlib.Core.Bool.{false}
 use mathlib.Core.List.{List, [], _∷_, _++_}
 use lib.Dec.{T}
 use Rattle.spec.specs.Call.{Call, setMark, loadWord, storeWord}
@@ -23,11 +24,11 @@ mark = setMark 0 4 ∷ []
 abbrev day : List Call
 day = loadWord 0 ∷ storeWord 0x10 7 ∷ loadWord 0 ∷ []
 
-day-quiet : T (quiet day (specified memory 4 4 (begin ++ mark)))
+day-quiet : T (quiet day (specified memory 4 4 false (begin ++ mark)))
 unfolding specifying met onlyGranted noneWatched touched allFit quiet
 day-quiet = tt
 
-day-right : quietExits day (specified memory 4 4 (begin ++ mark)) ≡ 1
+day-right : quietExits day (specified memory 4 4 false (begin ++ mark)) ≡ 1
 unfolding specifying met touched newPaths quietExits
 day-right = refl
 
@@ -40,6 +41,6 @@ unfolding QuietDay forgetsAtStore afterBy
 forgets-at-store-not-quiet d =
     let u = unitBy forgetsAtStore in
     let comes : Comes forgetsAtStore (begin ++ mark) (afterBy u mark (firstRecord, mappedWords)) =
-    goes-on forgetsAtStore begin mark (firstRecord, mappedWords) _ (begins-at forgetsAtStore refl other-maps) refl in
-    let e = sym forgets-pays ∙ ap (λ s. allPaid exitsPaid (runBy u day s)) (sym comes) ∙ d memory 4 4 (begin ++ mark) day grants day-quiet ∙ day-right in
+    goes-on false forgetsAtStore begin mark (firstRecord, mappedWords) _ (begins-at forgetsAtStore refl other-maps) refl in
+    let e = sym forgets-pays ∙ ap (λ s. allPaid exitsPaid (runBy u day s)) (sym comes) ∙ d memory 4 4 (begin ++ mark) day (grants false) day-quiet ∙ day-right in
     omega (arith, e)

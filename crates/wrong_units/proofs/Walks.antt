@@ -13,9 +13,9 @@ use Rattle.spec.specs.Call.{loadWord}
 use Rattle.words.specs.Words.{wordIn}
 use Rattle.layout.specs.Layout.{page}
 use Rattle.walk.specs.declared.Walked.the-variants as walked
-use Rattle.claims.specs.Plain.{plainWalk}
+use Rattle.claims.specs.Plain.{plainWalk, withOwn}
 use Rattle.wrong_units.specs.Unit.{afterBy, Demand-2, unitBy}
-use Rattle.wrong_units.specs.Wrong.{neverDrops, faultsAll, oneWord, storeWith, putKeeping}
+use Rattle.wrong_units.specs.Wrong.{neverDrops, faultsAll, oneWord, storeWith, dropNothing}
 use Rattle.wrong_units.proofs.Computing.{calling}
 use Rattle.wrong_units.proofs.Mapped.{firstRecord}
 use Rattle.wrong_units.proofs.Filled.{mappedWords, heldRecord, heldWords}
@@ -33,7 +33,7 @@ faults-walk : let e = afterBy (unitBy faultsAll) plain (firstRecord, mappedWords
 unfolding faultsAll afterBy calling
 faults-walk = refl
 
-faults-word : let e = afterBy (unitBy faultsAll) plain (firstRecord, mappedWords) in bytesAt 0 8 (wordIn (e .1) 11 0) ≡ 0x3003
+faults-word : let e = afterBy (unitBy faultsAll) plain (firstRecord, mappedWords) in bytesAt 0 8 (wordIn (withOwn (e .0) (e .1) false 0) 11 0) ≡ 0x3003
 unfolding faultsAll afterBy calling
 faults-word = refl
 
@@ -53,7 +53,7 @@ one-word-walk : let e = afterBy (unitBy oneWord) plain (firstRecord, mappedWords
 unfolding oneWord afterBy calling
 one-word-walk = refl
 
-one-word-word : let e = afterBy (unitBy oneWord) plain (firstRecord, mappedWords) in bytesAt 0 8 (wordIn (e .1) 11 0) ≡ 0x3003
+one-word-word : let e = afterBy (unitBy oneWord) plain (firstRecord, mappedWords) in bytesAt 0 8 (wordIn (withOwn (e .0) (e .1) false 0) 11 0) ≡ 0x3003
 unfolding oneWord afterBy calling
 one-word-word = refl
 
@@ -66,15 +66,15 @@ one-word-not-walked =
 -- ---- nothing is dropped: after the store into the top table the walk arrives in frame 10, the load in frame 11
 
 never-drops-answer : let e = afterBy (unitBy neverDrops) through (heldRecord, heldWords) in neverDrops (loadWord 0) (e .0) (e .1) .result .answer ≡ answer.Value 0x3003 16 0
-unfolding neverDrops storeWith putKeeping afterBy calling
+unfolding neverDrops storeWith dropNothing afterBy calling
 never-drops-answer = refl
 
 never-drops-walk : let e = afterBy (unitBy neverDrops) through (heldRecord, heldWords) in plainWalk (e .0) (e .1) false 0 ≡ walked.Arrived (page 10) true 24
-unfolding neverDrops storeWith putKeeping afterBy calling
+unfolding neverDrops storeWith dropNothing afterBy calling
 never-drops-walk = refl
 
-never-drops-word : let e = afterBy (unitBy neverDrops) through (heldRecord, heldWords) in bytesAt 0 8 (wordIn (e .1) 10 0) ≡ 0x2003
-unfolding neverDrops storeWith putKeeping afterBy calling
+never-drops-word : let e = afterBy (unitBy neverDrops) through (heldRecord, heldWords) in bytesAt 0 8 (wordIn (withOwn (e .0) (e .1) false 0) 10 0) ≡ 0x2003
+unfolding neverDrops storeWith dropNothing afterBy calling
 never-drops-word = refl
 
 pub never-drops-not-walked : Demand-2 neverDrops → ⊥

@@ -2,13 +2,14 @@
 -- that a byte of an entry should have dropped, or by a refusal. Assumes nothing.
 use mathlib.Core.Path.{_≡_, refl}
 use Prim.Native.Nat.{_+_, _^_}
+use mathlib.Core.Bool.{false}
 use mathlib.Core.List.{List, [], _∷_, _++_}
 use Rattle.spec.specs.Answer.{value, fault, no}
 use Rattle.spec.specs.Call.{Call, setMark, load, store, device, loadWord, storeWord}
 use Rattle.spec.specs.Run.{step}
 use Rattle.spec.specs.Computing.{specifying}
 use Rattle.wrong_units.specs.Unit.{afterBy, specified, Demand-3, unitBy}
-use Rattle.wrong_units.specs.Wrong.{storeWith, putKeeping, putClearing, putAtZero, bigEndian, clearsTheRest, dropsAtByteZero, multiplesOfEight, addressFirst, devicesWhole}
+use Rattle.wrong_units.specs.Wrong.{storeWith, dropNothing, clearingIn, dropAtZero, bigEndian, clearsTheRest, dropsAtByteZero, multiplesOfEight, addressFirst, devicesWhole}
 use Rattle.wrong_units.proofs.Computing.{calling}
 use Rattle.wrong_units.proofs.Mapped.{memory, openedRecord, openedWords, firstRecord}
 use Rattle.wrong_units.proofs.Filled.{mappedWords, other-maps, marks-set, heldRecord, heldWords}
@@ -25,7 +26,7 @@ big-says : ((unitBy bigEndian) .call (load 0 1) (afterBy (unitBy bigEndian) plai
 unfolding bigEndian afterBy calling
 big-says = refl
 
-byte-right : (step (load 0 1) (specified memory 4 4 (begin ++ plain))) .0 ≡ value 3 24 0
+byte-right : (step (load 0 1) (specified memory 4 4 false (begin ++ plain))) .0 ≡ value 3 24 0
 unfolding specifying
 byte-right = refl
 
@@ -42,10 +43,10 @@ unfolding clearsTheRest afterBy
 clears-comes = begins-at clearsTheRest refl other-maps
 
 clears-says : ((unitBy clearsTheRest) .call (loadWord 0x10) (afterBy (unitBy clearsTheRest) beside (firstRecord, mappedWords))) .0 ≡ value 0x3300 24 0
-unfolding clearsTheRest storeWith putClearing afterBy calling
+unfolding clearsTheRest storeWith clearingIn afterBy calling
 clears-says = refl
 
-beside-right : (step (loadWord 0x10) (specified memory 4 4 (begin ++ beside))) .0 ≡ value 0x3322 24 0
+beside-right : (step (loadWord 0x10) (specified memory 4 4 false (begin ++ beside))) .0 ≡ value 0x3322 24 0
 unfolding specifying
 beside-right = refl
 
@@ -64,10 +65,10 @@ unfolding dropsAtByteZero afterBy
 at-zero-comes = holds-at dropsAtByteZero marks-set refl (begins-at dropsAtByteZero refl other-maps)
 
 at-zero-says : ((unitBy dropsAtByteZero) .call (loadWord 0) (afterBy (unitBy dropsAtByteZero) byteOne (heldRecord, heldWords))) .0 ≡ value 0x3003 16 0
-unfolding dropsAtByteZero storeWith putAtZero putKeeping afterBy calling
+unfolding dropsAtByteZero storeWith dropAtZero dropNothing afterBy calling
 at-zero-says = refl
 
-byte-one-right : (step (loadWord 0) (specified memory 4 4 ((begin ++ hold) ++ byteOne))) .0 ≡ value 0x2003 16 1
+byte-one-right : (step (loadWord 0) (specified memory 4 4 false ((begin ++ hold) ++ byteOne))) .0 ≡ value 0x2003 16 1
 unfolding specifying
 byte-one-right = refl
 
@@ -80,7 +81,7 @@ multiples-says : ((unitBy multiplesOfEight) .call (load 1 1) (openedRecord, open
 unfolding multiplesOfEight calling
 multiples-says = refl
 
-odd-right : (step (load 1 1) (specified memory 4 4 [])) .0 ≡ fault 72 0 0 1 1
+odd-right : (step (load 1 1) (specified memory 4 4 false [])) .0 ≡ fault 72 0 0 1 1
 unfolding specifying
 odd-right = refl
 
@@ -92,7 +93,7 @@ first-says : ((unitBy addressFirst) .call (load (2 ^ 48) 3) (openedRecord, opene
 unfolding addressFirst calling
 first-says = refl
 
-width-right : (step (load (2 ^ 48) 3) (specified memory 4 4 [])) .0 ≡ no 15
+width-right : (step (load (2 ^ 48) 3) (specified memory 4 4 false [])) .0 ≡ no 15
 unfolding specifying
 width-right = refl
 
@@ -104,7 +105,7 @@ whole-says : ((unitBy devicesWhole) .call (device 1 1 0) (openedRecord, openedWo
 unfolding devicesWhole calling
 whole-says = refl
 
-device-odd-right : (step (device 1 1 0) (specified memory 4 4 [])) .0 ≡ fault 72 0 0 1 1
+device-odd-right : (step (device 1 1 0) (specified memory 4 4 false [])) .0 ≡ fault 72 0 0 1 1
 unfolding specifying
 device-odd-right = refl
 

@@ -1,3 +1,4 @@
 pub mod Unit
 pub mod Changed
 pub mod Wrong
+pub mod WrongBits

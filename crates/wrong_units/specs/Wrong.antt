@@ -4,7 +4,7 @@
 -- is clear, which would take most of the time, goes by a law (proofs/Clear.antt).
 -- Assumes nothing.
 use Prim.Native.Nat.{ℕ, suc, _+_, _-_, _*_, _%_, _^_, min}
-use mathlib.Core.Bool.{Bool, true, false, _&&_, cond}
+use mathlib.Core.Bool.{Bool, true, false, not, _&&_, cond}
 use mathlib.Core.List.{List, [], _∷_, _++_}
 use lib.Dec.{eqb, leb, ltb}
 use lib.Count.{ones}
@@ -43,7 +43,7 @@ use Rattle.translate.specs.Translate.{exitBy}
 use Rattle.request.specs.declared.Put.{Put}
 use Rattle.request.specs.declared.Served.{Served}
 use Rattle.request.specs.Access as access
-use Rattle.request.specs.Access.{serving, stored, writtenBy}
+use Rattle.request.specs.Access.{serving, settledOf, put, bytesIn}
 use Rattle.calls.specs.declared.Reply.{Reply}
 use Rattle.calls.specs.Calls.{hostTop, heldOf, rootOf, withHeld, withHost, nothing, ended, refused, judged, placed, servedBy, lookupAt, depthAt, addressOk, translatedOf, keysOf, markRefusal, markedOf, marksAfter, callOf}
 use Rattle.forecast.specs.declared.Outlook.{Outlook}
@@ -51,7 +51,7 @@ use Rattle.forecast.specs.declared.Next.{Next}
 use Rattle.forecast.specs.declared.Next.the-variants.{Go, Damaged}
 use Rattle.forecast.specs.Forecast.{addressOf, onward, start}
 use Rattle.claims.specs.Run.{unitAfter}
-use Rattle.claims.specs.Plain.{plainWalk}
+use Rattle.claims.specs.Plain.{plainWalk, withOwn}
 use Rattle.wrong_units.specs.Unit.{Calls, Searches}
 use Rattle.wrong_units.specs.Changed.{Does, onLoads, onStores, onDevices, onMaps, onUnmaps, onSets, onClears, onForecasts}
 
@@ -160,33 +160,49 @@ marksByAllBits = onSets setByAllBits callOf
 
 -- ---- drops, changed. The calls are ours with what drops the paths as an argument
 
--- how bytes are written: configuration, memory, shadow tables, host frame, address, width, value
-abbrev pub Puts : Type 0
-Puts = Config → List ℕ → Pool → ℕ → ℕ → ℕ → ℕ → After Put
+-- which paths go before a word is stored to: configuration, memory, shadow tables, host frame, address
+abbrev pub Drops : Type 0
+Drops = Config → List ℕ → Pool → ℕ → ℕ → After Put
 
-abbrev pub storeAs : Puts → Config → Held → ℕ → ℕ → ℕ → After Translated → Walked → After Served
-storeAs put c h a w v o (walked.Arrived t y n) = writtenBy h (o .result .held) n (o .result .exits) (put c (o .memory) (o .result .held .pool) (t .0) a w v)
-storeAs put c h a w v o (walked.Faulted x n) = serving (o .result .held) (answer.Faulted x n (o .result .exits)) (o .memory)
-storeAs put c h a w v o walked.Damaged = access.refused h 11 (o .memory)
+-- how bytes are written: memory, host frame, address, width, value
+abbrev pub Writes : Type 0
+Writes = List ℕ → ℕ → ℕ → ℕ → ℕ → List ℕ
 
-unfoldable pub storeWith : Puts → ℕ → ℕ → ℕ → Does
-storeWith put a w v r m =
+abbrev pub ourDrops : Drops
+ourDrops c m p t a = access.droppedOf c m p t (wordOf a)
+
+-- a store that came to its word: its bits are set (set), then its bytes
+abbrev pub writtenAs : Writes → Held → Held → ℕ → ℕ → ℕ → ℕ → ℕ → ℕ → (List ℕ → List ℕ) → After Put → After Served
+writtenAs writes h held n e t a w v set s =
+    cond (s .result .ok)
+    (serving (record { pool = s .result .pool; frame = held .frame }) (answer.Done n (e + s .result .exits)) (writes (set (s .memory)) t a w v))
+    (access.refused h 11 (s .memory))
+
+abbrev pub storeAs : Drops → Writes → Config → Held → ℕ → ℕ → ℕ → (List ℕ → List ℕ) → After Translated → Walked → After Served
+storeAs drops writes c h a w v set o (walked.Arrived t y n) =
+    writtenAs writes h (o .result .held) n (o .result .exits) (t .0) a w v set (drops c (o .memory) (o .result .held .pool) (t .0) a)
+storeAs drops writes c h a w v set o (walked.Faulted x n) = serving (o .result .held) (answer.Faulted x n (o .result .exits)) (o .memory)
+storeAs drops writes c h a w v set o walked.Damaged = access.refused h 11 (o .memory)
+
+unfoldable pub storeWith : Drops → Writes → ℕ → ℕ → ℕ → Does
+storeWith drops writes a w v r m =
     let o : After Translated = translatedOf r m true a in
-    placed r m w (addressOk false (configOf r) a w) (servedBy r (storeAs put (configOf r) (heldOf r) a w v o (o .result .walked)))
+    placed r m w (addressOk false (configOf r) a w)
+    (servedBy r (storeAs drops writes (configOf r) (heldOf r) a w v (settledOf (configOf r) (hostTop r) (rootOf r) true a (o .result .sets)) o (o .result .walked)))
 
-abbrev pub deviceAs : Puts → Config → List ℕ → Held → ℕ → ℕ → ℕ → Walked → After Served
-deviceAs put c m h a w v (walked.Arrived t y n) = writtenBy h h n 0 (put c m (h .pool) (t .0) a w v)
-deviceAs put c m h a w v (walked.Faulted x n) = serving h (answer.Faulted x n (exitBy (walked.Faulted x n))) m
-deviceAs put c m h a w v walked.Damaged = access.refused h 11 m
+abbrev pub deviceAs : Drops → Writes → Config → List ℕ → Held → ℕ → ℕ → ℕ → Walked → After Served
+deviceAs drops writes c m h a w v (walked.Arrived t y n) = writtenAs writes h h n 0 (t .0) a w v (λ x. x) (drops c m (h .pool) (t .0) a)
+deviceAs drops writes c m h a w v (walked.Faulted x n) = serving h (answer.Faulted x n (exitBy (walked.Faulted x n))) m
+deviceAs drops writes c m h a w v walked.Damaged = access.refused h 11 m
 
-unfoldable pub deviceWith : Puts → ℕ → ℕ → ℕ → Does
-deviceWith put a w v r m =
+unfoldable pub deviceWith : Drops → Writes → ℕ → ℕ → ℕ → Does
+deviceWith drops writes a w v r m =
     placed r m w (addressOk true (configOf r) a w)
-    (servedBy r (deviceAs put (configOf r) m (heldOf r) a w v (walkedOf (configOf r) (hostTop r) m 0 (next true true (pageOf a) true))))
+    (servedBy r (deviceAs drops writes (configOf r) m (heldOf r) a w v (walkedOf (configOf r) (hostTop r) m 0 (next true true (pageOf a) true))))
 
--- the bytes are written and a watched frame is an exit, but no path is dropped
-unfoldable pub putKeeping : Puts
-putKeeping c m p t a w v = stored p (cond (watchedOf c m (p .fresh) t) 1 0) true (setIn m t (wordOf a) (withBytes a w v (wordIn m t (wordOf a))))
+-- a watched frame is an exit, but no path is dropped
+unfoldable pub dropNothing : Drops
+dropNothing c m p t a = put p (cond (watchedOf c m (p .fresh) t) 1 0) true m
 
 -- a frame is mapped or unmapped, and no path is dropped
 abbrev pub remapped : Record → After Change → After Reply
@@ -213,11 +229,11 @@ staleSwitch = onSets (markKeeping true) (onClears (markKeeping false) callOf)
 
 -- a device's store drops nothing
 unfoldable pub deviceForgotten : Calls
-deviceForgotten = onDevices (deviceWith putKeeping) callOf
+deviceForgotten = onDevices (deviceWith dropNothing bytesIn) callOf
 
 -- nothing is dropped after the first fill, but by a root load
 unfoldable pub neverDrops : Calls
-neverDrops = onMaps mapKeeping (onUnmaps unmapKeeping (onSets (markKeeping true) (onClears (markKeeping false) (onStores (storeWith putKeeping) (onDevices (deviceWith putKeeping) callOf)))))
+neverDrops = onMaps mapKeeping (onUnmaps unmapKeeping (onSets (markKeeping true) (onClears (markKeeping false) (onStores (storeWith dropNothing bytesIn) (onDevices (deviceWith dropNothing bytesIn) callOf)))))
 
 -- what a drop left, beside the answer
 abbrev pub leaving : Record → Answer → After Left → After Reply
@@ -235,7 +251,7 @@ ownPage a r m (answer.Figures n e t) = ended r (answer.Figures n e t) m
 -- a store drops by its own guest-virtual page alone
 abbrev pub storeByOwnPage : ℕ → ℕ → ℕ → Does
 storeByOwnPage a w v r m =
-    let e : After Reply = storeWith putKeeping a w v r m in
+    let e : After Reply = storeWith dropNothing bytesIn a w v r m in
     ownPage a (e .result .unit) (e .memory) (e .result .answer)
 
 unfoldable pub byOwnPage : Calls
@@ -264,28 +280,28 @@ bigValue a w (answer.Faulted y n x) = answer.Faulted y n x
 bigValue a w (answer.Refused n) = answer.Refused n
 bigValue a w (answer.Figures n x t) = answer.Figures n x t
 
-unfoldable pub putBig : Puts
-putBig c m p t a w v = access.putWordOf c m p t (wordOf a) (withPart (8 * w) (highFirst a w) v (wordIn m t (wordOf a)))
+unfoldable pub bigIn : Writes
+bigIn m t a w v = setIn m t (wordOf a) (withPart (8 * w) (highFirst a w) v (wordIn m t (wordOf a)))
 
 abbrev pub loadBig : ℕ → ℕ → Does
 loadBig a w r m = placed r m w (addressOk false (configOf r) a w) (saying (bigValue a w) (callOf (load (a - a % 8) 8) r m))
 
 unfoldable pub bigEndian : Calls
-bigEndian = onLoads loadBig (onStores (storeWith putBig) (onDevices (deviceWith putBig) callOf))
+bigEndian = onLoads loadBig (onStores (storeWith ourDrops bigIn) (onDevices (deviceWith ourDrops bigIn) callOf))
 
 -- a narrow store clears the rest of its word
-unfoldable pub putClearing : Puts
-putClearing c m p t a w v = access.putWordOf c m p t (wordOf a) (withBytes a w v 0)
+unfoldable pub clearingIn : Writes
+clearingIn m t a w v = setIn m t (wordOf a) (withBytes a w v 0)
 
 unfoldable pub clearsTheRest : Calls
-clearsTheRest = onStores (storeWith putClearing) (onDevices (deviceWith putClearing) callOf)
+clearsTheRest = onStores (storeWith ourDrops clearingIn) (onDevices (deviceWith ourDrops clearingIn) callOf)
 
 -- a store drops only where it touches byte 0 of the word
-unfoldable pub putAtZero : Puts
-putAtZero c m p t a w v = cond (eqb (a % 8) 0) (access.putBytesOf c m p t a w v) (putKeeping c m p t a w v)
+unfoldable pub dropAtZero : Drops
+dropAtZero c m p t a = cond (eqb (a % 8) 0) (ourDrops c m p t a) (dropNothing c m p t a)
 
 unfoldable pub dropsAtByteZero : Calls
-dropsAtByteZero = onStores (storeWith putAtZero) (onDevices (deviceWith putAtZero) callOf)
+dropsAtByteZero = onStores (storeWith dropAtZero bytesIn) (onDevices (deviceWith dropAtZero bytesIn) callOf)
 
 -- a load of any width is at a multiple of 8
 unfoldable pub multiplesOfEight : Calls
@@ -317,7 +333,7 @@ rewalked m a w y (answer.Figures n e t) = answer.Figures n e t
 
 -- each load walks both sets of tables in full, and reports the counts of the held path
 unfoldable pub walksInFull : Calls
-walksInFull = onLoads (λ a w r m. saying (rewalked m a w (plainWalk r m false a)) (callOf (load a w) r m)) callOf
+walksInFull = onLoads (λ a w r m. saying (rewalked (withOwn r m false a) a w (plainWalk r m false a)) (callOf (load a w) r m)) callOf
 
 -- ---- forecasts (document 02, 2), misread. A forecast is ours with what an address does, and what is said at the end, as arguments
 
@@ -339,7 +355,9 @@ listWith does ends r m ks o (a ∷ xs) =
 
 unfoldable pub forecastWith : Steps → (Outlook → Answer) → List ℕ → Does
 forecastWith does ends xs r m =
-    judged r m (cond (leb (length xs) forecastRoom) (ended r (listWith does ends r m (replicate forecastRoom 0) (start (r .pools .shadow .used)) xs) m) (refused r 14 m))
+    judged r m (cond (not (configOf r .bits))
+    (cond (leb (length xs) forecastRoom) (ended r (listWith does ends r m (replicate forecastRoom 0) (start (r .pools .shadow .used)) xs) m) (refused r 14 m))
+    (refused r 16 m))
 
 -- each address is judged by what was held before the list, so that a second one of a path costs an exit again
 abbrev pub stepAlone : Steps

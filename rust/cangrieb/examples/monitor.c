@@ -1,5 +1,5 @@
 /* The six records of document 01's job program, as calls; prints the lines that the program prints, a forecast's, those of
-   single bytes, and what a search among the marks finds. */
+   single bytes, what a search among the marks finds, and how accessed and dirty bits are set. */
 #include "cangrieb.h"
 #include <inttypes.h>
 #include <stdio.h>
@@ -36,7 +36,7 @@ int main(void)
     struct cangrieb_record unit;
     struct cangrieb_head *head = &unit.head;
     uint64_t *place = unit.place;
-    say(1, cangrieb_open(head, place, memory, words, 4, 4));
+    say(1, cangrieb_open(head, place, memory, words, 4, 4, false));
     say(2, cangrieb_map(head, place, memory, words, 0, 8, true));
     say(3, cangrieb_root(head, place, memory, words, 0));
     say(4, cangrieb_device_store(head, place, memory, words, 0, 8, 0x1003));
@@ -58,6 +58,14 @@ int main(void)
     say_lookup(16, cangrieb_depth(head, place, 0));
     /* No memory at all is refused too. */
     say(17, cangrieb_load(head, place, NULL, 0, 0, 8));
-    say(18, cangrieb_open(head, place, NULL, 0, 4, 4));
+    say(18, cangrieb_open(head, place, NULL, 0, 4, 4, false));
+    /* Opened again, with accessed and dirty bits. The entry at 0 still names its own frame at each level: the load sets its
+       bit 5, a store beside it its bit 6, and the load after that finds both. There is no forecast then. */
+    say(19, cangrieb_open(head, place, memory, words, 4, 4, true));
+    say(20, cangrieb_map(head, place, memory, words, 0, 8, true));
+    say(21, cangrieb_load(head, place, memory, words, 0, 8));
+    say(22, cangrieb_store(head, place, memory, words, 8, 8, 1));
+    say(23, cangrieb_load(head, place, memory, words, 0, 8));
+    say(24, cangrieb_forecast(head, place, memory, words, addresses, 2));
     return 0;
 }

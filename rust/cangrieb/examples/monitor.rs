@@ -1,6 +1,10 @@
-//! A monitor in a few lines: a guest of eight frames, its tables, and what its processor asks for.
+//! A monitor in a few lines: a guest of eight frames, its tables, and what its processor asks for; then the same guest with
+//! accessed and dirty bits, which its pager looks at.
 
-use cangrieb::{Answer, Record};
+use cangrieb::{Answer, Choices, Record};
+
+/// The guest's tables: each a device address and the entry there.
+const ENTRIES: [(u64, u64); 4] = [(0x0000, 0x1003), (0x1000, 0x2003), (0x2000, 0x3003), (0x3000, 0x4003)];
 
 fn main() {
     let mut memory = vec![0; 16 * 512];
@@ -10,7 +14,7 @@ fn main() {
         unit.map(&mut memory, guest, 8 + guest, true);
     }
     unit.root(&mut memory, 0);
-    for (address, entry) in [(0x0000, 0x1003), (0x1000, 0x2003), (0x2000, 0x3003), (0x3000, 0x4003)] {
+    for (address, entry) in ENTRIES {
         unit.device_store(&mut memory, address, 8, entry);
     }
     let lookup = unit.depth(0);
@@ -31,4 +35,19 @@ fn main() {
             }
         }
     }
+    pager(&mut memory);
+}
+
+/// The entry of level 1 before any request, after a load and after a store.
+fn pager(memory: &mut [u64]) {
+    let mut unit = Record::open_with(memory, 4, 4, Choices { bits: true }).expect("opened before");
+    for guest in 0..8 {
+        unit.map(memory, guest, 8 + guest, true);
+    }
+    let entry = |memory: &[u64]| memory[11 * 512];
+    println!("the page's entry: {:#x}", entry(memory));
+    unit.load(memory, 0, 8);
+    println!("after a load: {:#x}, accessed", entry(memory));
+    unit.store(memory, 0, 8, 1);
+    println!("after a store: {:#x}, accessed and dirty", entry(memory));
 }

@@ -40,6 +40,7 @@ struct cangrieb_head {
     uint64_t levels;         /* levels of tables, 4 as opened */
     uint64_t hosts, shadows; /* frames of host tables and of shadow tables, as opened */
     uint64_t frames;         /* frames of the memory */
+    uint64_t bits;           /* accessed and dirty bits: 1 if they are set, as opened, else 0 */
     struct cangrieb_pool host, shadow; /* their areas */
     uint64_t root;           /* the guest frame of the guest's top table */
     uint64_t held;           /* the host frame of the path held at the depth of all levels, or 0 */
@@ -80,10 +81,10 @@ struct cangrieb_lookup {
     uint64_t read;  /* how many marks were read to find it */
 };
 
-/* The library has these as rows of 15, 64, 7 and 2 words. */
+/* The library has these as rows of 16, 64, 7 and 2 words. */
 #if defined __STDC_VERSION__ && __STDC_VERSION__ >= 201112L
-_Static_assert(sizeof(struct cangrieb_head) == 15 * sizeof(uint64_t), "a head has 15 words");
-_Static_assert(sizeof(struct cangrieb_record) == 79 * sizeof(uint64_t), "a record has 15 words and 64 places");
+_Static_assert(sizeof(struct cangrieb_head) == 16 * sizeof(uint64_t), "a head has 16 words");
+_Static_assert(sizeof(struct cangrieb_record) == 80 * sizeof(uint64_t), "a record has 16 words and 64 places");
 _Static_assert(sizeof(struct cangrieb_answer) == 7 * sizeof(uint64_t), "an answer has 7 words");
 _Static_assert(sizeof(struct cangrieb_lookup) == 2 * sizeof(uint64_t), "a lookup has 2 words");
 #endif
@@ -92,15 +93,19 @@ _Static_assert(sizeof(struct cangrieb_lookup) == 2 * sizeof(uint64_t), "a lookup
    1 the words are no multiple of 512, or the frames are 0 or more than 65,536; 2 fewer than 4 host or shadow frames, or no
    guest frame; 3 the memory's length or the record; 4 the address; 5 the mark's level; 6 the mark is set already, or is not
    set; 7 64 marks are set; 8 the guest frame; 9 the host frame; 10 no host table is free; 12 not mapped; 14 more than 256
-   addresses; 15 the width is not 1, 2, 4 or 8; 11 a damaged host or shadow table.
+   addresses; 15 the width is not 1, 2, 4 or 8; 16 no forecast with accessed and dirty bits; 11 a damaged host or shadow table.
    For 4: a guest-virtual address is legal when its bits 48 to 63 all equal bit 47; a device's address, which is
    guest-physical, is below 2^48. Loads and stores are at multiples of their width; a mark's address need not be.
    A refusal leaves the head and the places as given; that of an opening sets them to 0. */
 
 /* Opens a memory (1, 2): clears its host and shadow frames, keeps its guest words; nothing is mapped, the root is 0, no mark is
-   set. Head and places may hold anything before. */
+   set. Head and places may hold anything before.
+   With bits the unit sets accessed and dirty bits in the guest's entries. A load or store that is granted sets bit 5 in each entry
+   of its walk, and a store also bit 6 in that of level 1, before its word is loaded or stored; a fault sets none. A bit that is
+   needed and not set, in a table whose guest frame is mapped read-only, is fault W with that frame. A device store needs and sets
+   none. Forecasts are refused with 16. */
 struct cangrieb_answer cangrieb_open(struct cangrieb_head *head, uint64_t place[64], uint64_t *memory, size_t words,
-                                     uint64_t hosts, uint64_t shadows);
+                                     uint64_t hosts, uint64_t shadows, bool bits);
 
 /* Loads width bytes, 1, 2, 4 or 8, at a guest-virtual address (3, 15, 4, 11). The first byte is the lowest of the number, and
    above the last are zeros. */
@@ -136,7 +141,7 @@ struct cangrieb_answer cangrieb_set_mark(struct cangrieb_head *head, uint64_t pl
 struct cangrieb_answer cangrieb_clear_mark(struct cangrieb_head *head, uint64_t place[64], uint64_t *memory,
                                            size_t words, uint64_t address, uint64_t level);
 
-/* What loads of so many guest-virtual addresses, in this order, would cost (3, 14, 11): the references and exits of all, and
+/* What loads of so many guest-virtual addresses, in this order, would cost (3, 16, 14, 11): the references and exits of all, and
    as number the greatest number of shadow tables in use before the first and after each. A load that would fault counts
    what its fault carries, one that would be refused with 4 counts nothing, and the list goes on. Nothing is changed, not by
    11 either: head, places, memory and addresses are only read. With a count of 0 the addresses' pointer may be null. */

@@ -1,7 +1,8 @@
 //! The proved memory unit, for a monitor to link.
 //!
 //! The monitor owns a memory, a slice of 64-bit words in frames of 512: first the host frames, then the shadow frames,
-//! then the guest area. [`Record::open`] lays it out; each later call takes the record and the same memory.
+//! then the guest area. [`Record::open`] lays it out, [`Record::open_with`] also with accessed and dirty bits; each later call
+//! takes the record and the same memory.
 //!
 //! Nothing else is asked of the caller: the archive's functions have no precondition. A memory of another length or a
 //! record that breaks a rule is refused with 3, and a damaged table with 11; no call reads or writes a word outside the
@@ -59,6 +60,8 @@ pub struct Head {
     pub shadows: u64,
     /// Frames of the memory.
     pub frames: u64,
+    /// Accessed and dirty bits: 1 if they are set, as opened, else 0.
+    pub bits: u64,
     /// The host tables.
     pub host: Pool,
     /// The shadow tables.
@@ -81,6 +84,17 @@ pub struct Record {
     /// The marks, in ascending order at the places that `head.set` names: each its level in bits
     /// 0 to 2 and above them the indexes that it keeps.
     pub place: [u64; 64],
+}
+
+/// What an opening chooses beside its sizes: [`Record::open_with`]. By default nothing is chosen. Later versions have further
+/// choices: `Choices { bits: true, ..Choices::default() }` leaves those as they are by default.
+#[derive(Clone, Copy, Debug, Default, PartialEq, Eq)]
+pub struct Choices {
+    /// Accessed and dirty bits in the guest's entries. A load or store that is granted sets bit 5 in each entry of its walk, and
+    /// a store also bit 6 in that of level 1, before its word is loaded or stored; a fault sets none. A bit that is needed and
+    /// not set, in a table whose guest frame is mapped read-only, is fault W with that frame. A device store needs and sets
+    /// none. Forecasts are refused with 16.
+    pub bits: bool,
 }
 
 /// What the search among the marks finds for an address.
@@ -117,7 +131,7 @@ pub enum Fault {
         /// The guest frame.
         frame: u64,
     },
-    /// W: a store to a guest frame that is mapped read-only.
+    /// W: a store to a guest frame that is mapped read-only, or, if they are chosen, an accessed or dirty bit to be set in one.
     HostReadOnly {
         /// The guest frame.
         frame: u64,
@@ -169,7 +183,7 @@ pub enum Answer<W = u64> {
     Refused(Refusal),
 }
 
-/// Why a call was refused: its number, 1 to 12, 14 or 15.
+/// Why a call was refused: its number, 1 to 12 or 14 to 16.
 ///
 /// For 4: a guest-virtual address is legal when its bits 48 to 63 all equal bit 47; a device's address, which is
 /// guest-physical, is below 2^48. Loads and stores are at multiples of their width; a mark's address need not be.
@@ -193,6 +207,7 @@ impl fmt::Display for Refusal {
             12 => "the guest frame is not mapped",
             14 => "more than 256 addresses",
             15 => "the width is not 1, 2, 4 or 8",
+            16 => "no forecast with accessed and dirty bits",
             _ => "no number of the unit's",
         };
         write!(out, "refused with {}: {why}", self.0)
@@ -208,9 +223,7 @@ impl fmt::Display for Fault {
             Fault::Malformed { level } => write!(out, "M: the guest entry of level {level} is malformed"),
             Fault::Protected { level } => write!(out, "P: a store without the right to write, level {level}"),
             Fault::HostAbsent { frame } => write!(out, "H: guest frame {frame} is not mapped"),
-            Fault::HostReadOnly { frame } => {
-                write!(out, "W: a store to guest frame {frame}, mapped read-only")
-            }
+            Fault::HostReadOnly { frame } => write!(out, "W: guest frame {frame} is mapped read-only"),
         }
     }
 }
@@ -302,10 +315,34 @@ impl Record {
 
     /// Opens a memory with so many host frames and shadow frames; those are cleared, the guest area is kept. Refused with
     /// 1 if the words are no multiple of 512 or the frames are 0 or more than 65,536; with 2 if either number is below 4
-    /// or no guest frame is left.
+    /// or no guest frame is left. Nothing else is chosen.
     pub fn open(memory: &mut [u64], hosts: u64, shadows: u64) -> Result<Record, Refusal> {
+        Record::open_with(memory, hosts, shadows, Choices::default())
+    }
+
+    /// Opens a memory as [`Record::open`] does, with what is chosen beside the sizes: 1, 2.
+    ///
+    /// ```
+    /// use cangrieb::{Answer, Choices, Record};
+    ///
+    /// let mut memory = vec![0; 16 * 512];
+    /// let mut unit = Record::open_with(&mut memory, 4, 4, Choices { bits: true }).unwrap();
+    /// unit.map(&mut memory, 0, 8, true);
+    /// unit.device_store(&mut memory, 0, 8, 3);
+    /// // The entry by which the word is found is the word itself: its accessed bit is set first, and by the store its dirty bit.
+    /// assert_eq!(unit.load(&mut memory, 0, 8), Answer::Value { word: 0x23, references: 4, exits: 1 });
+    /// assert!(matches!(unit.store(&mut memory, 8, 8, 1), Answer::Done { .. }));
+    /// assert_eq!(unit.load(&mut memory, 0, 8), Answer::Value { word: 0x63, references: 4, exits: 0 });
+    /// ```
+    pub fn open_with(
+        memory: &mut [u64],
+        hosts: u64,
+        shadows: u64,
+        choices: Choices,
+    ) -> Result<Record, Refusal> {
         let mut record = Record::zeros();
-        match call!(cangrieb_open(&mut record.head, &mut record.place, memory, hosts, shadows)) {
+        let Choices { bits } = choices;
+        match call!(cangrieb_open(&mut record.head, &mut record.place, memory, hosts, shadows, bits)) {
             Answer::Refused(refusal) => Err(refusal),
             _ => Ok(record),
         }
@@ -378,7 +415,8 @@ impl Record {
         call!(cangrieb_clear_mark(&mut self.head, &mut self.place, memory, address, level))
     }
 
-    /// What loads of these guest-virtual addresses, in this order, would cost: 3, 14 for more than 256 addresses, 11.
+    /// What loads of these guest-virtual addresses, in this order, would cost: 3, 16 if accessed and dirty bits are chosen, 14
+    /// for more than 256 addresses, 11.
     /// A load that would fault counts what its fault carries, one that would be refused with 4 counts nothing, and the list
     /// goes on. Nothing is changed, not by 11 either.
     ///

@@ -25,12 +25,13 @@ pub struct Answer {
     pub exits: u64,
 }
 
-/// The library has these as rows of 15, 7 and 2 words.
+/// The library has these as rows of 16, 7 and 2 words.
 const _: () =
-    assert!(size_of::<Head>() == 15 * 8 && size_of::<Answer>() == 7 * 8 && size_of::<Lookup>() == 2 * 8);
+    assert!(size_of::<Head>() == 16 * 8 && size_of::<Answer>() == 7 * 8 && size_of::<Lookup>() == 2 * 8);
 
 extern "C" {
-    /// Lays the memory out and writes the record: 1, 2. A refusal sets the record to 0.
+    /// Lays the memory out and writes the record: 1, 2. A refusal sets the record to 0. The last argument chooses accessed
+    /// and dirty bits.
     pub fn cangrieb_open(
         head: &mut Head,
         place: &mut [u64; 64],
@@ -38,6 +39,7 @@ extern "C" {
         words: usize,
         hosts: u64,
         shadows: u64,
+        bits: bool,
     ) -> Answer;
     /// Loads 1, 2, 4 or 8 bytes: 3, 15, 4, 11.
     pub fn cangrieb_load(
@@ -112,7 +114,7 @@ extern "C" {
         address: u64,
         level: u64,
     ) -> Answer;
-    /// What loads of so many addresses would cost: 3, 14, 11. If there are none, their pointer may be null.
+    /// What loads of so many addresses would cost: 3, 16, 14, 11. If there are none, their pointer may be null.
     pub fn cangrieb_forecast(
         head: &Head,
         place: &[u64; 64],

@@ -1,9 +1,13 @@
 //! Document 01's sixteen-frame guest through the archive, with addresses of both halves, and the edges of the interface.
 
-use cangrieb::{raw, Answer, Fault, Head, Lookup, Record, Refusal};
+use cangrieb::{raw, Answer, Choices, Fault, Head, Lookup, Record, Refusal};
+
+fn guest() -> (Record, Vec<u64>) {
+    guest_with(Choices::default())
+}
 
 /// "H = S = 4; guest frames 0 to 7 at 8 to 15, writable; root 0" and the guest's words.
-fn guest() -> (Record, Vec<u64>) {
+fn guest_with(choices: Choices) -> (Record, Vec<u64>) {
     let mut memory = vec![0; 16 * 512];
     let entries = [(0, 0, 0x1003), (1, 0, 0x2003), (2, 0, 0x3003), (2, 1, 0x3003)];
     let last =
@@ -11,7 +15,7 @@ fn guest() -> (Record, Vec<u64>) {
     for (frame, place, entry) in entries.into_iter().chain(last) {
         memory[(8 + frame) * 512 + place] = entry;
     }
-    let mut unit = Record::open(&mut memory, 4, 4).unwrap();
+    let mut unit = Record::open_with(&mut memory, 4, 4, choices).unwrap();
     for frame in 0..8 {
         assert_eq!(unit.map(&mut memory, frame, 8 + frame, true), Answer::Ok);
     }
@@ -288,6 +292,76 @@ fn bytes_of_an_entry() {
     }
 }
 
+/// The record has the choice, and no call changes it.
+#[test]
+fn choices() {
+    let mut memory = vec![0; 16 * 512];
+    assert_eq!(Record::open(&mut memory, 4, 4), Record::open_with(&mut memory, 4, 4, Choices::default()));
+    for bits in [false, true] {
+        let (mut unit, mut memory) = guest_with(Choices { bits });
+        assert_eq!(unit.head.bits, u64::from(bits));
+        unit.set_mark(&mut memory, 0x20_0000, 1);
+        unit.store(&mut memory, 0, 8, 1);
+        unit.load(&mut memory, 0x20_0000, 8);
+        unit.unmap(&mut memory, 4);
+        assert_eq!(unit.head.bits, u64::from(bits));
+    }
+    assert_eq!(Record::open_with(&mut [], 4, 4, Choices { bits: true }), Err(Refusal(1)));
+    assert_eq!(Record::open_with(&mut vec![0; 8 * 512], 4, 4, Choices { bits: true }), Err(Refusal(2)));
+}
+
+/// The entries of address 0 at their four levels.
+fn entries(memory: &[u64]) -> [u64; 4] {
+    [8, 9, 10, 11].map(|frame| memory[frame * 512])
+}
+
+/// Accessed and dirty bits. A load sets bit 5 at each level, a store bit 6 at level 1; the path that the load filled forbids
+/// stores, so that the first one fills it anew.
+#[test]
+fn bits() {
+    let (mut unit, mut memory) = guest_with(Choices { bits: true });
+    assert_eq!(unit.load(&mut memory, 8, 8), value(0, 4, 1));
+    assert_eq!(entries(&memory), [0x1023, 0x2023, 0x3023, 0x4023]);
+    assert_eq!(unit.store(&mut memory, 8, 8, 7), Answer::Done { references: 4, exits: 1 });
+    assert_eq!(entries(&memory), [0x1023, 0x2023, 0x3023, 0x4063]);
+    assert_eq!(unit.store(&mut memory, 8, 8, 8), Answer::Done { references: 4, exits: 0 });
+    // A fault sets none: P, H, A.
+    let before = memory[8 * 512..].to_vec();
+    assert_eq!(unit.store(&mut memory, 0x1000, 8, 1), fault(Fault::Protected { level: 1 }, 20, 1));
+    assert_eq!(unit.load(&mut memory, 0x2000, 8), fault(Fault::HostAbsent { frame: 8 }, 24, 1));
+    assert_eq!(unit.load(&mut memory, 0x3000, 8), fault(Fault::Absent { level: 1 }, 20, 1));
+    assert_eq!(memory[8 * 512..], before);
+    // Page 4 is the table of level 1, and the word at 0x4020 the entry by which it is found.
+    assert_eq!(unit.load(&mut memory, 0x4020, 8), value(0x3023, 4, 1));
+    // Of a table that is read-only, entry 1 lacks its bit and entry 0 does not.
+    assert_eq!(unit.map(&mut memory, 3, 11, false), Answer::Ok);
+    let read_only = |references, exits| fault(Fault::HostReadOnly { frame: 3 }, references, exits);
+    assert_eq!(unit.load(&mut memory, 0x1000, 8), read_only(24, 1));
+    assert_eq!(unit.store(&mut memory, 8, 8, 9), Answer::Done { references: 4, exits: 1 });
+    // At depth 1 that is the direct part's. A fault on a path not held fills nothing.
+    assert_eq!(unit.set_mark(&mut memory, 0, 1), Answer::Ok);
+    assert_eq!(unit.load(&mut memory, 0x1000, 8), read_only(24, 2));
+    assert_eq!(unit.load(&mut memory, 0x1000, 8), read_only(24, 2));
+    assert_eq!(unit.load(&mut memory, 8, 8), value(9, 8, 1));
+    assert_eq!(unit.load(&mut memory, 0x1000, 8), read_only(8, 1));
+    // A device sets none and needs none.
+    assert_eq!(unit.device_store(&mut memory, 0x4000, 8, 1), Answer::Done { references: 4, exits: 0 });
+    assert_eq!(entries(&memory), [0x1023, 0x2023, 0x3023, 0x4063]);
+}
+
+/// 16 goes before 14 and after 3.
+#[test]
+fn no_forecast_with_bits() {
+    let (unit, memory) = guest_with(Choices { bits: true });
+    for list in [&[][..], &[0], &[4], &[0; 256], &[0; 257]] {
+        assert_eq!(unit.forecast(&memory, list), refused(16));
+        assert_eq!(unit.forecast(&memory[512..], list), refused(3));
+    }
+    let mut broken = unit;
+    broken.head.bits = 2;
+    assert_eq!(broken.forecast(&memory, &[0; 257]), refused(3));
+}
+
 /// The calls of one width are the calls with that width.
 macro_rules! same_calls {
     ($load:ident, $store:ident, $device_store:ident, $word:ty, $width:literal) => {
@@ -377,8 +451,8 @@ fn no_memory() {
 fn no_memory_to_open() {
     let (unit, _) = guest();
     let mut after = Record { place: [7; 64], ..unit };
-    let opened =
-        unsafe { raw::cangrieb_open(&mut after.head, &mut after.place, std::ptr::null_mut(), 0, 4, 4) };
+    let null = std::ptr::null_mut();
+    let opened = unsafe { raw::cangrieb_open(&mut after.head, &mut after.place, null, 0, 4, 4, true) };
     assert_eq!((opened.kind, opened.number), (4, 1));
     assert_eq!(after, Record::zeros());
 }
@@ -421,11 +495,11 @@ fn refused_openings() {
 }
 
 /// A record that nothing opened, a mark out of order, a held frame that is none, other sizes, no top host table, a top
-/// shadow table before and after its area. Another length of memory.
+/// shadow table before and after its area, a choice that is neither on nor off. Another length of memory.
 #[test]
 fn broken_records() {
     let (unit, mut memory) = guest();
-    let mut broken = [unit; 8];
+    let mut broken = [unit; 10];
     broken[0] = Record::zeros();
     broken[1].head.set = 3;
     broken[2].head.held = 3;
@@ -434,6 +508,8 @@ fn broken_records() {
     broken[5].head.host.top = 0;
     broken[6].head.shadow.top = 3 << 12 | 1;
     broken[7].head.shadow.top = 8 << 12 | 1;
+    broken[8].head.bits = 2;
+    broken[9].head.bits = 1 << 63 | 1;
     let before = memory.clone();
     for record in broken {
         for (after, said) in unsafe { every_call(&record, memory.as_mut_ptr(), memory.len(), 0, 3, 0) } {
@@ -452,7 +528,8 @@ fn broken_records() {
 fn texts() {
     assert_eq!(Refusal(12).to_string(), "refused with 12: the guest frame is not mapped");
     assert_eq!(Fault::HostAbsent { frame: 8 }.to_string(), "H: guest frame 8 is not mapped");
-    let texts: Vec<String> = (1..=12).chain([14, 15]).map(|number| Refusal(number).to_string()).collect();
+    assert_eq!(Fault::HostReadOnly { frame: 3 }.to_string(), "W: guest frame 3 is mapped read-only");
+    let texts: Vec<String> = (1..=12).chain(14..=16).map(|number| Refusal(number).to_string()).collect();
     assert!(texts.iter().all(|text| !text.contains("no number")));
-    assert!(Refusal(13).to_string().contains("no number"));
+    assert!([13, 17].iter().all(|number| Refusal(*number).to_string().contains("no number")));
 }

@@ -4,7 +4,7 @@ use crate::{address_in, answer, is_set, lookup, places};
 use cangrieb::{Head, Record};
 use std::collections::BTreeMap;
 use walker::book::Book;
-use walker::numbers::{Bytes, WIDTHS, WORD_BYTES};
+use walker::numbers::{Bytes, ACCESSED, DIRTY, WIDTHS, WORD_BYTES};
 use walker::random::Random;
 use walker::unit::{refuse_device_store, refuse_request};
 use walker::{Answer, Call};
@@ -57,13 +57,20 @@ impl State {
     /// 15 or 4, unless the record is with 3; a store changes its bytes of one guest word at most, to its
     /// value and at its place in a frame, and any other call none; a load yields bytes that stand
     /// in the guest area, at its place in a frame; a forecast yields figures, 3, 14 or 11, and leaves
-    /// the record and every word.
+    /// the record and every word. With accessed and dirty bits a load that is done may also set bit 5 in as many
+    /// guest words as there are levels, a store so too, and bit 6 in one of them, and a forecast is refused with 3
+    /// or 16. A record that says neither on nor off is refused with 3.
     pub fn checked_call(&mut self, before: &mut State, call: &Call, part: usize, counts: &mut Counts) {
         before.record = self.record;
         before.lent.words.copy_from_slice(&self.lent.words);
         let said = answer(&mut self.record, &mut self.lent.memory()[..part], call);
+        let bits = before.record.head.bits == 1;
         count(counts, name(call, &said));
-        if let Some(number) = refusal_by_numbers(call) {
+        if bits {
+            count(counts, format!("bits: {}", name(call, &said)));
+        }
+        assert!(before.record.head.bits <= 1 || said == Answer::No(3), "{call:?} => {said:?}: bits");
+        if let Some(number) = refusal_by_numbers(call, bits) {
             // A load that nothing but 3 keeps from being refused with 4.
             let other =
                 answer(&mut self.record.clone(), &mut self.lent.memory()[..part], &Call::load_word(1 << 48));
@@ -88,20 +95,30 @@ impl State {
         let first = (before.record.head.hosts + before.record.head.shadows) as usize * FRAME;
         let guest = &self.lent.memory()[first..];
         let guest_before = &before.lent.memory()[first..];
+        let changed = || -> Vec<Changed> {
+            let words = guest.iter().zip(guest_before).enumerate();
+            let others = words.filter(|(_, (now, was))| now != was);
+            others.map(|(at, (now, was))| Changed { place: at % FRAME, now: *now, was: *was }).collect()
+        };
         match (call, said) {
             (
                 Call::Store { address, width, value } | Call::DeviceStore { address, width, value },
                 Answer::Done { .. },
             ) => {
                 let (at, bytes) = (place(*address), Bytes::at(*address, *width));
-                let changed = guest.iter().zip(guest_before).enumerate().filter(|(_, (now, was))| now != was);
-                let changed: Vec<(usize, u64, u64)> =
-                    changed.map(|(at, (now, was))| (at % FRAME, *now, *was)).collect();
-                assert!(
-                    changed.iter().all(|(place, now, was)| *place == at && *now == bytes.put(*was, *value))
-                        && changed.len() <= 1,
-                    "{call:?}: {changed:x?}"
-                );
+                // The bits that it may set before, also in the word that it then stores to.
+                let bits = if bits && matches!(call, Call::Store { .. }) { ACCESSED | DIRTY } else { 0 };
+                let (set, own): (Vec<Changed>, Vec<Changed>) =
+                    changed().into_iter().partition(|word| word.only_sets(bits));
+                let is_own = |word: &Changed| {
+                    let before = [0, ACCESSED, DIRTY, ACCESSED | DIRTY].map(|set| word.was | set & bits);
+                    word.place == at && before.iter().any(|was| word.now == bytes.put(*was, *value))
+                };
+                assert!(own.iter().all(is_own) && own.len() <= 1, "{call:?}: {own:x?}");
+                // Of those in which bits alone are set one may be stored to.
+                let dirty = set.iter().filter(|word| word.place != at && (word.now ^ word.was) & DIRTY != 0);
+                assert!(dirty.count() <= 1 && set.len() <= LEVELS as usize + 1, "{call:?}: {set:x?}");
+                count_if(counts, !set.is_empty(), "bits: set by a store");
                 assert!(
                     guest.iter().skip(at).step_by(FRAME).any(|word| *word == bytes.put(*word, *value)),
                     "{call:?}: not stored"
@@ -109,7 +126,13 @@ impl State {
             }
             (Call::Load { address, width }, Answer::Value { value, .. }) => {
                 let (at, bytes) = (place(*address), Bytes::at(*address, *width));
-                assert!(guest == guest_before, "{call:?} => {said:?}: a guest word");
+                let changed = changed();
+                let bits = if bits { ACCESSED } else { 0 };
+                assert!(
+                    changed.iter().all(|word| word.only_sets(bits)) && changed.len() <= LEVELS as usize,
+                    "{call:?} => {said:?}: a guest word: {changed:x?}"
+                );
+                count_if(counts, !changed.is_empty(), "bits: set by a load");
                 assert!(
                     guest.iter().skip(at).step_by(FRAME).any(|word| bytes.of(*word) == value),
                     "{call:?} => {said:?}"
@@ -122,7 +145,7 @@ impl State {
     /// One to four kinds of damage.
     pub fn damage(&mut self, random: &mut Random, counts: &mut Counts) {
         for _ in 0..1 + random.below(4) {
-            match random.below(14) {
+            match random.below(15) {
                 0 => damage_record(&mut self.record, random),
                 1 => damage_fields(&mut self.record, random),
                 2 | 3 => damage_pools(&mut self.record, random),
@@ -132,6 +155,7 @@ impl State {
                 8 | 9 => bend_entries(&self.record.clone(), self.lent.memory(), random),
                 10 | 11 => close_cycles(&self.record.clone(), self.lent.memory(), random),
                 12 => move_marks(&mut self.record, random),
+                13 => damage_choice(&mut self.record, random),
                 _ => damage_marks(&mut self.record, random),
             }
         }
@@ -141,6 +165,27 @@ impl State {
 
 fn count(counts: &mut Counts, name: String) {
     *counts.entry(name).or_insert(0) += 1;
+}
+
+fn count_if(counts: &mut Counts, condition: bool, name: &str) {
+    if condition {
+        count(counts, name.into());
+    }
+}
+
+/// A guest word that a call changed: its place in its frame, and what it is and was.
+#[derive(Debug)]
+struct Changed {
+    place: usize,
+    now: u64,
+    was: u64,
+}
+
+impl Changed {
+    /// Whether some of these bits were set in it, and nothing else is changed.
+    fn only_sets(&self, bits: u64) -> bool {
+        self.now == self.was | self.now & bits
+    }
 }
 
 /// A lookup, and what must hold of it whatever the record is: it leaves the record, yields a level as a place can hold it, and
@@ -176,7 +221,7 @@ fn check_by_walker(record: &Record, address: u64, counts: &mut Counts) {
     }
 }
 
-/// What no run has: marks that no call sets, or not there, or another number of levels to read them by.
+/// What no run has: marks that no call sets, or not there, another number of levels to read them by, or another choice.
 fn odd_marks(record: &Record) -> Vec<&'static str> {
     let set = (0..64).filter(|place| is_set(record, *place));
     let words: Vec<u64> = set.map(|place| record.place[place]).collect();
@@ -189,6 +234,7 @@ fn odd_marks(record: &Record) -> Vec<&'static str> {
         (words.windows(2).any(|two| two[0] == two[1]), "two marks alike"),
         (words.windows(2).any(|two| two[0] > two[1]), "marks out of order"),
         (record.head.levels != 4, "another number of levels"),
+        (record.head.bits > 1, "bits neither on nor off"),
     ];
     odd.iter().filter(|(is_so, _)| *is_so).map(|(_, name)| *name).collect()
 }
@@ -198,24 +244,25 @@ fn place(address: u64) -> usize {
     (address / 8) as usize % FRAME
 }
 
-/// A plain walk, the longest, reads 24 words, and no load costs more than two exits.
+/// A plain walk, the longest, reads 24 words, and no load costs more than two exits. Where 16 is right is checked before.
 fn check_figures(length: u64, said: &Answer) {
     match *said {
         Answer::Figures { references, exits, .. } => {
             assert!(length <= 256 && references <= 24 * length && exits <= 2 * length, "{length}: {said:?}")
         }
         Answer::No(14) => assert!(length > 256, "{length}: {said:?}"),
-        _ => assert!(matches!(said, Answer::No(3 | 11)), "{said:?} to a forecast"),
+        _ => assert!(matches!(said, Answer::No(3 | 16 | 11)), "{said:?} to a forecast"),
     }
 }
 
-/// The refusal that only 3 goes before, if it is by numbers of the call alone.
-fn refusal_by_numbers(call: &Call) -> Option<u32> {
+/// The refusal that only 3 goes before, if it is by numbers of the call alone, or by the record's choice of bits.
+fn refusal_by_numbers(call: &Call, bits: bool) -> Option<u32> {
     match *call {
         Call::Load { address, width } | Call::Store { address, width, .. } => {
             refuse_request(LEVELS, address, width)
         }
         Call::DeviceStore { address, width, .. } => refuse_device_store(LEVELS, address, width),
+        Call::Forecast { .. } => bits.then_some(16),
         _ => None,
     }
 }
@@ -249,10 +296,10 @@ fn flip(word: &mut u64, random: &mut Random) {
 
 /// One bit of the record.
 fn damage_record(record: &mut Record, random: &mut Random) {
-    let at = random.below(15 + 64);
+    let at = random.below(FIELDS + 64);
     match field(&mut record.head, at) {
         Some(word) => flip(word, random),
-        None => flip(&mut record.place[(at - 15) as usize], random),
+        None => flip(&mut record.place[(at - FIELDS) as usize], random),
     }
 }
 
@@ -266,7 +313,7 @@ fn damage_fields(record: &mut Record, random: &mut Random) {
     } else {
         random.pick(&limits).wrapping_add(random.below(3)).wrapping_sub(1)
     };
-    let at = random.below(15);
+    let at = random.below(FIELDS);
     if let Some(word) = field(head, at) {
         *word = number;
     }
@@ -294,6 +341,17 @@ fn damage_pools(record: &mut Record, random: &mut Random) {
         6 => head.host.top = (random.below(hosts + 1) << 12) | 1,
         _ => head.shadow.top = ((hosts + random.below(shadows + 1)) << 12) | random.below(2),
     }
+}
+
+/// The choice of bits turned, which breaks no rule of the record though entries of held paths may lack their bits then, or
+/// neither on nor off.
+fn damage_choice(record: &mut Record, random: &mut Random) {
+    let bits = &mut record.head.bits;
+    *bits = match random.below(6) {
+        0 => 2 + random.below(3),
+        1 => *bits ^ 1 << random.below(64),
+        _ => *bits ^ 1,
+    };
 }
 
 /// The marks with one of level 5 at any places. No rule of the record is broken.
@@ -330,23 +388,27 @@ fn damage_marks(record: &mut Record, random: &mut Random) {
     }
 }
 
+/// The words of the head.
+const FIELDS: u64 = 16;
+
 fn field(head: &mut Head, at: u64) -> Option<&mut u64> {
     Some(match at {
         0 => &mut head.levels,
         1 => &mut head.hosts,
         2 => &mut head.shadows,
         3 => &mut head.frames,
-        4 => &mut head.host.fresh,
-        5 => &mut head.host.free,
-        6 => &mut head.host.used,
-        7 => &mut head.host.top,
-        8 => &mut head.shadow.fresh,
-        9 => &mut head.shadow.free,
-        10 => &mut head.shadow.used,
-        11 => &mut head.shadow.top,
-        12 => &mut head.root,
-        13 => &mut head.held,
-        14 => &mut head.set,
+        4 => &mut head.bits,
+        5 => &mut head.host.fresh,
+        6 => &mut head.host.free,
+        7 => &mut head.host.used,
+        8 => &mut head.host.top,
+        9 => &mut head.shadow.fresh,
+        10 => &mut head.shadow.free,
+        11 => &mut head.shadow.used,
+        12 => &mut head.shadow.top,
+        13 => &mut head.root,
+        14 => &mut head.held,
+        15 => &mut head.set,
         _ => return None,
     })
 }

@@ -2,11 +2,17 @@
 
 pub mod damage;
 
-use cangrieb::Record;
+use cangrieb::{Choices, Record};
 use walker::book::{Lookup, Mark};
 use walker::numbers::{indexes, page_from};
 use walker::random::{Random, Run};
 use walker::{Answer, Call, Fault};
+
+/// The proved unit's record after the run's opening, with what that chooses.
+pub fn open(run: &Run, memory: &mut [u64]) -> Record {
+    let choices = Choices { bits: run.choices.bits };
+    Record::open_with(memory, run.sizes.h, run.sizes.s, choices).unwrap()
+}
 
 /// The proved unit's answer to one of the walker's calls, in the walker's terms.
 pub fn answer(record: &mut Record, memory: &mut [u64], call: &Call) -> Answer {

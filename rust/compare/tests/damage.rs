@@ -1,10 +1,11 @@
-//! A million calls on damaged records and memories, and a lookup after each: each ends, and leaves what it may not change.
+//! A million calls on damaged records and memories, half of them opened with accessed and dirty bits, and a lookup after each:
+//! each ends, and leaves what it may not change.
 //! DAMAGED_CALLS sets another number, MARGIN the words on each side of the lent memory.
 
 use cangrieb::Record;
 use compare::damage::{Counts, Lent, State};
-use compare::{answer, memory_before};
-use walker::random::{run, Random, Run, Sizes};
+use compare::{answer, memory_before, open};
+use walker::random::{bits_run, run, Random, Run, Sizes};
 use walker::{Answer, Call};
 
 /// Calls after each damage, and damages of one run.
@@ -22,7 +23,7 @@ fn calls() -> u64 {
 /// A sound state somewhere in the run.
 fn sound_state(run: &Run, random: &mut Random) -> State {
     let mut lent = Lent::new(&memory_before(run, random), number("MARGIN", 1024) as usize, random);
-    let mut record = Record::open(lent.memory(), run.sizes.h, run.sizes.s).unwrap();
+    let mut record = open(run, lent.memory());
     let length = random.below(run.calls.len() as u64) as usize;
     for call in &run.calls[..length] {
         answer(&mut record, lent.memory(), call);
@@ -32,7 +33,8 @@ fn sound_state(run: &Run, random: &mut Random) -> State {
 
 fn damaged_run(seed: u64, sizes: Sizes, counts: &mut Counts) {
     let mut random = Random::new(seed ^ 0xDA4A_6E00);
-    let run = run(seed, sizes, 300 + 2 * sizes.frames as usize);
+    let sort = if seed % 2 == 1 { bits_run } else { run };
+    let run = sort(seed, sizes, 300 + 2 * sizes.frames as usize);
     // The calls before these map the guest's frames.
     let later = &run.calls[run.calls.len() - 250..];
     let sound = sound_state(&run, &mut random);
@@ -78,11 +80,17 @@ fn damaged_runs(first_seed: u64, calls: u64, sizes: fn(&mut Random) -> Sizes) {
             "two marks alike",
             "marks out of order",
             "another number of levels",
+            "bits neither on nor off",
         ];
         let odd = odd.map(|odd| format!("record with {odd}"));
         let answers = refusals.iter().chain(&faults).chain(&others).chain(&forecasts);
-        let answers = answers.chain(&narrow).chain(&wrong_widths);
-        for name in answers.chain(&lookups).chain(&odd) {
+        let answers: Vec<&String> = answers.chain(&narrow).chain(&wrong_widths).collect();
+        // With bits all the same but the answers of forecasts.
+        let with_bits = answers.iter().filter(|name| !name.starts_with("forecast"));
+        let with_bits = with_bits.map(|name| format!("bits: {name}"));
+        let of_bits = ["forecast: refusal 3", "forecast: refusal 16", "set by a load", "set by a store"];
+        let of_bits: Vec<String> = with_bits.chain(of_bits.map(|name| format!("bits: {name}"))).collect();
+        for name in answers.into_iter().chain(&of_bits).chain(&lookups).chain(&odd) {
             assert!(counts.contains_key(name), "no damaged run had: {name}");
         }
     }

@@ -1,25 +1,25 @@
-//! Random runs: every answer of the proved unit, with its counts, is the second walker's, and so are the guest words. Each
-//! forecast is also what the unit takes to serve its list, and changes nothing. The unit's places hold the walker's marks, and
-//! lookups about them are the walker's.
+//! Random runs, half of them with accessed and dirty bits: every answer of the proved unit, with its counts, is the second
+//! walker's, and so are the guest words, with their bits. Each forecast is also what the unit takes to serve its list, and changes
+//! nothing. The unit's places hold the walker's marks, and lookups about them are the walker's.
 //! TIMES sets how many times as many runs there are; `-- --nocapture` shows how often each thing happened.
 
 use cangrieb::Record;
-use compare::{address_in, answer, first_guest_word, lookup, memory_before, places, served};
+use compare::{address_in, answer, first_guest_word, lookup, memory_before, open, places, served};
 use walker::book::Mark;
-use walker::events::{of_forecasts, of_halves, of_lookups, of_widths, Events};
+use walker::events::{of_bits, of_forecasts, of_halves, of_lookups, of_widths, Events};
 use walker::numbers::{address_of, different_proper_prefixes, indexes, page_from, sign_bit};
-use walker::random::{mark_run, run, Random, Run, Sizes};
+use walker::random::{bits_run, mark_run, run, Random, Run, Sizes};
 use walker::{Answer, Call, Unit};
 
 const CALLS: usize = 1000;
 
 /// One run. The guest words are compared at its end, and in a small memory after each call.
 fn same(seed: u64, run: &Run) -> Events {
-    let Sizes { levels, h, s, frames } = run.sizes;
+    let frames = run.sizes.frames;
     let mut memory = memory_before(run, &mut Random::new(!seed));
     let first = first_guest_word(run);
-    let mut record = Record::open(&mut memory, h, s).unwrap();
-    let mut walker = Unit::open(levels, run.words.clone(), h, s).unwrap();
+    let mut record = open(run, &mut memory);
+    let mut walker = run.open().unwrap();
     assert!(memory[first..] == *walker.guest_words(), "seed {seed}, {:?}: the opening", run.sizes);
     let mut copy = memory.clone();
     let mut lookups = Events::default();
@@ -31,12 +31,13 @@ fn same(seed: u64, run: &Run) -> Events {
         let said = answer(&mut record, &mut memory, call);
         let expected = walker.call(call);
         assert_eq!(said, expected, "seed {seed}, {:?}, call {number}: {call:?}", run.sizes);
+        assert_eq!(record.head.bits, run.choices.bits as u64, "seed {seed}, call {number}: {call:?}");
         let unchanged = !matches!(said, Answer::No(_)) || record == before;
         assert!(unchanged, "seed {seed}, {:?}, call {number}: {call:?} => {said:?}: the record", run.sizes);
         if let Call::Forecast { addresses } = call {
             let place = format!("seed {seed}, {:?}, forecast {number}: {call:?}", run.sizes);
             assert!(record == before && memory == copy, "{place}: something changed");
-            if said != Answer::No(14) {
+            if !matches!(said, Answer::No(14 | 16)) {
                 assert_eq!(said, served(before, &mut copy, addresses), "{place}: its loads");
             }
         }
@@ -103,10 +104,10 @@ fn host_tables(walker: &Unit) -> u64 {
     different_proper_prefixes(lists.iter()).max(1)
 }
 
-/// What the runs of each kind of memory must have had; `overflows` if the shadow tables are few.
-fn events(overflows: bool) -> Vec<String> {
+/// What the runs of each kind of memory must have had, with bits or without; `overflows` if the shadow tables are few.
+fn events(bits: bool, overflows: bool) -> Vec<String> {
     let mut names = of_halves(4);
-    names.extend(of_forecasts(4, overflows));
+    names.extend(if bits { of_bits(4, overflows) } else { of_forecasts(4, overflows) });
     names.extend(of_lookups(4));
     names.extend(of_widths(4));
     let mut add = |name: String| names.push(name);
@@ -189,13 +190,25 @@ fn same_with(
     all
 }
 
+/// Half of the runs have no bits, the other half, from other seeds, have.
 fn all_same(first_seed: u64, runs: u64, overflows: bool, sizes: fn(&mut Random) -> Sizes) {
-    let all = same_with(&events(overflows), first_seed, runs, run, sizes);
+    let all = same_with(&events(false, overflows), first_seed, runs / 2, run, sizes);
     let forecast = all.count("forecast, overflow");
     println!("{forecast:>9} overflows in forecasts");
     assert!(!overflows || forecast >= 1000, "{forecast} overflows in forecasts");
     // Each byte of a word, each width and each way to be refused: not by chance alone.
-    for event in of_widths(4) {
+    assert_often(of_widths(4), &all);
+    println!("With accessed and dirty bits:");
+    let all = same_with(&events(true, overflows), first_seed + BITS_SEEDS, runs / 2, bits_run, sizes);
+    assert_often(of_widths(4), &all);
+    assert_often(of_bits(4, overflows), &all);
+}
+
+/// Far above the seeds of runs without bits, however many times as many there are.
+const BITS_SEEDS: u64 = 1 << 32;
+
+fn assert_often(names: Vec<String>, all: &Events) {
+    for event in names {
         assert!(all.count(&event) >= 10, "{} times: {event}", all.count(&event));
     }
 }
@@ -212,17 +225,17 @@ fn small_memories() {
 
 #[test]
 fn hundreds_of_frames() {
-    all_same(20_000, 400, true, |random| Sizes::large(random, 4));
+    all_same(20_000, 600, true, |random| Sizes::large(random, 4));
 }
 
 #[test]
 fn few_shadow_tables() {
-    all_same(30_000, 400, true, |random| Sizes { levels: 4, frames: 80, h: 12, s: 4 + random.below(4) });
+    all_same(30_000, 600, true, |random| Sizes { levels: 4, frames: 80, h: 12, s: 4 + random.below(4) });
 }
 
 #[test]
 fn few_host_tables() {
-    all_same(40_000, 400, false, |random| Sizes { levels: 4, frames: 60, h: 4 + random.below(3), s: 24 });
+    all_same(40_000, 600, false, |random| Sizes { levels: 4, frames: 60, h: 4 + random.below(3), s: 24 });
 }
 
 /// The mark of level 5 stands behind as many others as it can.

@@ -3,7 +3,7 @@
 
 use std::ffi::c_void;
 
-use cangrieb::Record;
+use cangrieb::{Choices, Record};
 
 /// The bound that the C header names.
 const MOST: usize = 8 * 1024;
@@ -52,6 +52,15 @@ fn used(mut run: &mut dyn FnMut()) -> usize {
 
 #[test]
 fn calls_stay_within_the_bound() {
+    let most = most_used(Choices::default());
+    println!("With accessed and dirty bits:");
+    let most_with_bits = most_used(Choices { bits: true });
+    let most = most.max(most_with_bits);
+    assert!(most > 0 && most <= MOST, "{most} bytes of stack");
+}
+
+/// The most that any of the calls takes.
+fn most_used(choices: Choices) -> usize {
     let thread = used(&mut || ());
     let mut memory = vec![0; 64 * 512];
     // Each entry of the guest's one table names it again, so that every address has its word.
@@ -65,7 +74,7 @@ fn calls_stay_within_the_bound() {
         println!("{name} {}", bytes - thread);
         most = most.max(bytes - thread);
     };
-    take("open", used(&mut || unit = Record::open(&mut memory, 8, 8).ok()));
+    take("open", used(&mut || unit = Record::open_with(&mut memory, 8, 8, choices).ok()));
     let mut unit = unit.unwrap();
     take(
         "map",
@@ -103,6 +112,15 @@ fn calls_stay_within_the_bound() {
             unit.load(&mut memory, 7, 1);
         }),
     );
+    // With bits the first one fills the path anew; each is into a frame that is watched.
+    for name in ["store, held", "store, held, once more"] {
+        take(
+            name,
+            used(&mut || {
+                unit.store(&mut memory, 8, 8, 3);
+            }),
+        );
+    }
     take(
         "forecast",
         used(&mut || {
@@ -181,5 +199,5 @@ fn calls_stay_within_the_bound() {
             unit.unmap(&mut memory, 0);
         }),
     );
-    assert!(most > 0 && most <= MOST, "{most} bytes of stack");
+    most
 }

@@ -28,10 +28,20 @@ pub const HOST_TABLES_FULL: u32 = 10;
 pub const NOT_MAPPED: u32 = 12;
 /// "13 and the end, if the length is not its kind's, the kind is unknown or the input is cut"
 pub const BAD_RECORD: u32 = 13;
-/// A forecast of more addresses than it takes; only 3 goes before it.
+/// A forecast of more addresses than it takes; 3 and 16 go before it.
 pub const TOO_MANY_ADDRESSES: u32 = 14;
 /// A load or store of another width than 1, 2, 4 or 8; only 3 goes before it.
 pub const BAD_WIDTH: u32 = 15;
+
+/// "16 where a forecast is wanted with bits on, after 3 and before 14"
+pub const NO_FORECAST: u32 = 16;
+
+/// What an opening chooses beside its sizes. Jobs have none of it.
+#[derive(Clone, Copy, Debug, Default, PartialEq, Eq)]
+pub struct Choices {
+    /// Accessed and dirty bits (document 02, 6).
+    pub bits: bool,
+}
 
 /// A call after a granted opening.
 #[derive(Clone, Debug, PartialEq, Eq)]
@@ -74,7 +84,8 @@ pub enum Fault {
     Protected { level: u32 },
     /// H: a host entry is not present.
     HostAbsent { frame: u64 },
-    /// W: a store, and the "level 1 host entry is not writable".
+    /// W: a store, and the "level 1 host entry is not writable"; or a bit that a
+    /// request needs is not set, in a table whose frame is mapped read-only.
     HostReadOnly { frame: u64 },
 }
 

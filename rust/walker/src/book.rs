@@ -2,7 +2,7 @@
 //! mappings its shadow part used and its writable bit; none at opening".
 
 use crate::machine::{Step, Walk, Word};
-use crate::numbers::{different_proper_prefixes, frame_of, indexes};
+use crate::numbers::{different_proper_prefixes, frame_of, indexes, DIRTY};
 use std::collections::{BTreeMap, BTreeSet};
 
 /// "At most 64 marks are set."
@@ -95,7 +95,8 @@ impl Book {
     }
 
     /// "If a new path would make them more than S, all held paths are dropped
-    /// first." Yields how many paths were dropped.
+    /// first." Yields how many paths were dropped. A path that is held is filled anew
+    /// and needs no table more.
     pub fn fill(&mut self, path: Vec<u64>, held: HeldPath) -> usize {
         let tables = different_proper_prefixes(self.held.keys().chain([&path]));
         let dropped = if tables > self.shadow_frames { self.drop_all() } else { 0 };
@@ -151,11 +152,16 @@ pub fn shadow_steps(levels: u32, depth: u32) -> usize {
 }
 
 /// Whether a walk meets its fault in the shadow part. "At d = 0 that includes P and W."
+/// W for a bit "belongs to the part that reads the entry" (document 02, 6): the direct
+/// part reads those of level d and below.
 pub fn faults_in_shadow_part(walk: &Walk, levels: u32, depth: u32) -> bool {
     if walk.end.is_ok() || depth > levels {
         return false;
     }
-    depth == 0 || !shadow_part_complete(walk, levels, depth)
+    match walk.lacking {
+        Some(level) => level > depth,
+        None => depth == 0 || !shadow_part_complete(walk, levels, depth),
+    }
 }
 
 /// Whether the walk found the host frame at which its shadow part ends.
@@ -166,14 +172,18 @@ fn shadow_part_complete(walk: &Walk, levels: u32, depth: u32) -> bool {
 
 /// The book's note of a shadow part that met no fault. "Its writable bit is the
 /// and of the guest bits it covers, and at d = 0 of the host bit too."
-pub fn note_shadow_part(walk: &Walk, levels: u32, depth: u32) -> HeldPath {
+///
+/// If bit 6 counts, as for a load with bits on, it is among them: "A depth-0 path filled
+/// by a load while bit 6 is clear forbids stores". A depth-0 path alone covers level 1.
+pub fn note_shadow_part(walk: &Walk, levels: u32, depth: u32, dirty_counts: bool) -> HeldPath {
     let mut note = HeldPath { words: Vec::new(), frames: Vec::new(), writable: true };
     let steps = &walk.steps[..shadow_steps(levels, depth)];
     for step in steps {
         match step {
-            Step::GuestEntry { word, entry, .. } => {
+            Step::GuestEntry { level, word, entry } => {
                 note.words.push(*word);
-                note.writable = note.writable && entry.writable();
+                let clean = dirty_counts && *level == 1 && entry.lacks(DIRTY) != 0;
+                note.writable = note.writable && entry.writable() && !clean;
             }
             Step::HostWalk { frame, .. } => note.frames.push(*frame),
         }

@@ -221,6 +221,86 @@ pub fn of_widths(levels: u32) -> Vec<String> {
     names
 }
 
+/// What many runs of so many levels with accessed and dirty bits must have had
+/// (document 02, 6); `overflows` if the shadow tables are few.
+pub fn of_bits(levels: u32, overflows: bool) -> Vec<String> {
+    let mut names = Vec::new();
+    let mut add = |name: String| names.push(name);
+    for depth in 0..=levels + 1 {
+        let ways = if depth > levels { &["no path"][..] } else { &["path held", "path not held"] };
+        for way in ways {
+            for level in 1..=levels {
+                // The entries above depth d that a held path read have bit 5.
+                if *way != "path held" || level <= depth {
+                    add(format!("bit 5 set at level {level}, depth {depth}, {way}"));
+                }
+                let part = if level > depth { "shadow" } else { "direct" };
+                // At depth 0 bit 6 may be lacking.
+                if *way != "path held" || level <= depth.max(1) {
+                    add(format!("W for a bit of level {level} at depth {depth}, {part} part, {way}"));
+                }
+            }
+            add(format!("bit 6 set at depth {depth}, {way}"));
+            add(format!("W for bit 6 alone at depth {depth}, {way}"));
+            add(format!("no bit set, granted Load at depth {depth}, {way}"));
+            add(format!("no bit set, granted Store at depth {depth}, {way}"));
+            // Faults behind the shadow part: the plain count if the path is not held.
+            if depth > 0 {
+                for letter in ["A", "M", "P", "H", "W"] {
+                    // With five levels no entry of level 1 is malformed.
+                    if letter != "M" || levels == 4 || depth > 1 {
+                        add(format!("fault {letter} at depth {depth}, direct part, {way}"));
+                    }
+                }
+            }
+        }
+    }
+    for level in 1..=levels {
+        add(format!("granted, table of level {level} read-only, its bits set before"));
+    }
+    for letter in ["A", "M", "P", "H", "W"] {
+        add(format!("fault {letter} before W for a bit"));
+    }
+    let others = [
+        "W for a bit by a path that forbids stores",
+        "W for a bit, a lower table lacks one too",
+        "W for a bit, table writable by another name",
+        "W for a bit, word reached above too",
+        "W for a bit, word reached below too",
+        "bit set in a watched frame",
+        "bit set in a word that a held path read",
+        "bit set, table read-only by another name",
+        "bits set in a walk that reads a word twice",
+        "drop by a store that clears bit 5",
+        "drop by a store that clears bit 6",
+        "fault P by a path that forbids stores",
+        "fault W by a path that forbids stores",
+        "fill by a load, bit 6 clear",
+        "fill by a load, bit 6 set",
+        "fill by a store",
+        "load by a path that forbids stores, bit 6 set by another",
+        "path still not held after a fault behind its shadow part",
+        "refill by a store into a watched frame",
+        "refill, bit 6 clear",
+        "refill, bit 6 set by another",
+        "refill, other paths held",
+        "Load of an entry of its own, with a bit just set",
+        "narrow Load of an entry of its own, with a bit just set",
+        "Load beside a bit just set",
+        "Store over a bit just set",
+        "narrow Store over a bit just set",
+        "Store beside a bit just set",
+        "refusal 16",
+        "refusal 16 of more than 256 addresses",
+    ];
+    others.iter().for_each(|name| add((*name).into()));
+    if overflows {
+        add("refill, every shadow table in use".into());
+        add("fault behind the shadow part, a fill would overflow".into());
+    }
+    names
+}
+
 /// What the forecasts of many runs of so many levels must have had; `overflows` if
 /// the shadow tables are few.
 pub fn of_forecasts(levels: u32, overflows: bool) -> Vec<String> {

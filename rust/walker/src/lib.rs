@@ -1,4 +1,4 @@
-//! A second reading of document 01 and of requests 1 to 5 of document 02, written
+//! A second reading of document 01 and of requests 1 to 6 of document 02, written
 //! from the papers alone: the machine without shadow, its book, and the job
 //! program's records. It is meant to be plainly right and is compared with the unit
 //! on many runs.
@@ -14,6 +14,6 @@ pub mod random;
 pub mod unit;
 pub mod vectors;
 
-pub use answer::{Answer, Call, Fault};
+pub use answer::{Answer, Call, Choices, Fault};
 pub use job::run_job;
 pub use unit::Unit;

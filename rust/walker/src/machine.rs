@@ -1,7 +1,9 @@
 //! The machine without shadow: a mapping, a root, the guest area and the plain walk.
 
 use crate::answer::Fault;
-use crate::numbers::{different_proper_prefixes, frame_of, index, indexes, Entry, FRAME_WORDS};
+use crate::numbers::{
+    different_proper_prefixes, frame_of, index, indexes, Entry, ACCESSED, DIRTY, FRAME_WORDS,
+};
 use std::collections::BTreeMap;
 
 /// Where a guest frame is mapped to, and its write right.
@@ -46,11 +48,41 @@ impl Step {
 pub struct Walk {
     pub steps: Vec<Step>,
     pub end: Result<Mapping, Fault>,
+    /// Where the fault is W for a bit, the level of the entry that lacks it.
+    pub lacking: Option<u32>,
 }
 
 /// The words that some steps read together.
 pub fn words_read(steps: &[Step]) -> u64 {
     steps.iter().map(Step::words).sum()
+}
+
+/// "a granted request sets bit 5 in its four guest entries, and a store also sets bit
+/// 6 at level 1" (document 02, 6): the bits of an entry that a request needs.
+pub fn needed_bits(level: u32, access: Access) -> u64 {
+    if level == 1 && access == Access::Store {
+        ACCESSED | DIRTY
+    } else {
+        ACCESSED
+    }
+}
+
+/// The levels and guest frames at which "a bit needed and not set when the request
+/// came, in a table whose guest frame is mapped read-only" stands, "top level first".
+/// The frame is the one by which this walk reached the table.
+pub fn lacking(steps: &[Step], access: Access) -> Vec<(u32, u64)> {
+    let mut list = Vec::new();
+    for pair in steps.windows(2) {
+        // The host walk that found the table, then the entry read in it.
+        let [Step::HostWalk { frame, found: Some(table), .. }, Step::GuestEntry { level, entry, .. }] = *pair
+        else {
+            continue;
+        };
+        if !table.writable && entry.lacks(needed_bits(level, access)) != 0 {
+            list.push((level, frame));
+        }
+    }
+    list
 }
 
 #[derive(Clone, Debug, PartialEq, Eq)]
@@ -61,12 +93,20 @@ pub struct Machine {
     pub guest_area: Vec<u64>,
     pub mapping: BTreeMap<u64, Mapping>,
     pub root: u64,
+    /// Whether accessed and dirty bits are set, as the opening chose.
+    pub bits: bool,
 }
 
 impl Machine {
     /// "It starts with the opening's H, S and guest area, nothing mapped, root 0."
-    pub fn new(levels: u32, host_frames: u64, shadow_frames: u64, guest_area: Vec<u64>) -> Machine {
-        Machine { levels, host_frames, shadow_frames, guest_area, mapping: BTreeMap::new(), root: 0 }
+    pub fn new(
+        levels: u32,
+        host_frames: u64,
+        shadow_frames: u64,
+        guest_area: Vec<u64>,
+        bits: bool,
+    ) -> Machine {
+        Machine { levels, host_frames, shadow_frames, guest_area, mapping: BTreeMap::new(), root: 0, bits }
     }
 
     /// "first H host frames, then S shadow frames, then the guest area"
@@ -121,7 +161,23 @@ impl Machine {
     pub fn plain_walk(&self, address: u64, access: Access) -> Walk {
         let mut steps = Vec::new();
         let end = self.walk_down(address, access, &mut steps);
-        Walk { steps, end }
+        // W for a bit: "This check comes after all others".
+        let lacking = if self.bits && end.is_ok() { lacking(&steps, access) } else { Vec::new() };
+        match lacking.first() {
+            Some((level, frame)) => {
+                Walk { steps, end: Err(Fault::HostReadOnly { frame: *frame }), lacking: Some(*level) }
+            }
+            None => Walk { steps, end, lacking: None },
+        }
+    }
+
+    /// Sets the bits that a granted request needs. The walk may have read a word twice.
+    pub fn set_bits(&mut self, walk: &Walk, access: Access) {
+        for step in &walk.steps {
+            if let Step::GuestEntry { level, word, .. } = *step {
+                self.write(word, self.read(word) | needed_bits(level, access));
+            }
+        }
     }
 
     fn walk_down(&self, address: u64, access: Access, steps: &mut Vec<Step>) -> Result<Mapping, Fault> {

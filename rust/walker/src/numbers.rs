@@ -19,6 +19,9 @@ const OFFSET_BITS: u32 = 12;
 const INDEX_BITS: u32 = 9;
 /// "bits 12 to 51 frame number"
 const FRAME_FIELD_BITS: u32 = 40;
+/// The accessed bit of an entry, bit 5, and the dirty bit, bit 6 (document 02, 6).
+pub const ACCESSED: u64 = 1 << 5;
+pub const DIRTY: u64 = 1 << 6;
 
 /// The top bit of the top level's index: bit 47, with five levels bit 56.
 pub fn sign_bit(levels: u32) -> u32 {
@@ -154,6 +157,11 @@ impl Entry {
     /// "bit 1 writable"
     pub fn writable(self) -> bool {
         bit(self.0, 1)
+    }
+
+    /// Which of these bits are not set.
+    pub fn lacks(self, bits: u64) -> u64 {
+        bits & !self.0
     }
 
     /// "bits 12 to 51 frame number"

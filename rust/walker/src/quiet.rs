@@ -1,6 +1,6 @@
 //! A quiet stretch of a run (document 02, 5): which calls may stand in it, which paths
 //! they touch, and how many exits it costs. Nothing here looks at the exits of an
-//! answer, for these are what the figure is compared with.
+//! answer, for these are what the figure is compared with. It is for bits off.
 
 use crate::answer::{Answer, Call};
 use crate::book::{note_shadow_part, Book};
@@ -66,7 +66,8 @@ pub fn once_translated(before: &Unit, address: u64, walk: &Walk) -> Book {
     let depth = book.depth(address);
     match book.path(address, depth) {
         Some(path) if !book.held.contains_key(&path) => {
-            book.fill(path, note_shadow_part(walk, before.machine().levels, depth));
+            // "So the quiet-day figure is for bits off" (document 02, 6).
+            book.fill(path, note_shadow_part(walk, before.machine().levels, depth, false));
         }
         _ => {}
     }

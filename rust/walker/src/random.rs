@@ -5,11 +5,15 @@
 //! marks are of both halves, and some differ in their half alone. One call in ten is
 //! a forecast, more than half of the loads and stores are narrow, and a few have a
 //! wrong width, but not in jobs. Runs of another sort mostly set and clear marks, and
-//! quiet ones mostly load and store where it is granted.
+//! quiet ones mostly load and store where it is granted. Those with accessed and dirty
+//! bits have more read-only tables, and entries that have some bits and lack others.
 
-use crate::answer::Call;
+mod bits;
+
+use crate::answer::{Call, Choices};
 use crate::job::{raw_record, write_record, Record, JOB_FRAMES, JOB_LEVELS};
 use crate::numbers::*;
+use crate::unit::Unit;
 use std::collections::{BTreeMap, BTreeSet};
 
 /// A small generator (xorshift with a multiplication), the same on every machine.
@@ -82,43 +86,60 @@ impl Sizes {
     }
 }
 
-/// A run: the memory at opening and the later calls.
+/// A run: the memory at opening, what the opening chooses, and the later calls.
 #[derive(Clone, Debug)]
 pub struct Run {
     pub sizes: Sizes,
+    pub choices: Choices,
     pub words: Vec<u64>,
     pub calls: Vec<Call>,
 }
 
+impl Run {
+    /// The unit that the run's opening gives, or the number that it is refused with.
+    pub fn open(&self) -> Result<Unit, u32> {
+        let Sizes { levels, h, s, .. } = self.sizes;
+        Unit::open_with(levels, self.words.clone(), h, s, self.choices)
+    }
+}
+
+const OFF: Choices = Choices { bits: false };
+const BITS: Choices = Choices { bits: true };
+
 /// A run of so many calls. The first ones map the guest's frames and load the root.
 /// The sizes must be those of a granted opening, with four or five levels.
 pub fn run(seed: u64, sizes: Sizes, calls: usize) -> Run {
-    run_by(Guest::next_call, seed, sizes, calls)
+    run_by(Guest::next_call, seed, sizes, OFF, calls)
+}
+
+/// A run with accessed and dirty bits.
+pub fn bits_run(seed: u64, sizes: Sizes, calls: usize) -> Run {
+    run_by(Guest::next_bits_call, seed, sizes, BITS, calls)
 }
 
 /// A run in which most calls set or clear a mark.
 pub fn mark_run(seed: u64, sizes: Sizes, calls: usize) -> Run {
-    run_by(Guest::next_mark_call, seed, sizes, calls)
+    run_by(Guest::next_mark_call, seed, sizes, OFF, calls)
 }
 
 /// A run in which most calls are loads and stores of pages that grant them.
 pub fn quiet_run(seed: u64, sizes: Sizes, calls: usize) -> Run {
-    run_by(Guest::next_quiet_call, seed, sizes, calls)
+    run_by(Guest::next_quiet_call, seed, sizes, OFF, calls)
 }
 
 /// A run of the calls that a job's records can make.
 pub fn job_run(seed: u64, sizes: Sizes, calls: usize) -> Run {
-    run_by(Guest::next_job_call, seed, sizes, calls)
+    run_by(Guest::next_job_call, seed, sizes, OFF, calls)
 }
 
-fn run_by(next: fn(&mut Guest) -> Call, seed: u64, sizes: Sizes, calls: usize) -> Run {
-    let mut guest = Guest::new(Random::new(seed), sizes);
+fn run_by(next: fn(&mut Guest) -> Call, seed: u64, sizes: Sizes, choices: Choices, calls: usize) -> Run {
+    let mut guest = Guest::new(Random::new(seed), sizes, choices);
     let mut list = guest.setup(calls);
     while list.len() < calls {
         list.push(next(&mut guest));
     }
     list.truncate(calls);
-    Run { sizes, words: guest.memory(), calls: list }
+    Run { sizes, choices, words: guest.memory(), calls: list }
 }
 
 /// The top bit of an index: the top level's tells the half.
@@ -131,6 +152,7 @@ type Places = BTreeMap<(u64, u64), u64>;
 struct Guest {
     random: Random,
     sizes: Sizes,
+    choices: Choices,
     /// The mapping as planned: guest frame, host frame, write right.
     plan: Vec<(u64, u64, bool)>,
     /// The first of the 512 guest frames that most names are among.
@@ -148,19 +170,27 @@ struct Guest {
     /// the guest's, and a device's.
     guest_entries: Vec<(u64, u64)>,
     device_entries: Vec<(u64, u64)>,
+    /// The addresses of words that their own walks read at opening as entries.
+    own_entries: Vec<u64>,
     /// Pages of which the plan grants loads, and those of which it grants stores too.
     load_pages: Vec<u64>,
     store_pages: Vec<u64>,
     last_page: u64,
+    /// Two pages whose walks find the same entry of level 1, and the greatest level of a
+    /// mark at the second that does not hold for the first.
+    twins: Vec<(u64, u64, u64)>,
     marks: Vec<(u64, u64)>,
     undo: Vec<Call>,
+    /// Calls that come next, the last one first.
+    soon: Vec<Call>,
 }
 
 impl Guest {
-    fn new(random: Random, sizes: Sizes) -> Guest {
+    fn new(random: Random, sizes: Sizes, choices: Choices) -> Guest {
         let mut guest = Guest {
             random,
             sizes,
+            choices,
             plan: Vec::new(),
             base: 0,
             names: Vec::new(),
@@ -170,18 +200,27 @@ impl Guest {
             pages: Vec::new(),
             guest_entries: Vec::new(),
             device_entries: Vec::new(),
+            own_entries: Vec::new(),
             load_pages: Vec::new(),
             store_pages: Vec::new(),
             last_page: 0,
+            twins: Vec::new(),
             marks: Vec::new(),
             undo: Vec::new(),
+            soon: Vec::new(),
         };
         guest.choose_names();
         guest.choose_indexes();
         guest.choose_entries();
         guest.choose_pages();
+        if choices.bits {
+            guest.choose_self_map();
+        }
         guest.find_entries();
         guest.find_granted_pages();
+        if choices.bits {
+            guest.find_twins();
+        }
         guest
     }
 
@@ -229,7 +268,7 @@ impl Guest {
 
     fn add_to_plan(&mut self, name: u64, host: u64) {
         if self.plan.iter().all(|(other, _, _)| *other != name) {
-            let writable = !self.random.one_in(5);
+            let writable = !self.random.one_in(if self.choices.bits { 4 } else { 5 });
             self.plan.push((name, host, writable));
         }
     }
@@ -317,7 +356,7 @@ impl Guest {
         }
         if self.random.one_in(3) {
             let index = self.random.pick(&self.indexes);
-            let entry = self.names[0] << 12 | 3;
+            let entry = self.plain_entry(self.names[0]);
             self.entries.insert((self.sizes.first_guest_frame(), index), entry);
         }
     }
@@ -328,7 +367,7 @@ impl Guest {
         let frame = self.sizes.first_guest_frame() + number;
         for index in self.indexes.clone() {
             let name = self.random.pick(names);
-            let entry = if self.random.one_in(level) { self.entry(name) } else { name << 12 | 3 };
+            let entry = if self.random.one_in(level) { self.entry(name) } else { self.plain_entry(name) };
             self.entries.insert((frame, index), entry);
         }
     }
@@ -345,10 +384,26 @@ impl Guest {
         self.plan.iter().map(|(guest, _, _)| *guest).collect()
     }
 
+    /// A present and writable entry that names the frame. With bits on it may have some.
+    fn plain_entry(&mut self, name: u64) -> u64 {
+        let entry = name << 12 | 3;
+        if self.choices.bits {
+            self.with_other_bits(entry)
+        } else {
+            entry
+        }
+    }
+
+    /// The entry with other accessed and dirty bits, often none.
+    fn with_other_bits(&mut self, entry: u64) -> u64 {
+        let both = ACCESSED | DIRTY;
+        entry & !both | self.random.pick(&[0, 0, 0, ACCESSED, ACCESSED, DIRTY, both, both])
+    }
+
     /// An entry that names the frame: mostly present and writable, seldom
     /// malformed, often with bits set that a walk ignores.
     fn entry(&mut self, name: u64) -> u64 {
-        let mut entry = name << 12 | 3;
+        let mut entry = self.plain_entry(name);
         if self.random.one_in(20) {
             entry &= !1;
         }
@@ -396,8 +451,11 @@ impl Guest {
             words.map(move |((_, index), entry)| (first + 8 * index, *entry))
         };
         for page in self.pages_beside() {
-            if let (_, Some(host)) = self.planned_walk(page) {
-                self.guest_entries.extend(read_in(host, address_of(page, self.sizes.levels)));
+            if let (own, Some(host)) = self.planned_walk(page) {
+                let first = address_of(page, self.sizes.levels);
+                self.guest_entries.extend(read_in(host, first));
+                let own = own.keys().filter(|(frame, _)| *frame == host);
+                self.own_entries.extend(own.map(|(_, index)| first + 8 * index));
             }
         }
         for (guest, host, _) in &self.plan {
@@ -417,6 +475,18 @@ impl Guest {
             self.load_pages.extend(rights.map(|_| page));
             self.store_pages.extend(rights.filter(|writable| *writable).map(|_| page));
         }
+    }
+
+    /// The places of the entries that the page's walk reads by the plan, the top one first.
+    fn planned_entries(&self, page: u64) -> Vec<(u64, u64)> {
+        let mut places = Vec::new();
+        let mut found = self.planned_host(self.names[0]);
+        for index in indexes(page, self.sizes.levels) {
+            let place = found.map(|frame| (frame, index)).filter(|place| self.entries.contains_key(place));
+            found = place.and_then(|place| self.planned_host(Entry(self.entries[&place]).frame()));
+            places.extend(place);
+        }
+        places
     }
 
     /// Whether the plan grants a store of the page; none if it does not grant a load.
@@ -439,16 +509,15 @@ impl Guest {
     /// The entries that the page's walk reads by the plan, whatever they allow, and the
     /// host frame that it finds.
     fn planned_walk(&self, page: u64) -> (Places, Option<u64>) {
-        let host = |name: u64| self.plan.iter().find(|(guest, _, _)| *guest == name).map(|planned| planned.1);
-        let mut read = Places::new();
-        let mut found = host(self.names[0]);
-        for index in indexes(page, self.sizes.levels) {
-            let place = found.map(|frame| (frame, index));
-            let entry = place.and_then(|place| self.entries.get_key_value(&place));
-            read.extend(entry);
-            found = entry.and_then(|(_, entry)| host(Entry(*entry).frame()));
-        }
-        (read, found)
+        let places = self.planned_entries(page);
+        let last = places.get(self.sizes.levels as usize - 1);
+        let found = last.and_then(|place| self.planned_host(Entry(self.entries[place]).frame()));
+        (places.into_iter().map(|place| (place, self.entries[&place])).collect(), found)
+    }
+
+    /// Where the plan maps a guest frame to.
+    fn planned_host(&self, name: u64) -> Option<u64> {
+        self.plan.iter().find(|(guest, _, _)| *guest == name).map(|planned| planned.1)
     }
 
     // The calls.
@@ -484,19 +553,39 @@ impl Guest {
         if self.random.one_in(50) {
             return self.call_of_wrong_width();
         }
-        match self.next_job_call() {
+        let call = self.next_job_call();
+        self.in_part(call)
+    }
+
+    /// A load or store of some bytes, stores also of an entry in place of the word.
+    fn in_part(&mut self, call: Call) -> Call {
+        let of_word = match call {
+            Call::Store { address, value, .. } => {
+                let (address, value) = or_entry(&mut self.random, (address, value), &self.guest_entries);
+                Call::store_word(address, value)
+            }
+            Call::DeviceStore { address, value, .. } => {
+                let (address, value) = or_entry(&mut self.random, (address, value), &self.device_entries);
+                Call::device_store_word(address, value)
+            }
+            other => other,
+        };
+        self.narrowed(of_word)
+    }
+
+    /// A load or store of some bytes of the word.
+    fn narrowed(&mut self, call: Call) -> Call {
+        match call {
             Call::Load { address, .. } => {
                 let (address, width) = self.part_at(address);
                 Call::Load { address, width }
             }
             Call::Store { address, value, .. } => {
-                let (word, value) = or_entry(&mut self.random, (address, value), &self.guest_entries);
-                let (address, width) = self.part_at(word);
+                let (address, width) = self.part_at(address);
                 Call::Store { address, width, value: self.part_of(value, address, width) }
             }
             Call::DeviceStore { address, value, .. } => {
-                let (word, value) = or_entry(&mut self.random, (address, value), &self.device_entries);
-                let (address, width) = self.part_at(word);
+                let (address, width) = self.part_at(address);
                 Call::DeviceStore { address, width, value: self.part_of(value, address, width) }
             }
             other => other,
@@ -756,13 +845,17 @@ impl Guest {
             _ => levels + self.random.below(2),
         };
         if level >= levels {
-            // It keeps no index: any address clears it.
-            let address = self.page_address();
-            self.undo.push(Call::ClearMark { address, level });
+            self.clear_soon(level);
         } else {
             self.marks.push((address, level));
         }
         Call::SetMark { address, level }
+    }
+
+    /// A mark that keeps no index: any address clears it.
+    fn clear_soon(&mut self, level: u64) {
+        let address = self.page_address();
+        self.undo.push(Call::ClearMark { address, level });
     }
 
     fn clear_mark(&mut self) -> Call {
@@ -803,6 +896,7 @@ impl Guest {
         match self.random.below(64) {
             0 | 1 => 0,
             2 => 255 + self.random.below(3),
+            3 if self.choices.bits => 257,
             3..=5 => 13 + self.random.below(48),
             _ => 1 + self.random.below(12),
         }

@@ -1,5 +1,7 @@
 //! The calls: each one asks the first refusal that applies, then steps machine and book.
 
+mod bits;
+
 use crate::answer::*;
 use crate::book::{faults_in_shadow_part, note_shadow_part, shadow_steps, Book, MOST_MARKS};
 use crate::events::Events;
@@ -18,6 +20,9 @@ pub struct Unit {
     /// Words of which a store changed some bytes, as they were before, until a walk
     /// reads them. Only events rest on them.
     changed: BTreeMap<Word, u64>,
+    /// The path of the request before, if it was not held and a fault behind its shadow
+    /// part left it so. Only events rest on it.
+    left_unfilled: Option<Vec<u64>>,
 }
 
 /// A load or store of a guest-virtual address that is not refused.
@@ -26,6 +31,27 @@ struct Request {
     address: u64,
     width: u64,
     access: Access,
+}
+
+/// What the book has for a request, and where its walk faults.
+#[derive(Clone, Copy)]
+struct Met {
+    depth: u32,
+    /// It has a path, which is not held.
+    not_held: bool,
+    /// "d = 0 and the held path forbids the store"
+    forbidden: bool,
+    shadow_fault: bool,
+}
+
+impl Met {
+    fn part(self) -> &'static str {
+        if self.shadow_fault {
+            "shadow"
+        } else {
+            "direct"
+        }
+    }
 }
 
 /// A load or store once its walk, its counts and its fill are done.
@@ -40,8 +66,13 @@ struct Served {
 impl Unit {
     /// "Open (H, S): 1 if the words are no multiple of 512 or the frames are 0 or
     /// more than 65,536; then 2 if H or S is below 4 or H + S leaves no guest
-    /// frame." With N levels, below N.
+    /// frame." With N levels, below N. It chooses nothing else: bits are off.
     pub fn open(levels: u32, words: Vec<u64>, h: u64, s: u64) -> Result<Unit, u32> {
+        Unit::open_with(levels, words, h, s, Choices::default())
+    }
+
+    /// "Opening chooses them on or off" (document 02, 6).
+    pub fn open_with(levels: u32, words: Vec<u64>, h: u64, s: u64, choices: Choices) -> Result<Unit, u32> {
         let length = words.len() as u64;
         let frames = length / FRAME_WORDS;
         if length % FRAME_WORDS != 0 || frames == 0 || frames > MOST_FRAMES {
@@ -53,8 +84,12 @@ impl Unit {
         }
         // "keeps guest words; root 0, no marks"
         let guest_area = words[((h + s) * FRAME_WORDS) as usize..].to_vec();
-        let machine = Machine::new(levels, h, s, guest_area);
-        Ok(Unit { machine, book: Book::new(levels, s), events: Events::default(), changed: BTreeMap::new() })
+        let machine = Machine::new(levels, h, s, guest_area, choices.bits);
+        Ok(Unit::of(machine, Book::new(levels, s)))
+    }
+
+    fn of(machine: Machine, book: Book) -> Unit {
+        Unit { machine, book, events: Events::default(), changed: BTreeMap::new(), left_unfilled: None }
     }
 
     /// The words of the guest area, in order.
@@ -264,6 +299,7 @@ impl Unit {
         self.note_value(name, bytes, value);
         self.note_drops(name, bytes, watched, same, dropped.len());
         self.note_changed_word(word, bytes, before);
+        self.note_cleared_bits(before, after, dropped.len());
         self.events.add_if(watched, "exit for a watched frame");
         self.events.add_if(watched && dropped.is_empty(), "watched frame, no path dropped");
         self.events.add_if(same && !dropped.is_empty(), "drop though the value is the same");
@@ -277,10 +313,12 @@ impl Unit {
     fn serve(&mut self, request: Request) -> Served {
         let Request { address, access, .. } = request;
         let levels = self.levels();
+        let bits = self.machine.bits;
         let depth = self.book.depth(address);
         let path = self.book.path(address, depth);
         let held = path.as_ref().and_then(|path| self.book.held.get(path));
         let walk = self.machine.plain_walk(address, access);
+        let granted = walk.end.is_ok();
         let shadow_fault = faults_in_shadow_part(&walk, levels, depth);
 
         // "1 if d is at most 4 and the path was not held, or d = 0 and the held
@@ -292,18 +330,35 @@ impl Unit {
         if let Err(fault) = walk.end {
             exits += (fault.is_of_host() && !shadow_fault) as u64;
         }
-        let references = references(&walk, levels, depth, shadow_fault);
-
-        self.note_request(&walk, request, depth, not_held, shadow_fault, forbidden);
-        self.note_changed_entries(&walk);
+        // With bits on "a fault on a path not held carries the plain count".
+        let plain_count = shadow_fault || bits && not_held && !granted;
+        let references = references(&walk, levels, depth, plain_count);
         // "A path not held is filled exactly if the request meets no fault in its
-        // shadow part."
-        if let (Some(path), true, false) = (path, not_held, shadow_fault) {
+        // shadow part." With bits on: "only by a granted request".
+        let fills = not_held && if bits { granted } else { !shadow_fault };
+        // "the first granted store through it costs one exit and refills it". With bits
+        // off no store is granted that the held path forbids.
+        let refills = forbidden && granted;
+
+        let met = Met { depth, not_held, forbidden, shadow_fault };
+        self.note_request(&walk, request, met);
+        self.note_changed_entries(&walk);
+        self.events.add_if(fills, &format!("fill at depth {depth}"));
+        if bits {
+            self.note_bits(&walk, request, met);
+        }
+        if let (Some(path), true) = (path, fills || refills) {
             let watched_before = self.watches_target(&walk, access);
-            let dropped = self.book.fill(path, note_shadow_part(&walk, levels, depth));
+            let dirty_counts = bits && access == Access::Load;
+            let dropped = self.book.fill(path, note_shadow_part(&walk, levels, depth, dirty_counts));
             self.events.add_if(dropped > 0, &format!("overflow at depth {depth}"));
             self.events.add_many("paths dropped by overflow", dropped);
             self.note_own_fill(watched_before, self.watches_target(&walk, access));
+        }
+        // "The bits are set before the word is loaded or stored." "The unit's own bit
+        // writes drop nothing and cost no reference or exit." A fault sets none.
+        if bits && granted {
+            self.machine.set_bits(&walk, access);
         }
         Served { last_frame: last_frame(&walk), end: walk.end, references, exits }
     }
@@ -313,17 +368,17 @@ impl Unit {
     /// What serving the list would cost: it is really served, on a copy. An address
     /// that meets 4 adds nothing, and neither it nor a fault ends the list.
     fn forecast(&mut self, addresses: &[u64]) -> Answer {
+        if self.machine.bits {
+            let too_many = addresses.len() > MOST_ADDRESSES;
+            self.events.add_if(too_many, "refusal 16 of more than 256 addresses");
+            return Answer::No(NO_FORECAST);
+        }
         if addresses.len() > MOST_ADDRESSES {
             let none_legal = addresses.iter().all(|address| !self.is_word_address(*address));
             self.events.add_if(none_legal, "refusal 14, each address would meet 4");
             return Answer::No(TOO_MANY_ADDRESSES);
         }
-        let mut copy = Unit {
-            machine: self.machine.clone(),
-            book: self.book.clone(),
-            events: Events::default(),
-            changed: BTreeMap::new(),
-        };
+        let mut copy = Unit::of(self.machine.clone(), self.book.clone());
         let (mut references, mut exits) = (0, 0);
         // The tables in use before the first address count too.
         let mut in_use = vec![copy.book.tables_in_use()];
@@ -444,25 +499,22 @@ impl Unit {
         }
     }
 
-    fn note_request(
-        &mut self,
-        walk: &Walk,
-        request: Request,
-        depth: u32,
-        not_held: bool,
-        shadow_fault: bool,
-        forbidden: bool,
-    ) {
-        let access = request.access;
-        let narrow = request.width < WORD_BYTES;
-        let part = if shadow_fault { "shadow" } else { "direct" };
-        let way = if depth > self.levels() {
+    /// Whether a request's path is held.
+    fn way(&self, met: Met) -> &'static str {
+        if met.depth > self.levels() {
             "no path"
-        } else if not_held {
+        } else if met.not_held {
             "path not held"
         } else {
             "path held"
-        };
+        }
+    }
+
+    fn note_request(&mut self, walk: &Walk, request: Request, met: Met) {
+        let Met { depth, forbidden, .. } = met;
+        let access = request.access;
+        let narrow = request.width < WORD_BYTES;
+        let (part, way) = (met.part(), self.way(met));
         match walk.end {
             Ok(_) => {
                 self.events.add(format!("granted {access:?} at depth {depth}, {way}"));
@@ -476,7 +528,6 @@ impl Unit {
                 self.events.add_if(narrow, &format!("fault {} of a narrow {access:?}", fault.letter()));
             }
         }
-        self.events.add_if(not_held && !shadow_fault, &format!("fill at depth {depth}"));
         self.events.add_if(forbidden, "held path forbids the store");
     }
 
@@ -603,8 +654,8 @@ fn refuse(in_range: bool, address: u64, width: u64) -> Option<u32> {
 /// "A granted request reads (4 - d) + 5d words. A fault in the shadow part carries
 /// the plain walk's count. A later fault carries (4 - d), or 0 at d = 5, and the
 /// words read by the direct part, which at d = 5 starts with the root's host walk."
-fn references(walk: &Walk, levels: u32, depth: u32, shadow_fault: bool) -> u64 {
-    if shadow_fault {
+fn references(walk: &Walk, levels: u32, depth: u32, plain_count: bool) -> u64 {
+    if plain_count {
         return words_read(&walk.steps);
     }
     let shadow_entries = levels.saturating_sub(depth) as u64;

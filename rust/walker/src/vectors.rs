@@ -4,14 +4,14 @@ use crate::answer::{Answer, Call};
 use crate::events::Events;
 use crate::job::answer_line;
 use crate::random::Run;
-use crate::unit::Unit;
 
 /// The lines of a run, and the events in it.
 pub fn lines(run: &Run) -> Result<(Vec<String>, Events), u32> {
     let sizes = run.sizes;
-    let mut unit = Unit::open(sizes.levels, run.words.clone(), sizes.h, sizes.s)?;
+    let mut unit = run.open()?;
     let first = run.words.len() - unit.guest_words().len();
-    let mut lines = vec![format!("open {} {} {} {}", sizes.levels, run.words.len(), sizes.h, sizes.s)];
+    let bits = if run.choices.bits { " bits" } else { "" };
+    let mut lines = vec![format!("open {} {} {} {}{bits}", sizes.levels, run.words.len(), sizes.h, sizes.s)];
     lines.extend(nonzero_words("word", first, unit.guest_words()));
     for call in &run.calls {
         let answer = unit.call(call);

@@ -1,83 +1,26 @@
 //! Document 01's own examples and each refusal, by the numbers printed there, with
 //! requests 1 to 5 of document 02.
 
+mod guest;
+
+use guest::*;
 use std::collections::BTreeSet;
-use walker::answer::{Answer, Call, Fault};
+use walker::answer::{Answer, Call, Choices, Fault};
 use walker::book::{Lookup, Mark};
-use walker::machine::Access;
 use walker::quiet::{part, path_of, End, Stretch};
 use walker::Unit;
 
-const LEVELS: u32 = 4;
-
-fn memory(frames: usize) -> Vec<u64> {
-    vec![0; frames * 512]
-}
-
-/// "H = S = 4; guest frames 0 to 7 at 8 to 15, writable; root 0. Entry 0 of frame 0
-/// is 0x1003, of 1 is 0x2003, of 2 is 0x3003. Frame 3 holds 0x4003, 0x5001, 0x8003,
-/// 0, 0x3003. Entry 1 of frame 2 is 0x3003. All other guest words are 0."
+/// The guest with no choice made.
 fn sixteen_frame_guest() -> Unit {
-    let mut words = memory(16);
-    let guest = |frame: usize, index: usize| (8 + frame) * 512 + index;
-    words[guest(0, 0)] = 0x1003;
-    words[guest(1, 0)] = 0x2003;
-    words[guest(2, 0)] = 0x3003;
-    words[guest(2, 1)] = 0x3003;
-    for (index, entry) in [0x4003, 0x5001, 0x8003, 0, 0x3003].into_iter().enumerate() {
-        words[guest(3, index)] = entry;
-    }
-    let mut unit = Unit::open(LEVELS, words, 4, 4).unwrap();
-    for frame in 0..8 {
-        assert_eq!(map(&mut unit, frame, 8 + frame), Answer::Ok);
-    }
-    assert_eq!(unit.call(&Call::Root { frame: 0 }), Answer::Ok);
-    unit
-}
-
-fn map(unit: &mut Unit, guest: u64, host: u64) -> Answer {
-    unit.call(&Call::Map { guest, host, writable: true })
-}
-
-fn load(unit: &mut Unit, address: u64) -> Answer {
-    unit.call(&Call::load_word(address))
-}
-
-fn store(unit: &mut Unit, address: u64, value: u64) -> Answer {
-    unit.call(&Call::store_word(address, value))
-}
-
-fn set_mark(unit: &mut Unit, address: u64, level: u64) -> Answer {
-    unit.call(&Call::SetMark { address, level })
+    guest::sixteen_frame_guest(Choices::default())
 }
 
 fn clear_mark(unit: &mut Unit, address: u64, level: u64) -> Answer {
     unit.call(&Call::ClearMark { address, level })
 }
 
-fn forecast(unit: &mut Unit, addresses: &[u64]) -> Answer {
-    unit.call(&Call::Forecast { addresses: addresses.to_vec() })
-}
-
 fn figures(references: u64, exits: u64, tables: u64) -> Answer {
     Answer::Figures { references, exits, tables }
-}
-
-fn value(value: u64, references: u64, exits: u64) -> Answer {
-    Answer::Value { value, references, exits }
-}
-
-fn done(references: u64, exits: u64) -> Answer {
-    Answer::Done { references, exits }
-}
-
-fn fault(fault: Fault, references: u64, exits: u64) -> Answer {
-    Answer::Fault { fault, references, exits }
-}
-
-/// The host frame that an address's page is found in.
-fn page(unit: &Unit, address: u64) -> u64 {
-    unit.machine().plain_walk(address, Access::Load).end.unwrap().host
 }
 
 // A sixteen-frame guest, line by line.
@@ -558,18 +501,6 @@ fn the_places_must_hold_the_books_marks() {
 
 const WIDTHS: [u64; 4] = [1, 2, 4, 8];
 
-fn load_bytes(unit: &mut Unit, address: u64, width: u64) -> Answer {
-    unit.call(&Call::Load { address, width })
-}
-
-fn store_bytes(unit: &mut Unit, address: u64, width: u64, value: u64) -> Answer {
-    unit.call(&Call::Store { address, width, value })
-}
-
-fn device_store_bytes(unit: &mut Unit, address: u64, width: u64, value: u64) -> Answer {
-    unit.call(&Call::DeviceStore { address, width, value })
-}
-
 /// Loads, stores and stores by a device at the same place of frame 4.
 fn all_three(unit: &mut Unit, address: u64, width: u64) -> [Answer; 3] {
     [
@@ -577,11 +508,6 @@ fn all_three(unit: &mut Unit, address: u64, width: u64) -> [Answer; 3] {
         store_bytes(unit, address, width, 1),
         device_store_bytes(unit, 0x4000 + address, width, 1),
     ]
-}
-
-/// A word of a guest frame.
-fn word(unit: &Unit, frame: usize, index: usize) -> u64 {
-    unit.guest_words()[frame * 512 + index]
 }
 
 /// The guest with three words of data at address 0, and their path held.

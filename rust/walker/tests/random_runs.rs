@@ -7,16 +7,16 @@ mod naive;
 use naive::{Naive, Seen};
 use std::collections::{BTreeMap, BTreeSet};
 use walker::answer::{Answer, Call};
-use walker::book::{Lookup, Mark};
-use walker::events::{of_forecasts, of_halves, of_lookups, of_widths, Events};
+use walker::book::{HeldPath, Lookup, Mark};
+use walker::events::{of_bits, of_forecasts, of_halves, of_lookups, of_widths, Events};
 use walker::numbers::{address_of, page_from};
 use walker::quiet::{part, Part, Stretch};
-use walker::random::{mark_run, quiet_run, run, Random, Run, Sizes};
+use walker::random::{bits_run, mark_run, quiet_run, run, Random, Run, Sizes};
 use walker::vectors::lines;
 use walker::Unit;
 
-/// Held paths with the guest words that their shadow parts read.
-type Held = BTreeMap<Vec<u64>, Vec<(u64, u64)>>;
+/// Held paths with the guest words that their shadow parts read, and their writable bits.
+type Held = BTreeMap<Vec<u64>, (Vec<(u64, u64)>, bool)>;
 
 /// Marks, each a level and the indexes that it keeps as one number.
 type Marks = BTreeSet<(u64, u64)>;
@@ -37,8 +37,8 @@ struct Pair {
 impl Pair {
     fn new(run: &Run) -> Pair {
         let Sizes { levels, h, s, .. } = run.sizes;
-        let unit = Unit::open(levels, run.words.clone(), h, s).unwrap();
-        let naive = Naive::open(levels, run.words.clone(), h, s);
+        let unit = run.open().unwrap();
+        let naive = Naive::open(levels, run.words.clone(), h, s, run.choices.bits);
         Pair { unit, naive, marks: Marks::new(), places: vec![None; 64], lookups: Events::default() }
     }
 
@@ -55,9 +55,9 @@ impl Pair {
     }
 
     fn held(&self) -> Held {
-        let words =
-            |held: &walker::book::HeldPath| held.words.iter().map(|word| (word.frame, word.index)).collect();
-        self.unit.book().held.iter().map(|(path, held)| (path.clone(), words(held))).collect()
+        let words = |held: &HeldPath| held.words.iter().map(|word| (word.frame, word.index)).collect();
+        let held = self.unit.book().held.iter();
+        held.map(|(path, held)| (path.clone(), (words(held), held.writable))).collect()
     }
 
     // Root, map, unmap and marks: what is dropped, and only that.
@@ -160,7 +160,11 @@ impl Pair {
             return self.refused(call, number);
         }
         let mut held = self.held();
-        let (end, references, mut exits) = self.translate(address, value.is_some(), &mut held);
+        let (seen, references, mut exits) = self.translate(address, value.is_some(), &mut held);
+        let end = seen.end;
+        if self.naive.bits && end.is_ok() {
+            self.naive.touch(&seen, value.is_some());
+        }
         // The write and the drops.
         if let (Ok(host), Some(value)) = (end, value) {
             exits += watched(&held, host) as u64;
@@ -187,7 +191,7 @@ impl Pair {
 
     /// The end, the references and the exits of a request, and its fill, from the
     /// naive walk and the paths held before.
-    fn translate(&self, address: u64, is_store: bool, held: &mut Held) -> (End, u64, u64) {
+    fn translate(&self, address: u64, is_store: bool, held: &mut Held) -> (Seen, u64, u64) {
         let levels = self.naive.levels as u64;
         let seen = self.naive.walk(address, is_store);
         let depth = depth(&self.marks, address, self.naive.levels);
@@ -199,7 +203,7 @@ impl Pair {
         if seen.end.is_ok() {
             assert_eq!(references, levels + levels * depth);
         }
-        (seen.end, references, exits)
+        (seen, references, exits)
     }
 
     /// The figures are those of the list's loads, one after the other; nothing changes.
@@ -207,6 +211,9 @@ impl Pair {
         let (book, machine) = (self.unit.book().clone(), self.unit.machine().clone());
         let answer = self.unit.call(call);
         assert!(*self.unit.book() == book && *self.unit.machine() == machine, "{call:?}");
+        if self.naive.bits {
+            return assert_eq!(answer, Answer::No(16));
+        }
         if addresses.len() > 256 {
             return assert_eq!(answer, Answer::No(14));
         }
@@ -232,22 +239,39 @@ impl Pair {
     ) -> (u64, u64) {
         let shadowed = (self.naive.levels as u64 - depth) as usize;
         let path = path_of(address, self.naive.levels, shadowed);
-        let complete = if depth == 0 { seen.end.is_ok() } else { seen.found_at.len() > shadowed };
+        let complete = match (depth, seen.lacks) {
+            (0, _) => seen.end.is_ok(),
+            (_, Some(level)) => level as u64 <= depth,
+            (_, None) => seen.found_at.len() > shadowed,
+        };
         let was_held = held.contains_key(&path);
-        let forbids = depth == 0 && is_store && was_held && !self.unit.book().held[&path].writable;
+        let forbids = depth == 0 && is_store && was_held && !held[&path].1;
         let exits = (!was_held || forbids) as u64;
         if !complete {
             return (seen.reads, exits);
         }
-        if !was_held {
-            held.insert(path.clone(), Vec::new());
+        let exits = exits + of_host(seen.end) as u64;
+        // With bits a fault behind the shadow part leaves the path not held.
+        if self.naive.bits && seen.end.is_err() && !was_held {
+            return (seen.reads, exits);
+        }
+        if !was_held || forbids {
+            let words = seen.guest_words[..shadowed].to_vec();
+            let clean =
+                depth == 0 && !is_store && self.naive.bits && !self.all_have(64, &words[shadowed - 1..]);
+            let writable = !clean && self.writable(address, depth as u32, &words);
+            held.insert(path.clone(), (Vec::new(), false));
             if tables(held) > self.naive.s as usize {
                 held.clear();
             }
-            held.insert(path, seen.guest_words[..shadowed].to_vec());
+            held.insert(path, (words, writable));
         }
-        let references = shadowed as u64 + seen.reads - seen.found_at[shadowed];
-        (references, exits + of_host(seen.end) as u64)
+        (shadowed as u64 + seen.reads - seen.found_at[shadowed], exits)
+    }
+
+    /// Whether each of the guest words has the bit.
+    fn all_have(&self, bit: u64, words: &[(u64, u64)]) -> bool {
+        words.iter().all(|word| self.naive.memory[(word.0 * 512 + word.1) as usize] & bit != 0)
     }
 
     fn device_store(&mut self, call: &Call, address: u64, width: u64, value: u64) {
@@ -276,7 +300,7 @@ impl Pair {
         let word = &mut self.naive.memory[place(host, address)];
         let rest = *word as u128 - digits(*word, address, width) * unit(address);
         *word = (rest + value as u128 % 256u128.pow(width as u32) * unit(address)) as u64;
-        held.retain(|_, words| !words.contains(&(host, address / 8 % 512)));
+        held.retain(|_, (words, _)| !words.contains(&(host, address / 8 % 512)));
     }
 
     /// No held path is a proper prefix of another; each has the depth of its
@@ -295,17 +319,25 @@ impl Pair {
             let words: Vec<(u64, u64)> = held.words.iter().map(|word| (word.frame, word.index)).collect();
             assert_eq!(words, seen.guest_words[..path.len()]);
             assert_eq!(held.frames, seen.frames[..=path.len()]);
-            assert_eq!(held.writable, self.writable(address, path_depth, &words));
+            let writable = self.writable(address, path_depth, &words);
+            if self.naive.bits && path_depth == 0 {
+                // A path that allows stores has bit 6. One without may have been filled before.
+                assert!(!held.writable || writable && self.all_have(64, &words[path.len() - 1..]));
+            } else {
+                assert_eq!(held.writable, writable);
+            }
+            assert!(!self.naive.bits || self.all_have(32, &words));
             assert!(path_depth > 0 || seen.end.is_ok());
         }
     }
 
-    /// At depth 0 whether a store is granted, else whether the guest words allow it.
+    /// At depth 0 whether a store is granted, whatever bits it needs, else whether the
+    /// guest words allow it.
     fn writable(&self, address: u64, path_depth: u32, words: &[(u64, u64)]) -> bool {
         if path_depth == 0 {
-            return self.naive.walk(address, true).end.is_ok();
+            return self.naive.walk_without_bits(address, true).end.is_ok();
         }
-        words.iter().all(|word| self.naive.memory[(word.0 * 512 + word.1) as usize] & 2 != 0)
+        self.all_have(2, words)
     }
 }
 
@@ -387,7 +419,7 @@ fn tables(held: &Held) -> usize {
 }
 
 fn watched(held: &Held, host: u64) -> bool {
-    held.values().flatten().any(|word| word.0 == host)
+    held.values().any(|(words, _)| words.iter().any(|word| word.0 == host))
 }
 
 fn of_host(end: End) -> bool {
@@ -415,18 +447,22 @@ fn check_run(run: &Run) -> Events {
     pair.lookups
 }
 
-fn check_small_runs(levels: u32, seeds: std::ops::Range<u64>, calls: usize) -> Events {
+/// How a run is made from a seed.
+type Sort = fn(u64, Sizes, usize) -> Run;
+
+fn check_small_runs(sort: Sort, levels: u32, seeds: std::ops::Range<u64>, calls: usize) -> Events {
     let mut all = Events::default();
     for seed in seeds {
         let sizes = Sizes::small(&mut Random::new(seed + 1), levels);
-        all.join(&check_run(&run(seed, sizes, calls)));
+        all.join(&check_run(&sort(seed, sizes, calls)));
     }
     all
 }
 
 #[test]
 fn small_runs_with_four_levels() {
-    let events = check_small_runs(4, 0..400, 60);
+    let mut events = check_small_runs(run, 4, 0..400, 60);
+    events.join_as("bits: ", &check_small_runs(bits_run, 4, 0..400, 60));
     for (name, many) in &events.counts {
         println!("{many:>9}  {name}");
     }
@@ -434,26 +470,50 @@ fn small_runs_with_four_levels() {
 
 #[test]
 fn small_runs_with_five_levels() {
-    let events = check_small_runs(5, 0..200, 60);
-    assert!(events.count("granted Load at depth 6, no path") > 0);
-    assert!(events.count("granted Store at depth 5, path held") > 0);
+    for sort in [run, bits_run] {
+        let events = check_small_runs(sort, 5, 0..200, 60);
+        assert!(events.count("granted Load at depth 6, no path") > 0);
+        assert!(events.count("granted Store at depth 5, path held") > 0);
+    }
 }
 
 #[test]
 fn long_runs_reach_every_event() {
-    let events = check_small_runs(4, 1000..1100, 600);
+    let events = check_small_runs(run, 4, 1000..1100, 600);
     assert_all_met(sought_events(), &events);
     assert_all_met(of_halves(4), &events);
     assert_all_met(of_widths(4), &events);
     assert_all_met(of_forecasts(4, true), &events);
 }
 
+/// With accessed and dirty bits, what is met without them and more.
+#[test]
+fn long_runs_with_bits_reach_every_event() {
+    let events = check_small_runs(bits_run, 4, 1000..1200, 600);
+    assert_all_met(sought_events(), &events);
+    assert_all_met(of_halves(4), &events);
+    assert_all_met(of_widths(4), &events);
+    let names = of_bits(4, true);
+    for name in &names {
+        println!("{:>9}  {name}", events.count(name));
+    }
+    assert_all_met(names, &events);
+}
+
 #[test]
 fn long_runs_with_five_levels_reach_both_halves_every_width_and_every_forecast() {
-    let events = check_small_runs(5, 1000..1100, 600);
+    let events = check_small_runs(run, 5, 1000..1100, 600);
     assert_all_met(of_halves(5), &events);
     assert_all_met(of_widths(5), &events);
     assert_all_met(of_forecasts(5, true), &events);
+}
+
+#[test]
+fn long_runs_with_five_levels_and_bits() {
+    let events = check_small_runs(bits_run, 5, 1000..1500, 600);
+    assert_all_met(of_halves(5), &events);
+    assert_all_met(of_widths(5), &events);
+    assert_all_met(of_bits(5, true), &events);
 }
 
 #[test]
@@ -473,8 +533,8 @@ fn lookups_among_marks_that_come_and_go() {
 /// From each call on the run has a stretch, maybe of no call. As long as it goes on, its
 /// exits are its figure, and what is held is what was held and what it touched.
 fn check_stretches(run: &Run, events: &mut Events) {
-    let Sizes { levels, h, s, .. } = run.sizes;
-    let mut unit = Unit::open(levels, run.words.clone(), h, s).unwrap();
+    let levels = run.sizes.levels;
+    let mut unit = run.open().unwrap();
     let mut live: Vec<(Stretch, u64)> = Vec::new();
     for call in &run.calls {
         live.push((Stretch::start(&unit), 0));
@@ -597,6 +657,7 @@ fn large_runs() {
         let levels = 4 + (seed % 2) as u32;
         let sizes = Sizes::large(&mut Random::new(seed), levels);
         check_run(&run(seed, sizes, 1000));
+        check_run(&bits_run(seed, sizes, 1000));
     }
 }
 

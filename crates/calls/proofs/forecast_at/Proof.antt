@@ -1,10 +1,11 @@
--- 3 and then 14; where neither applies, the record has its layout and what it holds in range.
-use mathlib.Core.Path.{_≡_, sym, _∙_}
+-- 3, 16 and then 14; where none applies, the record has its layout and what it holds in range.
+use mathlib.Core.Path.{_≡_, sym, ap, _∙_}
 use native.Mathlib.Omega.{arith}
-use mathlib.Core.Bool.{true}
+use mathlib.Core.Bool.{true, not}
 use borrow.Author.Tests.{not-true, not-false, lt-leb, le-leb}
 use lib.ListN.{length}
 use Rattle.record.specs.Record.{recordBy, fitsOf}
+use Rattle.translate.proofs.Bits.{chosen-off, chosen-on}
 use Rattle.calls.specs.Calls.{forecastCall}
 use Rattle.calls.proofs.Laws.{broken, failed, passed}
 use Rattle.calls.proofs.Ranges.{fits-sound, fits-held, fits-used}
@@ -22,37 +23,49 @@ returns c =
 returns-2 : tie.Need-returns-2
 unfolding forecastCall
 returns-2 c =
-    let args = c .before .before .before .before .before .args in
-    let fits2 = c .before .before .fits2 in
-    let if1 = c .before .if1 in
+    let args = c .before .before .before .before .before .before .args in
+    let fits2 = c .before .before .before .fits2 in
+    let if1 = c .before .before .if1 in
     let r = recordBy (args .head) (args .place .now) in
     let fits : fitsOf r (length (args .mem .now)) ≡ true = sym (fits2 .ensures) ∙ not-false (fits2 .result) (if1 .left) in
-    failed r (args .mem .now) _ _ _ fits (lt-leb _ _ (c .if2 .taken))
-
-forecast-requires : tie.Need-forecast-requires
-forecast-requires c κs =
-    let args = c .before .before .before .before .before .before .before .args in
-    let fits2 = c .before .before .before .before .fits2 in
-    let if1 = c .before .before .before .if1 in
-    let if2 = c .before .before .if2 in
-    let space-in = c .before .space-in in
-    let r = recordBy (args .head) (args .place .now) in
-    let fits : fitsOf r (length (args .mem .now)) ≡ true = sym (fits2 .ensures) ∙ not-false (fits2 .result) (if1 .left) in
-    rw (space-in .ensures, c .held-in .ensures) (fits-sound r _ fits .0, fits-held r _ fits, fits-used r _ fits, omega (arith, if2 .left))
+    failed r (args .mem .now) _ _ _ fits (ap not (chosen-on _ (c .if2 .taken)))
 
 returns-3 : tie.Need-returns-3
 unfolding forecastCall
 returns-3 c =
-    let args = c .before .before .before .before .before .before .before .before .args in
-    let fits2 = c .before .before .before .before .before .fits2 in
-    let if1 = c .before .before .before .before .if1 in
-    let if2 = c .before .before .before .if2 in
+    let args = c .before .before .before .before .before .before .before .args in
+    let fits2 = c .before .before .before .before .fits2 in
+    let if1 = c .before .before .before .if1 in
+    let if2 = c .before .if2 in
+    let r = recordBy (args .head) (args .place .now) in
+    let fits : fitsOf r (length (args .mem .now)) ≡ true = sym (fits2 .ensures) ∙ not-false (fits2 .result) (if1 .left) in
+    rw (lt-leb _ _ (c .if3 .taken)) (passed r (args .mem .now) _ _ _ fits (ap not (chosen-off _ (if2 .left))))
+
+forecast-requires : tie.Need-forecast-requires
+forecast-requires c κs =
+    let args = c .before .before .before .before .before .before .before .before .before .args in
+    let fits2 = c .before .before .before .before .before .before .fits2 in
+    let if1 = c .before .before .before .before .before .if1 in
+    let if3 = c .before .before .if3 in
+    let space-in = c .before .space-in in
+    let r = recordBy (args .head) (args .place .now) in
+    let fits : fitsOf r (length (args .mem .now)) ≡ true = sym (fits2 .ensures) ∙ not-false (fits2 .result) (if1 .left) in
+    rw (space-in .ensures, c .held-in .ensures) (fits-sound r _ fits .0, fits-held r _ fits, fits-used r _ fits, omega (arith, if3 .left))
+
+returns-4 : tie.Need-returns-4
+unfolding forecastCall
+returns-4 c =
+    let args = c .before .before .before .before .before .before .before .before .before .before .args in
+    let fits2 = c .before .before .before .before .before .before .before .fits2 in
+    let if1 = c .before .before .before .before .before .before .if1 in
+    let if2 = c .before .before .before .before .if2 in
+    let if3 = c .before .before .before .if3 in
     let space-in = c .before .before .space-in in
     let held-in = c .before .held-in in
     let r = recordBy (args .head) (args .place .now) in
     let fits : fitsOf r (length (args .mem .now)) ≡ true = sym (fits2 .ensures) ∙ not-false (fits2 .result) (if1 .left) in
     let told = rw (held-in .ensures, space-in .ensures) at (c .forecast .ensures) in
-    rw told (passed r (args .mem .now) _ _ _ fits (le-leb _ _ (if2 .left)))
+    rw (told, le-leb _ _ (if3 .left)) (passed r (args .mem .now) _ _ _ fits (ap not (chosen-off _ (if2 .left))))
 
 pub forecast-at-spec : {M : Type 1} → statement M
 forecast-at-spec =
@@ -61,7 +74,8 @@ forecast-at-spec =
     (λ c κs. search needs)
     returns
     returns-2
+    returns-3
     (λ c κs. search needs)
     (λ c κs. search needs)
     forecast-requires
-    returns-3)
+    returns-4)

@@ -1,4 +1,4 @@
--- The call in parts on the head that the 15 words say; of these only the five of what is held are written.
+-- The call in parts on the head that the 16 words say; of these only the five of what is held are written.
 use Rattle.cangrieb.specs.Flat.{leftOf}
 use mathlib.Core.Path.{ap}
 use borrow.Author.Needs.{needs}

@@ -1,4 +1,4 @@
--- A mapping may change the whole head, so all 15 words are written from the head that the call in parts hands back.
+-- A mapping may change the whole head, so all 16 words are written from the head that the call in parts hands back.
 use Rattle.cangrieb.specs.Flat.{leftOf}
 use mathlib.Core.Path.{ap}
 use borrow.Author.Needs.{needs}

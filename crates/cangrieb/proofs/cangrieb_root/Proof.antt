@@ -1,4 +1,4 @@
--- Memory and places are only read; the head with its new root is written as 15 words.
+-- Memory and places are only read; the head with its new root is written as 16 words.
 use Rattle.cangrieb.specs.Flat.{leftOf}
 use mathlib.Core.Path.{ap}
 use borrow.Author.Needs.{needs}

@@ -1,4 +1,4 @@
--- The head that the call in parts hands back is written as 15 words; answer and memory are that call's.
+-- The head that the call in parts hands back is written as 16 words; answer and memory are that call's.
 use Rattle.cangrieb.specs.Flat.{leftOf}
 use mathlib.Core.Path.{ap}
 use borrow.Author.Needs.{needs}

@@ -1,4 +1,4 @@
--- The record's head by one promise, its 15 words by another; the places are copied.
+-- The record's head by one promise, its 16 words by another; the places are copied.
 use borrow.Author.Needs.{needs}
 use Rattle.cangrieb.proofs.put_back.Statement.{statement}
 use Rattle.cangrieb.proofs.put_back.Tie as tie

@@ -1,4 +1,4 @@
--- Five words are written; a list of 15 words is told apart word by word, so the others are seen to stay.
+-- Five words are written; a list of 16 words is told apart word by word, so the others are seen to stay.
 use mathlib.Core.Path.{ap, _∙_}
 use Rattle.calls.specs.Calls.{headHeld}
 use Rattle.cangrieb.specs.Flat.{headIn, headWords}

@@ -22,7 +22,7 @@ open-granted-requires c κs =
     let args = c .before .before .before .before .args in
     let open-refusal = c .before .before .open-refusal in
     let if1 = c .before .if1 in
-    let z = granted-sized (length (args .mem .now)) (args .hosts) (args .shadows) (sym (open-refusal .ensures) ∙ if1 .left) .0 in omega (arith, z .guest, z .frames)
+    let z = granted-sized (length (args .mem .now)) (args .hosts) (args .shadows) (args .bits) (sym (open-refusal .ensures) ∙ if1 .left) .0 in omega (arith, z .guest, z .frames)
 
 returns-2 : tie.Need-returns-2
 unfolding openOf

@@ -1,31 +1,52 @@
--- By what the walk came to; the bytes of the page are read where it arrived.
+-- By the end of the walk. Assumes nothing.
 use borrow.Author.Needs.{needs}
 use Rattle.request.proofs.loaded.Statement.{statement}
 use Rattle.request.proofs.loaded.Tie as tie
 
+enum-known-walked : tie.Need-enum-known-walked
+enum-known-walked c = search needs
+
 read-bytes-requires : tie.Need-read-bytes-requires
 read-bytes-requires c κs =
+    let walked = c .before .walked in
     let pre = c .before .before .before .before .pre in
-    (rw (c .before .walked .given .1) at (pre .0), pre .1)
+    (rw (walked .given .1) at (pre .0), pre .1)
+
+enum-known-walked-2 : tie.Need-enum-known-walked-2
+enum-known-walked-2 c = search needs
+
+enum-told : tie.Need-enum-told
+enum-told c = search needs
+
+refused-requires : tie.Need-refused-requires
+refused-requires c κs = search needs
 
 returns : tie.Need-returns
-returns c = rw (c .before .before .walked .given .1, c .read-bytes .ensures)
+returns c =
+    let read-bytes = c .read-bytes in
+    let walked = c .before .before .walked in
+    rw (walked .given .1, read-bytes .ensures)
 
 returns-2 : tie.Need-returns-2
-returns-2 c = rw (c .before .walked2 .given .1)
+returns-2 c =
+    let walked2 = c .before .walked2 in
+    rw (walked2 .given .1)
 
 returns-3 : tie.Need-returns-3
-returns-3 c = rw (c .before .enum-told .given .1, c .refused .ensures)
+returns-3 c =
+    let refused = c .refused in
+    let enum-told = c .before .enum-told in
+    rw (enum-told .given .1, refused .ensures)
 
 pub loaded-spec : {M : Type 1} → statement M
 loaded-spec =
     tie.close
     (tie.spec
-    (λ c. search needs)
+    enum-known-walked
     read-bytes-requires
-    (λ c. search needs)
-    (λ c. search needs)
-    (λ c κs. search needs)
+    enum-known-walked-2
+    enum-told
+    refused-requires
     returns
     returns-2
     returns-3)

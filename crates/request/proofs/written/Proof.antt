@@ -1,32 +1,56 @@
--- Writing the word adds at most one exit, so the sum fits; where it met damage, the answer is 11 and what was held before.
+-- By what the drops left. Assumes nothing.
 use native.Mathlib.Omega.{arith}
+use borrow.Author.Tests.{not-true, not-false}
 use Rattle.spec.specs.Entry.{wordOf}
 use Rattle.layout.specs.Layout.{config}
-use Rattle.request.proofs.Leaves.{put-leaves}
+use Rattle.request.proofs.Leaves.{drop-leaves}
 use borrow.Author.Needs.{needs}
 use Rattle.request.proofs.written.Statement.{statement}
 use Rattle.request.proofs.written.Tie as tie
 
-add-t17 : tie.Need-add-t17
-add-t17 c =
-    let args = c .before .before .before .before .before .before .before .before .before .args in
-    let pre = c .before .before .before .before .before .before .before .before .before .pre in
-    let put-word = c .before .before .before .before .before .before .put-word in
-    let l = rw (← put-word .ensures) at (put-leaves (config (args .layout)) (args .mem .now) (args .held .pool) (args .page .0) (wordOf (args .address)) (args .word) (pre .1)) in
-    omega (arith, l .exits, pre)
+drop-readers-requires : tie.Need-drop-readers-requires
+drop-readers-requires c κs = search needs
+
+refused-requires : tie.Need-refused-requires
+refused-requires c κs = search needs
+
+same-length : tie.Need-same-length
+same-length c = search needs
 
 returns : tie.Need-returns
 returns c =
-    let put-word = c .before .before .before .before .before .before .put-word in
+    let refused = c .refused in
     let if1 = c .before .if1 in
-    rw (← put-word .ensures, if1 .taken)
+    let drop-readers = c .before .before .before .before .before .drop-readers in
+    rw (← drop-readers .ensures, not-true (drop-readers .result .ok) (if1 .taken), refused .ensures)
+
+finish-requires : tie.Need-finish-requires
+finish-requires c κs =
+    let mem = c .before .before .before .before .mem in
+    let drop-readers = c .before .before .before .before .before .drop-readers in
+    let args = c .before .before .before .before .before .before .before .before .args in
+    let pre = c .before .before .before .before .before .before .before .before .pre in
+    let left = rw (← drop-readers .ensures) at (drop-leaves (config (args .layout)) (args .mem .now) (args .held .pool) (args .page .0) (wordOf (args .address)) (pre .1)) in
+    (pre .2, pre .3, pre .4, omega (arith, left .exits))
+
+same-length-2 : tie.Need-same-length-2
+same-length-2 c = search needs
 
 returns-2 : tie.Need-returns-2
 returns-2 c =
-    let put-word = c .before .before .before .before .before .before .put-word in
-    let if1 = c .before .if1 in
-    let refused = c .refused in
-    rw (← put-word .ensures, if1 .left, refused .ensures)
+    let finish = c .before .before .finish in
+    let if1 = c .before .before .before .before .if1 in
+    let drop-readers = c .before .before .before .before .before .before .before .before .drop-readers in
+    rw (← drop-readers .ensures, not-false (drop-readers .result .ok) (if1 .left)) (finish .ensures)
 
 pub written-spec : {M : Type 1} → statement M
-written-spec = tie.close (tie.spec (λ c κs. search needs) add-t17 (λ c. search needs) returns (λ c κs. search needs) (λ c. search needs) returns-2)
+written-spec =
+    tie.close
+    (tie.spec
+    drop-readers-requires
+    refused-requires
+    same-length
+    returns
+    finish-requires
+    same-length-2
+    returns-2)

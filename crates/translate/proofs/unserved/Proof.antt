@@ -1,4 +1,4 @@
--- By the depth: the whole plain walk, or the shadow part and the fill. Assumes nothing.
+-- By the depth: the whole plain walk, or the shadow part and on. Assumes nothing.
 use borrow.Author.Tests.{lt-ltb, le-ltb}
 use Rattle.translate.specs.Translate.{unservedOf}
 use borrow.Author.Needs.{needs}
@@ -7,7 +7,7 @@ use Rattle.translate.proofs.unserved.Tie as tie
 
 returns : tie.Need-returns
 unfolding unservedOf
-returns c = rw (lt-ltb _ _ (c .before .before .if1 .taken), c .plain .ensures)
+returns c = rw (lt-ltb _ _ (c .before .before .if1 .taken), c .unshadowed .ensures)
 
 returns-2 : tie.Need-returns-2
 unfolding unservedOf

@@ -1,7 +1,7 @@
 //! Makes one of the main calls so many times, for callgrind to count: `count CASE CALLS`. `count` alone names the cases.
 //! tests/counts.rs counts what runs from entry to return of the functions of `counted`, and nothing around them.
 
-use cangrieb::{Answer, Lookup, Record};
+use cangrieb::{Answer, Choices, Lookup, Record};
 
 /// One call of the wrapper each. As they are exported, they are compiled for any arguments and callers, not for those here.
 mod counted {
@@ -40,7 +40,7 @@ mod counted {
 /// time costs the same.
 type Case = (&'static str, fn() -> Guest, fn(&mut Record, &mut [u64]));
 
-const CASES: [Case; 38] = [
+const CASES: [Case; 43] = [
     ("load-depth-0", || held(0, 0), load::<0>),
     ("load-depth-0-marks-8", || held(0, 8), load::<0>),
     ("load-depth-0-marks-62", || held(0, 62), load::<0>),
@@ -59,12 +59,17 @@ const CASES: [Case; 38] = [
     ("load-depth-5", || held(5, 0), load::<5>),
     ("load-depth-5-marks-8", || held(5, 8), load::<5>),
     ("load-depth-5-marks-62", || held(5, 62), load::<5>),
+    ("load-depth-0-bits", || held_with_bits(0), load::<0>),
+    ("load-depth-1-bits", || held_with_bits(1), load::<1>),
+    ("load-depth-4-bits", || held_with_bits(4), load::<4>),
+    ("load-depth-5-bits", || held_with_bits(5), load::<5>),
     ("depth-no-mark", || held(0, 0), |unit, _| depth(unit, 0, 0)),
     ("depth-marks-8", || held(0, 8), |unit, _| depth(unit, 0, 8)),
     ("depth-marks-62", || held(0, 62), |unit, _| depth(unit, 0, 62)),
     ("depth-top-and-5", || below_top(1), |unit, _| depth(unit, 5, 5)),
     ("depth-top-and-63", || below_top(59), |unit, _| depth(unit, 5, 5)),
     ("store", || held(0, 0), store),
+    ("store-bits", || held_with_bits(0), store),
     ("device-store", || held(0, 0), device_store),
     ("load-byte", || held(0, 0), load_byte),
     ("store-byte", || held(0, 0), store_byte),
@@ -197,10 +202,10 @@ struct Guest {
 
 /// A guest with one page: its frames 0 to 3 are the tables, 4 is the page, at address 0 and wherever else all indexes are
 /// below 256. No mark is set and no path held.
-fn guest_with(shadows: u64) -> Guest {
+fn guest_with(shadows: u64, choices: Choices) -> Guest {
     let base = HOSTS + shadows;
     let mut memory = vec![0; ((base + GUESTS) * 512) as usize];
-    let mut unit = Record::open(&mut memory, HOSTS, shadows).unwrap();
+    let mut unit = Record::open_with(&mut memory, HOSTS, shadows, choices).unwrap();
     for guest in 0..=PAGE {
         assert_eq!(unit.map(&mut memory, guest, base + guest, true), Answer::Ok);
     }
@@ -215,12 +220,12 @@ fn guest_with(shadows: u64) -> Guest {
 }
 
 fn guest() -> Guest {
-    guest_with(SHADOWS)
+    guest_with(SHADOWS, Choices::default())
 }
 
 /// With room for the shadow tables of `spread`.
 fn large_guest() -> Guest {
-    guest_with(96)
+    guest_with(96, Choices::default())
 }
 
 /// The guest with the paths of these addresses held.
@@ -235,7 +240,21 @@ fn served(guest: Guest, addresses: &[u64]) -> Guest {
 /// The guest with a mark of level `depth` at its page (0: none) and so many marks elsewhere, and with the page's path
 /// held; at depth 5 there is none to hold.
 fn held(depth: u64, elsewhere: u64) -> Guest {
-    let Guest { mut unit, mut memory } = guest();
+    held_in(guest(), depth, elsewhere)
+}
+
+/// The same with accessed and dirty bits, all of which are set: no request of the page sets one.
+fn held_with_bits(depth: u64) -> Guest {
+    let Guest { mut unit, mut memory } = held_in(guest_with(SHADOWS, Choices { bits: true }), depth, 0);
+    // At depth 0 this fills the path anew, which the load before it filled while the page was not dirty.
+    let exits = u64::from(depth == 0);
+    let said = unit.store(&mut memory, 0, 8, WORD);
+    assert_eq!(said, Answer::Done { references: 4 + 4 * depth, exits });
+    Guest { unit, memory }
+}
+
+fn held_in(guest: Guest, depth: u64, elsewhere: u64) -> Guest {
+    let Guest { mut unit, mut memory } = guest;
     if depth > 0 {
         assert_eq!(unit.set_mark(&mut memory, 0, depth), Answer::Ok);
     }

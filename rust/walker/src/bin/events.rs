@@ -1,19 +1,22 @@
 //! Prints what random small runs reach, and a few seeds that reach it all:
-//! `events RUNS CALLS [LEVELS [FRAMES H S]]`.
+//! `events [bits] RUNS CALLS [LEVELS [FRAMES H S]]`. With `bits` the runs have accessed
+//! and dirty bits, and what they must reach is marked.
 
 use std::collections::BTreeSet;
-use walker::events::Events;
-use walker::random::{run, Random, Sizes};
+use walker::events::{of_bits, Events};
+use walker::random::{bits_run, run, Random, Sizes};
 use walker::vectors::lines;
 
 fn main() {
+    let bits = std::env::args().nth(1).is_some_and(|word| word == "bits");
+    let sort = if bits { bits_run } else { run };
     let numbers: Vec<u64> = std::env::args().skip(1).filter_map(|word| word.parse().ok()).collect();
     let (runs, calls, levels, fixed) = match numbers[..] {
         [runs, calls] => (runs, calls, 4, None),
         [runs, calls, levels] => (runs, calls, levels as u32, None),
         [runs, calls, levels, frames, h, s] => (runs, calls, levels as u32, Some((frames, h, s))),
         _ => {
-            eprintln!("events RUNS CALLS [LEVELS [FRAMES H S]]");
+            eprintln!("events [bits] RUNS CALLS [LEVELS [FRAMES H S]]");
             std::process::exit(2);
         }
     };
@@ -24,14 +27,17 @@ fn main() {
             Some((frames, h, s)) => Sizes { levels, frames, h, s },
             None => Sizes::small(&mut Random::new(seed.wrapping_add(1)), levels),
         };
-        if let Ok((_, events)) = lines(&run(seed, sizes, calls as usize)) {
+        if let Ok((_, events)) = lines(&sort(seed, sizes, calls as usize)) {
             all.join(&events);
             by_seed.push((seed, events.counts.keys().cloned().collect()));
         }
     }
+    let sought: BTreeSet<String> =
+        if bits { of_bits(levels, true).into_iter().collect() } else { BTreeSet::new() };
     for (name, many) in &all.counts {
-        println!("{many:>9}  {name}");
+        println!("{many:>9} {} {name}", if sought.contains(name) { '*' } else { ' ' });
     }
+    sought.iter().filter(|name| all.count(name) == 0).for_each(|name| println!("{:>9} * {name}", 0));
     println!("seeds that reach it all: {:?}", covering_seeds(&by_seed, all.counts.keys().cloned().collect()));
 }
 

@@ -7,15 +7,18 @@ pub struct Naive {
     pub s: u64,
     pub root: u64,
     pub memory: Vec<u64>,
+    /// Whether accessed and dirty bits are on.
+    pub bits: bool,
     used: Vec<bool>,
 }
 
 /// What a walk yields: the page's host frame or the fault's letter, level and
-/// frame; the number of all words read, and of those read when each table, and last
-/// the page, was found; the guest words among them, by host frame and index; and the
-/// guest frames host-walked.
+/// frame; the level of the entry that lacks a bit, if that is the fault; the number of
+/// all words read, and of those read when each table, and last the page, was found; the
+/// guest words among them, by host frame and index; and the guest frames host-walked.
 pub struct Seen {
     pub end: Result<u64, (char, u32, u64)>,
+    pub lacks: Option<u32>,
     pub reads: u64,
     pub found_at: Vec<u64>,
     pub guest_words: Vec<(u64, u64)>,
@@ -23,14 +26,14 @@ pub struct Seen {
 }
 
 impl Naive {
-    pub fn open(levels: u32, mut memory: Vec<u64>, h: u64, s: u64) -> Naive {
+    pub fn open(levels: u32, mut memory: Vec<u64>, h: u64, s: u64, bits: bool) -> Naive {
         for word in memory.iter_mut().take(((h + s) * 512) as usize) {
             *word = 0;
         }
         // Host frame 0 is the top table.
         let mut used = vec![false; h as usize];
         used[0] = true;
-        Naive { levels, h, s, root: 0, memory, used }
+        Naive { levels, h, s, root: 0, memory, bits, used }
     }
 
     pub fn guest_words(&self) -> &[u64] {
@@ -108,9 +111,42 @@ impl Naive {
     }
 
     pub fn walk(&self, address: u64, is_store: bool) -> Seen {
-        let mut seen = Seen { end: Ok(0), reads: 0, found_at: vec![], guest_words: vec![], frames: vec![] };
+        let mut seen = self.walk_without_bits(address, is_store);
+        if self.bits && seen.end.is_ok() {
+            seen.lacks = (1..=self.levels).rev().find(|level| self.is_stuck(&seen, *level, is_store));
+            if let Some(level) = seen.lacks {
+                seen.end = Err(('W', 0, seen.frames[(self.levels - level) as usize]));
+            }
+        }
+        seen
+    }
+
+    /// The same as if no bit were needed.
+    pub fn walk_without_bits(&self, address: u64, is_store: bool) -> Seen {
+        let (found_at, guest_words, frames) = (vec![], vec![], vec![]);
+        let mut seen = Seen { end: Ok(0), lacks: None, reads: 0, found_at, guest_words, frames };
         seen.end = self.walk_into(address, is_store, &mut seen);
         seen
+    }
+
+    /// Whether the entry of this level lacks a bit and its table's frame is read-only.
+    fn is_stuck(&self, seen: &Seen, level: u32, is_store: bool) -> bool {
+        let place = (self.levels - level) as usize;
+        let (frame, index) = seen.guest_words[place];
+        let entry = self.memory[(frame * 512 + index) as usize];
+        let complete = entry / 32 % 2 == 1 && (level > 1 || !is_store || entry / 64 % 2 == 1);
+        let (table, _) = self.host_walk(seen.frames[place]);
+        !complete && table.is_some_and(|table| table & 2 == 0)
+    }
+
+    /// What a granted request leaves in its entries: 32 in each, 64 in a store's last.
+    pub fn touch(&mut self, seen: &Seen, is_store: bool) {
+        for (frame, index) in &seen.guest_words {
+            self.memory[(frame * 512 + index) as usize] |= 32;
+        }
+        if let (Some((frame, index)), true) = (seen.guest_words.last(), is_store) {
+            self.memory[(frame * 512 + index) as usize] |= 64;
+        }
     }
 
     fn walk_into(&self, address: u64, is_store: bool, seen: &mut Seen) -> Result<u64, (char, u32, u64)> {

@@ -1,0 +1,95 @@
+-- The entries of a walk one after the other, as the loops meet them.
+-- Assumes nothing.
+use mathlib.Core.Path.{_≡_, refl, sym, ap, ap₂, _∙_}
+use Prim.Native.Nat.{ℕ, zero, suc, _+_, _-_, _<_}
+use native.Mathlib.Omega.{arith}
+use mathlib.Core.Bool.{Bool, true, false, not, _&&_, _||_, cond}
+use mathlib.Core.List.{List, [], _∷_}
+use mathlib.Core.Option.{Option, none, some}
+use lib.Dec.{eqb}
+use borrow.Author.Tests.{ne-eqb}
+use lib.ListN.{getD, length}
+use Rattle.spec.specs.Config.{Config}
+use Rattle.spec.specs.Entry.{index, indexes, frameOf, dirty}
+use Rattle.spec.specs.Bits.{isLast, hasBits, withBits, lacks, mayWrite, owed, dirtyAt}
+use Rattle.spec_laws.proofs.Indexes.{indexes-step}
+use Rattle.words.specs.Words.{wordIn, setIn}
+use Rattle.host.specs.Walk.{hostWalkOf}
+use Rattle.walk.specs.Memory.{placeOf, memoryWorld}
+use Rattle.accessed.specs.declared.Debt.{Debt}
+use Rattle.accessed.specs.declared.Debt.the-variants.{Nothing, Table}
+use Rattle.accessed.specs.Entries.{entries, wordsOf, namesOf, owedBy, owedOf, bitsIn}
+
+entries-step : (ts : List ℕ) (k n page : ℕ) → 0 < n
+    → entries ts k (indexes n page) ≡ (getD ts k 0, index (n - 1) page) ∷ entries ts (k + 1) (indexes (n - 1) page)
+entries-step ts k n page h = ap (entries ts k) (indexes-step n page h)
+
+entries-last : (ts : List ℕ) (k n page : ℕ) → isLast (entries ts k (indexes n page)) ≡ eqb n 0
+unfolding indexes
+entries-last ts k zero page = refl
+entries-last ts k (suc n) page = sym (ne-eqb (suc n) 0 (λ e. omega arith))
+
+entries-long : (ts : List ℕ) (k n page : ℕ) → length (entries ts k (indexes n page)) ≡ n
+unfolding indexes
+entries-long ts k zero page = refl
+entries-long ts k (suc n) page = ap suc (entries-long ts (k + 1) n page)
+
+-- ---- one turn of each loop, with n entries left: the next is in the k-th table
+
+module _ (m ts : List ℕ) (st : Bool) (k n page : ℕ) (some-left : 0 < n) where
+  abbrev left : ℕ
+  left = n - 1
+
+  abbrev e : ℕ
+  e = wordIn m (getD ts k 0) (index left page)
+
+  abbrev rest : List (ℕ × ℕ)
+  rest = entries ts (k + 1) (indexes left page)
+
+  last : isLast rest ≡ eqb left 0
+  last = entries-last ts (k + 1) left page
+
+  pub lacks-turn : lacks (wordsOf m) st (entries ts k (indexes n page)) ≡ (not (hasBits (st && eqb left 0) e) || lacks (wordsOf m) st rest)
+  unfolding lacks
+  lacks-turn =
+      ap (lacks (wordsOf m) st) (entries-step ts k n page some-left)
+      ∙ ap (λ b. not (hasBits (st && b) e) || lacks (wordsOf m) st rest) last
+
+  pub owed-turn : (c : Config) (ht g : ℕ)
+      → owedOf c ht m st g (entries ts k (indexes n page))
+      ≡ cond (hasBits (st && eqb left 0) e || mayWrite (placeOf (hostWalkOf c ht m g))) (owedOf c ht m st (frameOf e) rest) (Table (left + 1) g)
+  unfolding owedOf owed memoryWorld
+  owed-turn c ht g =
+      ap (owedOf c ht m st g) (entries-step ts k n page some-left)
+      ∙ ap₂ (λ b l. owedBy (cond (hasBits (st && b) e || mayWrite (placeOf (hostWalkOf c ht m g))) (owed (memoryWorld c ht m) st rest (namesOf m (frameOf e) rest)) (some (l, g)))) last long
+      ∙ by (hasBits (st && eqb left 0) e || mayWrite (placeOf (hostWalkOf c ht m g)))
+    where
+      long : suc (length rest) ≡ left + 1
+      long = omega (arith, entries-long ts (k + 1) left page)
+
+      by : (b : Bool) → owedBy (cond b (owed (memoryWorld c ht m) st rest (namesOf m (frameOf e) rest)) (some (left + 1, g)))
+          ≡ cond b (owedBy (owed (memoryWorld c ht m) st rest (namesOf m (frameOf e) rest))) (Table (left + 1) g)
+      by true = refl
+      by false = refl
+
+  pub bits-turn : bitsIn st m (entries ts k (indexes n page)) ≡ bitsIn st (setIn m (getD ts k 0) (index left page) (withBits (st && eqb left 0) e)) rest
+  bits-turn =
+      ap (bitsIn st m) (entries-step ts k n page some-left)
+      ∙ ap (λ b. bitsIn st (setIn m (getD ts k 0) (index left page) (withBits (st && b) e)) rest) last
+
+-- ---- none is left
+
+pub none-left : (ts : List ℕ) (k n page : ℕ) → n ≡ 0 → entries ts k (indexes n page) ≡ []
+unfolding indexes
+none-left ts k n page z = ap (λ j. entries ts k (indexes j page)) z
+
+-- ---- the last entry
+
+pub dirty-last : (m ts : List ℕ) (k n page : ℕ) → 0 < n
+    → dirtyAt (wordsOf m) (entries ts k (indexes n page)) ≡ dirty (wordIn m (getD ts (k + (n - 1)) 0) (index 0 page))
+unfolding indexes
+dirty-last m ts k zero page h = absurd (omega arith)
+dirty-last m ts k (suc zero) page h = let z : k + 0 ≡ k = omega arith in ap (λ j. dirty (wordIn m (getD ts j 0) (index 0 page))) (sym z)
+dirty-last m ts k (suc (suc n)) page h =
+    let z : k + 1 + (suc n - 1) ≡ k + (suc (suc n) - 1) = omega arith in
+    dirty-last m ts (k + 1) (suc n) page (omega arith) ∙ ap (λ j. dirty (wordIn m (getD ts j 0) (index 0 page))) z

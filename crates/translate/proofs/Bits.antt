@@ -1,0 +1,254 @@
+-- The bits of a walk over memory, read in the tables that it hands out.
+-- Assumes nothing.
+use mathlib.Core.Path.{_≡_, refl, sym, ap, ap₂, _∙_}
+use Prim.Native.Nat.{ℕ, _+_, _-_, _<_, _≤_}
+use native.Mathlib.Nat.{zero-add}
+use native.Mathlib.Omega.{arith}
+use mathlib.Core.Bool.{Bool, true, false, not, _&&_, cond}
+use mathlib.Core.List.{List, _∷_, map}
+use mathlib.Core.Option.{Option, none, some}
+use Rattle.spec.specs.declared.Fault.{Fault}
+use Rattle.spec.specs.Config.{Config}
+use Rattle.spec.specs.Entry.{indexes, pageOf, frameOf, frameLimit}
+use Rattle.spec.specs.Walk.{Walk, World, Trace, granted, trace}
+use Rattle.spec.specs.Plain.{Place, levels, walk}
+use Rattle.spec.specs.Bits.{lacks, owed}
+use Rattle.spec.specs.Count.{one}
+use lib.Dec.{eqb, leb}
+use borrow.Author.Tests.{eqb-true, eq-eqb, ne-eqb}
+use Rattle.spec_laws.proofs.Indexes.{indexes-length}
+use Rattle.spec_laws.proofs.Lists.{all-any}
+use Rattle.spec_laws.proofs.Local.{SameWord}
+use Rattle.spec_laws.proofs.SetBits.{lacks-owed, lacks-on}
+use Rattle.entry.specs.declared.HostPhysical.{HostPhysical}
+use Rattle.layout.specs.Layout.{page}
+use Rattle.walk.specs.declared.Walked.{Walked}
+use Rattle.walk.specs.declared.Walked.the-variants as walked
+use Rattle.walk.specs.Memory.{memoryWorld, walkedOf, trailOf}
+use Rattle.walk.proofs.Laws.{loop-end}
+use Rattle.accessed.specs.Entries.{entries, Frames, wordsOf, namesOf, owedBy, owedOf}
+use Rattle.accessed.proofs.Walks.{arrived-granted, Read, levels-read, walk-read, trail-entries, trail-frames, levels-frames, walk-frames}
+use Rattle.translate.specs.declared.Checked.{Checked}
+use Rattle.translate.specs.declared.Checked.the-variants as checked
+use Rattle.translate.specs.Translate.{ExitsOnce, translation, exitBy, pathIndexes, damaged, whole, direct, directOf, servedOf, plainOf, owingBy, checkedBy, checkedOf, debtBy, entriesOf, judgedBy, throughOf, bitlessOf, lackingBy, partOf, unshadowedOf, filledOf, strictBy, brokenBy, laxOf, arrivedOf, missedBy, missedOf}
+use Rattle.translate.specs.declared.Held.{Held}
+use Rattle.translate.specs.declared.Part.{Part}
+use Rattle.walk.specs.declared.Trail.{Trail}
+use Rattle.translate.proofs.Fits.{exit-small}
+
+module _ (c : Config) (ht : ℕ) (m : List ℕ) where
+  abbrev w : World
+  w = memoryWorld c ht m
+
+  -- a word is the same in both worlds
+  words-lack : (st : Bool) (xs : List (ℕ × ℕ)) → lacks (wordsOf m) st xs ≡ lacks w st xs
+  unfolding memoryWorld
+  words-lack st xs = lacks-on w (wordsOf m) st xs (all-any (SameWord w (wordsOf m)) xs (λ x. refl))
+
+  -- the tables of a walk from the root that arrived
+  pub root-frames : (root : ℕ) (st : Bool) (is : List ℕ) (t : ℕ) (v : Bool) (n : ℕ) → c .frames ≤ 65536
+      → walkedOf c ht m 0 (walk c st root is) ≡ walked.Arrived (page t) v n → Frames (trailOf c ht m 0 (walk c st root is) .tables)
+  root-frames root st is t v n few e =
+      trail-frames c ht m few (walk c st root is) 0 (walk-frames c ht m few st root is (t, v) (arrived-granted c ht m 0 (walk c st root is) t v n e))
+
+  -- ---- the whole walk
+  module _ (root : ℕ) (st : Bool) (a : ℕ) (t : ℕ) (v : Bool) (n : ℕ) (few : c .frames ≤ 65536) (deep : c .levels ≤ 8)
+      (arrived : walkedOf c ht m 0 (whole c st root a) ≡ walked.Arrived (page t) v n) where
+    abbrev r : Trace Fault Place
+    r = trace w (whole c st root a)
+
+    grant : r .result ≡ granted (t, v)
+    grant = arrived-granted c ht m 0 (whole c st root a) t v n arrived
+
+    read : Read w (indexes (c .levels) (pageOf a)) (root ∷ map (λ x. frameOf (w .wordAt (x .0) (x .1))) (r .reads)) r
+    read = walk-read w c st root (indexes (c .levels) (pageOf a)) (t, v) grant
+
+    pub whole-entries : entries (trailOf c ht m 0 (whole c st root a) .tables) 0 (indexes (c .levels) (pageOf a)) ≡ r .reads
+    whole-entries = trail-entries c ht m 0 (whole c st root a) (indexes (c .levels) (pageOf a)) _ (omega (arith, indexes-length (c .levels) (pageOf a))) read
+
+    -- what the entries in its tables say is what the walk's bits say
+    pub whole-checked : (d : ℕ) → entriesOf c ht m root st d (entries (trailOf c ht m 0 (whole c st root a) .tables) 0 (indexes (c .levels) (pageOf a))) ≡ checkedOf c ht m root st a d
+    unfolding entriesOf checkedOf owedOf memoryWorld
+    whole-checked d =
+        ap (entriesOf c ht m root st d) whole-entries
+        ∙ ap₂ (λ b us. cond b (debtBy d (owedBy (owed w st (r .reads) us))) (checked.Clear false)) (words-lack st (r .reads)) (sym (read .used))
+        ∙ by (lacks w st (r .reads)) refl
+        ∙ sym (ap (checkedBy d (lacks w st (r .reads)) (owed w st (r .reads) (r .uses))) arrived)
+      where
+        owing : (o : Option (ℕ × ℕ)) → debtBy d (owedBy o) ≡ checkedBy d true o (walked.Arrived (page t) v n)
+        owing none = refl
+        owing (some o) = refl
+
+        by : (b : Bool) → lacks w st (r .reads) ≡ b
+            → cond b (debtBy d (owedBy (owed w st (r .reads) (r .uses)))) (checked.Clear false) ≡ checkedBy d b (owed w st (r .reads) (r .uses)) (walked.Arrived (page t) v n)
+        by true e = owing (owed w st (r .reads) (r .uses))
+        by false e = ap (λ o. checkedBy d false o (walked.Arrived (page t) v n)) (sym (lacks-owed w st (r .reads) (r .uses) e))
+
+  -- ---- the direct part
+  module _ (st : Bool) (a d t : ℕ) (v : Bool) (u : ℕ) (x : Bool) (n : ℕ) (few : c .frames ≤ 65536) (deep : d ≤ 8) (small : t < frameLimit)
+      (arrived : directOf c ht m st a d t v ≡ walked.Arrived (page u) x n) where
+    direct-grant : (trace w (direct c st a d t v)) .result ≡ granted (u, x)
+    unfolding directOf
+    direct-grant = arrived-granted c ht m (c .levels - d) (direct c st a d t v) u x n arrived
+
+    pub direct-frames : Frames (trailOf c ht m (c .levels - d) (direct c st a d t v) .tables)
+    direct-frames = trail-frames c ht m few (direct c st a d t v) (c .levels - d) (levels-frames c ht m few st _ t v (indexes d (pageOf a)) (u, x) small direct-grant)
+
+    pub direct-lacks : lacks (wordsOf m) st (entries (trailOf c ht m (c .levels - d) (direct c st a d t v) .tables) 0 (indexes d (pageOf a))) ≡ lacks w st ((trace w (direct c st a d t v)) .reads)
+    direct-lacks =
+        ap (lacks (wordsOf m) st) (trail-entries c ht m (c .levels - d) (direct c st a d t v) (indexes d (pageOf a)) _ (omega (arith, indexes-length d (pageOf a)))
+        (levels-read w c st _ t v (indexes d (pageOf a)) (u, x) direct-grant))
+        ∙ words-lack st ((trace w (direct c st a d t v)) .reads)
+
+-- ---- ranges
+
+exit-once : (b : Bool) → one b ≤ 1
+exit-once true = omega arith
+exit-once false = omega arith
+
+-- what stops a request by its bits costs an exit at most
+pub checked-once : (c : Config) (ht : ℕ) (m : List ℕ) (root : ℕ) (st : Bool) (a d : ℕ) → ExitsOnce (checkedOf c ht m root st a d)
+unfolding checkedOf
+checked-once c ht m root st a d =
+    let w = memoryWorld c ht m in
+    let t = trace w (whole c st root a) in
+    go (lacks w st (t .reads)) (owed w st (t .reads) (t .uses)) (walkedOf c ht m 0 (whole c st root a))
+  where
+    owing : (l : Bool) (o : Option (ℕ × ℕ)) → ExitsOnce (owingBy d l o)
+    owing l none = tt
+    owing l (some o) = exit-once (leb (o .0) d)
+
+    go : (l : Bool) (o : Option (ℕ × ℕ)) (r : Walked) → ExitsOnce (checkedBy d l o r)
+    go l o (walked.Arrived p v n) = owing l o
+    go l o (walked.Faulted x n) = exit-small (walked.Faulted x n)
+    go l o walked.Damaged = tt
+
+-- ---- by the choice
+
+lacking-none : (r : Walked) → lackingBy false r ≡ false
+lacking-none (walked.Arrived p w n) = refl
+lacking-none (walked.Faulted x n) = refl
+lacking-none walked.Damaged = refl
+
+pub not-not : (b : Bool) → not (not b) ≡ b
+not-not true = refl
+not-not false = refl
+
+and-false : (b : Bool) → (b && false) ≡ false
+and-false true = refl
+and-false false = refl
+
+pub chosen-off : (b : ℕ) → b ≡ 0 → not (eqb b 0) ≡ false
+chosen-off b e = ap not (eq-eqb b 0 e)
+
+pub chosen-on : (b : ℕ) → (b ≡ 0 → ⊥) → not (eqb b 0) ≡ true
+chosen-on b n = ap not (ne-eqb b 0 n)
+
+module _ (c : Config) (ht : ℕ) (m : List ℕ) (st : Bool) (a d t : ℕ) (v : Bool) where
+  abbrev pub lack : Bool
+  lack = lacks (memoryWorld c ht m) st ((trace (memoryWorld c ht m) (direct c st a d t v)) .reads)
+
+  -- the part by what was found: no entry at depth 0, no bit with bits off, and else by the end and what it lacks
+  pub part-by : (l : Bool) (r : Walked) → directOf c ht m st a d t v ≡ r → lackingBy (c .bits && lack) r ≡ l → partOf c ht m st a d t v ≡ record { walked = r; lack = l }
+  unfolding partOf
+  part-by l r e k = ap₂ (λ (x : Walked) (y : Bool). record { walked = x; lack = y }) e (ap (lackingBy (c .bits && lack)) e ∙ k)
+
+  pub part-off : (r : Walked) → c .bits ≡ false → directOf c ht m st a d t v ≡ r → partOf c ht m st a d t v ≡ record { walked = r; lack = false }
+  part-off r off e = part-by false r e (ap (λ b. lackingBy (b && lack) r) off ∙ lacking-none r)
+
+  pub part-on : (l : Bool) (p : HostPhysical) (x : Bool) (n : ℕ) → c .bits ≡ true → lack ≡ l → directOf c ht m st a d t v ≡ walked.Arrived p x n
+      → partOf c ht m st a d t v ≡ record { walked = walked.Arrived p x n; lack = l }
+  part-on l p x n on k e = part-by l (walked.Arrived p x n) e (ap (λ b. b && lack) on ∙ k)
+
+  pub part-none : d ≡ 0 → partOf c ht m st a d t v ≡ record { walked = walked.Arrived (page t) v (c .levels); lack = false }
+  unfolding directOf indexes levels lacks trace
+  part-none z =
+      let came : directOf c ht m st a d t v ≡ walked.Arrived (page t) v (c .levels - d) = loop-end c ht m (c .levels - d) st 0 d t (pageOf a) v z in
+      let all : c .levels - d ≡ c .levels = omega arith in
+      let nothing : lack ≡ false = ap (λ j. lacks (memoryWorld c ht m) st ((trace (memoryWorld c ht m) (direct c st a j t v)) .reads)) z in
+      part-by false (walked.Arrived (page t) v (c .levels)) (came ∙ ap (walked.Arrived (page t) v) all) (ap (λ b. c .bits && b) nothing ∙ and-false (c .bits))
+
+  -- where no bit is to be looked at, none lacks
+  pub part-bitless : bitlessOf c d ≡ true → partOf c ht m st a d t v .lack ≡ false
+  unfolding bitlessOf
+  part-bitless e = by (eqb d 0) refl (c .bits) refl
+    where
+      by : (z : Bool) → eqb d 0 ≡ z → (b : Bool) → c .bits ≡ b → partOf c ht m st a d t v .lack ≡ false
+      by true y b k = ap (λ (x : Part). x .lack) (part-none (eqb-true d 0 y))
+      by false y false k = ap (λ (x : Part). x .lack) (part-off (directOf c ht m st a d t v) k refl)
+      by false y true k =
+          let no : false ≡ true = sym (ap₂ (λ z b. cond z true (not b)) y k) ∙ e in
+          let z : _≡_ {A = ℕ} 0 1 = ap (λ b. cond b 1 0) no in absurd (omega arith)
+
+module _ (c : Config) (ht : ℕ) (m : List ℕ) (h : Held) (root : ℕ) (st : Bool) (a d : ℕ) where
+  pub unshadowed-off : c .bits ≡ false → unshadowedOf c ht m h root st a d ≡ plainOf c ht m h root st a
+  unfolding unshadowedOf
+  unshadowed-off e =
+      ap (λ b. cond b (judgedBy h true (checkedOf c ht m root st a d) (walkedOf c ht m 0 (whole c st root a))) (plainOf c ht m h root st a)) e
+
+  pub unshadowed-on : (r : Walked) → c .bits ≡ true → walkedOf c ht m 0 (whole c st root a) ≡ r → unshadowedOf c ht m h root st a d ≡ judgedBy h true (checkedOf c ht m root st a d) r
+  unfolding unshadowedOf
+  unshadowed-on r e k =
+      ap (λ b. cond b (judgedBy h true (checkedOf c ht m root st a d) (walkedOf c ht m 0 (whole c st root a))) (plainOf c ht m h root st a)) e
+      ∙ ap (judgedBy h true (checkedOf c ht m root st a d)) k
+
+  module _ (t : ℕ) (v : Bool) where
+    pub through-off : c .bits ≡ false → throughOf c ht m h root st a d t v ≡ servedOf c ht m h st a d t v 0
+    unfolding throughOf
+    through-off e = ap (λ b. cond b (judgedBy h (lack c ht m st a d t v) (checkedOf c ht m root st a d) (directOf c ht m st a d t v)) (servedOf c ht m h st a d t v 0)) e
+
+    pub through-on : (l : Bool) (r : Walked) → c .bits ≡ true → (lack c ht m st a d t v) ≡ l → directOf c ht m st a d t v ≡ r → throughOf c ht m h root st a d t v ≡ judgedBy h l (checkedOf c ht m root st a d) r
+    unfolding throughOf
+    through-on l r e x k =
+        ap (λ b. cond b (judgedBy h (lack c ht m st a d t v) (checkedOf c ht m root st a d) (directOf c ht m st a d t v)) (servedOf c ht m h st a d t v 0)) e
+        ∙ ap₂ (λ b y. judgedBy h b (checkedOf c ht m root st a d) y) x k
+
+    -- an end before the word is said as it is, whatever lacks
+    pub through-end : (r : Walked) → c .bits ≡ true → directOf c ht m st a d t v ≡ r → throughOf c ht m h root st a d t v ≡ judgedBy h (lack c ht m st a d t v) (checkedOf c ht m root st a d) r
+    through-end r e k = through-on (lack c ht m st a d t v) r e refl k
+
+    -- judged where a bit lacks, and otherwise served as ever
+    pub through-part : throughOf c ht m h root st a d t v
+        ≡ cond (partOf c ht m st a d t v .lack) (judgedBy h true (checkedOf c ht m root st a d) (directOf c ht m st a d t v)) (servedOf c ht m h st a d t v 0)
+    unfolding throughOf partOf servedOf
+    through-part = by (c .bits) (lack c ht m st a d t v) (directOf c ht m st a d t v)
+      where
+        by : (b l : Bool) (r : Walked) → cond b (judgedBy h l (checkedOf c ht m root st a d) r) (translation h (0 + exitBy r) r false)
+            ≡ cond (lackingBy (b && l) r) (judgedBy h true (checkedOf c ht m root st a d) r) (translation h (0 + exitBy r) r false)
+        by false l (walked.Arrived p x n) = refl
+        by false l (walked.Faulted x n) = refl
+        by false l walked.Damaged = refl
+        by true true (walked.Arrived p x n) = refl
+        by true false (walked.Arrived p x n) = refl
+        by true l (walked.Faulted x n) = ap (λ e. translation h e (walked.Faulted x n) false) (sym (zero-add (exitBy (walked.Faulted x n))))
+        by true l walked.Damaged = refl
+
+    -- by the part that was walked
+    pub through-by : (x : Part) → x ≡ partOf c ht m st a d t v
+        → throughOf c ht m h root st a d t v ≡ cond (x .lack) (judgedBy h true (checkedOf c ht m root st a d) (x .walked)) (translation h (exitBy (x .walked)) (x .walked) false)
+    unfolding partOf servedOf
+    through-by x e =
+        through-part
+        ∙ ap (λ k. cond (partOf c ht m st a d t v .lack) (judgedBy h true (checkedOf c ht m root st a d) (directOf c ht m st a d t v)) (translation h k (directOf c ht m st a d t v) false)) (zero-add (exitBy (directOf c ht m st a d t v)))
+        ∙ sym (ap (λ (y : Part). cond (y .lack) (judgedBy h true (checkedOf c ht m root st a d) (y .walked)) (translation h (exitBy (y .walked)) (y .walked) false)) e)
+
+    module _ (gs : List ℕ) (n : ℕ) where
+      pub arrived-off : c .bits ≡ false → arrivedOf c ht m h root gs st a d n t v ≡ laxOf c m h gs a d t v (directOf c ht m st a d t v)
+      unfolding arrivedOf
+      arrived-off e =
+          ap (λ b. cond b (strictBy c m h gs st a d n t v (checkedOf c ht m root st a d) (directOf c ht m st a d t v)) (laxOf c m h gs a d t v (directOf c ht m st a d t v))) e
+
+      pub arrived-on : c .bits ≡ true → arrivedOf c ht m h root gs st a d n t v ≡ strictBy c m h gs st a d n t v (checkedOf c ht m root st a d) (directOf c ht m st a d t v)
+      unfolding arrivedOf
+      arrived-on e =
+          ap (λ b. cond b (strictBy c m h gs st a d n t v (checkedOf c ht m root st a d) (directOf c ht m st a d t v)) (laxOf c m h gs a d t v (directOf c ht m st a d t v))) e
+
+  -- a walk of the shadow part, by what it came to
+  pub missed-by : (r : Trail) → trailOf c ht m 0 (walk c st root (pathIndexes c d a)) ≡ r → missedOf c ht m h root st a d ≡ missedBy c ht m h root st a d (r .tables) (r .walked)
+  unfolding missedOf
+  missed-by r e = ap (λ (x : Trail). missedBy c ht m h root st a d (x .tables) (x .walked)) e
+
+pub lax-broken : (c : Config) (m : List ℕ) (h : Held) (gs : List ℕ) (a d t : ℕ) (w : Bool) (r : Walked) (b : Bool) → brokenBy r ≡ b
+    → laxOf c m h gs a d t w r ≡ cond b (damaged h m) (filledOf c m h gs a d t w (1 + exitBy r) r false)
+unfolding laxOf
+lax-broken c m h gs a d t w r b e = ap (λ x. cond x (damaged h m) (filledOf c m h gs a d t w (1 + exitBy r) r false)) e
