@@ -5,7 +5,7 @@ use Prim.Native.Nat.{ℕ, zero, suc, _+_, _-_, _<_}
 use native.Mathlib.Omega.{arith}
 use mathlib.Core.Bool.{Bool, true, false, not, _&&_, _||_, cond}
 use mathlib.Core.List.{List, [], _∷_}
-use mathlib.Core.Option.{Option, none, some}
+use mathlib.Core.Option.{some}
 use lib.Dec.{eqb}
 use borrow.Author.Tests.{ne-eqb}
 use lib.ListN.{getD, length}
@@ -16,8 +16,7 @@ use Rattle.spec_laws.proofs.Indexes.{indexes-step}
 use Rattle.words.specs.Words.{wordIn, setIn}
 use Rattle.host.specs.Walk.{hostWalkOf}
 use Rattle.walk.specs.Memory.{placeOf, memoryWorld}
-use Rattle.accessed.specs.declared.Debt.{Debt}
-use Rattle.accessed.specs.declared.Debt.the-variants.{Nothing, Table}
+use Rattle.accessed.specs.declared.Debt.the-variants.{Table}
 use Rattle.accessed.specs.Entries.{entries, wordsOf, namesOf, owedBy, owedOf, bitsIn}
 
 entries-step : (ts : List ℕ) (k n page : ℕ) → 0 < n

@@ -2,11 +2,10 @@
 -- Assumes nothing.
 use mathlib.Core.Path.{_≡_, refl, sym, ap, ap₂, _∙_, subst}
 use Prim.Native.Nat.{ℕ, zero, suc, pred, _+_, _<_, _≤_}
-use native.Mathlib.Nat.{zero-add}
 use native.Mathlib.Omega.{arith}
 use mathlib.Core.Bool.{Bool, true, false}
 use mathlib.Core.List.{List, [], _∷_, map}
-use mathlib.Core.Option.{Option, none, some}
+use mathlib.Core.Option.{some}
 use lib.Dec.{eqb, ltb}
 use borrow.Author.Tests.{eqb-true, eqb-false, ltb-true, ltb-false}
 use lib.ListN.{length, getD, set, replicate, length-set, List·getD-eq-default}
@@ -26,7 +25,6 @@ use Rattle.layout.specs.Layout.{page}
 use Rattle.layout.proofs.Laws.{InGuestArea, HostFits}
 use Rattle.host.specs.Walk.{hostWalkOf}
 use Rattle.host.proofs.Laws.{host-fits}
-use Rattle.walk.specs.declared.Walked.{Walked}
 use Rattle.walk.specs.declared.Walked.the-variants as walked
 use Rattle.walk.specs.Memory.{placeOf, memoryWorld, absentBy, walkedBy, walkedOf, noted, framesOf, trailFrom, trailOf}
 use Rattle.walk.proofs.Trails.{noted-at}

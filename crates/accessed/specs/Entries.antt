@@ -8,7 +8,7 @@ use lib.ListN.{getD}
 use Rattle.spec.specs.Config.{Config}
 use Rattle.spec.specs.Entry.{frameOf, frameLimit}
 use Rattle.spec.specs.Walk.{World}
-use Rattle.spec.specs.Bits.{isLast, withBits, lacks, owed}
+use Rattle.spec.specs.Bits.{isLast, withBits, owed}
 use Rattle.words.specs.Words.{wordIn, setIn}
 use Rattle.walk.specs.Memory.{memoryWorld}
 use Rattle.accessed.specs.declared.Debt.{Debt}

@@ -1,38 +1,27 @@
 -- Accessed and dirty bits over memory are the machine's: what lacks one, what is owed, and what own bit writes leave.
 -- Assumes nothing.
-use mathlib.Core.Path.{_≡_, refl, sym, ap, ap₂, _∙_, subst}
-use mathlib.Core.Logic.{inr}
-use Prim.Native.Nat.{ℕ, _+_, _-_, _*_, _^_, _<_, _≤_}
-use native.Mathlib.Omega.{arith}
-use mathlib.Core.Bool.{Bool, true, false, _&&_, cond}
-use mathlib.Core.List.{List, [], _∷_}
-use mathlib.Core.Option.{Option, none, some}
-use lib.ListN.{length, drop, set, length-set}
+use mathlib.Core.Path.{_≡_, ap, ap₂, _∙_}
+use Prim.Native.Nat.{ℕ, _-_, _^_, _<_}
+use mathlib.Core.Bool.{Bool}
+use mathlib.Core.List.{List}
 use Rattle.spec.specs.declared.Fault.{Fault}
-use Rattle.spec.specs.Config.{Config, guestBase, frameBits}
-use Rattle.spec.specs.Entry.{indexes, pageOf}
+use Rattle.spec.specs.Config.{Config, frameBits}
+use Rattle.spec.specs.Entry.{pageOf}
 use Rattle.spec.specs.Prefix.{All}
-use Rattle.spec.specs.Walk.{Walk, World, Trace, Result, granted, trace}
-use Rattle.spec.specs.Plain.{Place, levels, walk}
-use Rattle.spec.specs.Machine.{Machine, world, place, wordIn, stored}
-use Rattle.spec.specs.Bits.{isLast, withBits, lacks, owed, dirtyAt, setBits}
-use Rattle.spec.specs.Book.{Held, find}
+use Rattle.spec.specs.Walk.{Walk, World, Trace, granted, trace}
+use Rattle.spec.specs.Plain.{Place, levels}
+use Rattle.spec.specs.Machine.{Machine, world}
+use Rattle.spec.specs.Bits.{lacks, owed}
 use Rattle.spec.specs.Call.{addressIndexes, plain}
-use Rattle.spec.specs.Run.{State}
 use Rattle.spec_laws.proofs.Lists.{all-map}
-use Rattle.spec_laws.proofs.Local.{SameMapping, SameHost, SameWord}
-use Rattle.spec_laws.proofs.Asks.{Guest, Asked, walk-asks}
+use Rattle.spec_laws.proofs.Local.{SameMapping, SameWord}
+use Rattle.spec_laws.proofs.Asks.{Guest, walk-asks}
 use Rattle.spec_laws.proofs.Indexes.{indexes-all}
-use Rattle.spec_laws.proofs.EntryBits.{with-kept}
-use Rattle.spec_laws.proofs.SetBits.{MoreBits, set-more, lacks-on, owed-on, dirty-on}
-use Rattle.words.specs.Words as words
+use Rattle.spec_laws.proofs.SetBits.{lacks-on, owed-on}
 use Rattle.layout.proofs.Laws.{InGuestArea}
-use Rattle.walk.specs.declared.Walked.{Walked}
-use Rattle.walk.specs.declared.Walked.the-variants as walked
 use Rattle.walk.specs.Memory.{memoryWorld, walkedOf}
 use Rattle.walk.proofs.Stands.{Stands, plainWalked, same-host, same-word, asked, stands-trace, root-walked}
 use Rattle.accessed.specs.Entries.{bitsIn}
-use Rattle.translate.specs.declared.Checked.{Checked}
 use Rattle.translate.specs.Translate.{whole, owingBy, checkedBy, checkedOf}
 use Rattle.request.specs.Access.{setBy, bitsOf}
 

@@ -10,8 +10,7 @@ use native.Mathlib.Omega.{arith}
 use mathlib.Core.Bool.{Bool, true, false, not, _&&_, cond}
 use mathlib.Core.List.{List, [], _∷_, _++_}
 use mathlib.Core.Option.{Option, none, some}
-use lib.Dec.{T, eqb, leb, leb→le, nleb→lt}
-use borrow.Author.Tests.{ne-eqb}
+use lib.Dec.{T, leb, leb→le, nleb→lt}
 use lib.ListN.{length, getD, set}
 use Rattle.spec.specs.declared.Answer.the-variants as answer
 use Rattle.spec.specs.declared.Fault.{Fault}
@@ -92,12 +91,6 @@ outside-beside c e = record {
   else = λ g o k l. e .same (g * 512 + k) (elim o [ inl z ↦ inl (omega arith) | inr z ↦ inr (omega arith) ]);
 }
 
--- a held path that serves on the book serves in the unit
-serving : (st : Bool) (d : ℕ) (h : Held) → T (serves st d (some h)) → servesOf st d (h .right) ≡ true
-unfolding servesOf
-serving st zero h k = is-true (serves st 0 (some h)) k
-serving st (suc d) h k = let z : eqb (suc d) 0 ≡ false = ne-eqb (suc d) 0 (λ e. omega arith) in rw z
-
 -- entries that come after others, all of which lack no bit
 lacks-later : (w : World) (st : Bool) (xs ys : List (ℕ × ℕ)) → lacks w st (xs ++ ys) ≡ false → lacks w st ys ≡ false
 unfolding lacks
@@ -126,7 +119,7 @@ module _ (s : State) (r : Record) (m : List ℕ) (inv : Inv s r m) (a : ℕ) whe
     where
       go : (o : Option Held) → find path (s .book .held) ≡ o → T (serves st deep o) → (h : Held) × (find path (s .book .held) ≡ some h) × (servesOf st deep (h .right) ≡ true)
       go none e z = absurd z
-      go (some h) e z = (h, e, serving st deep h z)
+      go (some h) e z = (h, e, sym (translates.serves-is st deep h) ∙ is-true (serves st deep (some h)) z)
   by-path st (inr k) low = absurd (omega (arith, low, k))
 
   -- the unit finds it

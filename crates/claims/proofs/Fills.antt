@@ -2,30 +2,29 @@
 -- Assumes nothing.
 use mathlib.Core.Path.{_≡_, refl, sym, ap, ap₂, _∙_, subst}
 use mathlib.Core.Logic.{inr}
-use Prim.Native.Nat.{ℕ, zero, suc, _+_, _-_, _*_, _/_, _^_, _<_, _≤_}
-use native.Mathlib.Nat.{zero-add}
+use Prim.Native.Nat.{ℕ, zero, suc, _-_, _*_, _/_, _^_, _<_, _≤_}
 use native.Mathlib.Omega.{arith}
 use mathlib.Core.Bool.{Bool, true, false, not, _&&_, _||_, cond}
 use mathlib.Core.List.{List, [], _∷_}
 use mathlib.Core.Option.{Option, none, some}
-use lib.Dec.{T, eqb, leb, ltb, leb→le, le→leb}
-use borrow.Author.Tests.{lt-ltb, le-ltb, le-leb, lt-leb, ltb-true, ltb-false, ne-eqb}
-use lib.ListN.{length, drop}
+use lib.Dec.{T, eqb, leb, ltb}
+use borrow.Author.Tests.{lt-ltb, le-ltb, le-leb, lt-leb, ltb-true, ltb-false}
+use lib.ListN.{length}
 use Rattle.spec.specs.declared.Fault.{Fault}
 use Rattle.spec.specs.Config.{Config}
-use Rattle.spec.specs.Entry.{present, indexes, pageOf}
+use Rattle.spec.specs.Entry.{present, pageOf}
 use Rattle.spec.specs.Prefix.{same, begins}
-use Rattle.spec.specs.Walk.{World, Trace, Result, granted, failed, trace}
-use Rattle.spec.specs.Plain.{Place, levels, walk, upper, directPart}
+use Rattle.spec.specs.Walk.{World, Trace, granted, trace}
+use Rattle.spec.specs.Plain.{Place, levels, walk}
 use Rattle.spec.specs.Machine.{Machine, world}
 use Rattle.spec.specs.Book.{Held, find, fill, holding, shadowTables}
 use Rattle.spec.specs.Bits.{dirtyAt}
 use Rattle.spec.specs.Count.{serves, heldBy, rightOf, others}
 use Rattle.spec.specs.Run.{State}
 use Rattle.spec.specs.Prefix.{All}
-use Rattle.spec_laws.proofs.Lists.{all-map, is-true, is-false}
+use Rattle.spec_laws.proofs.Lists.{all-map}
 use Rattle.spec_laws.proofs.Local.{SameWord}
-use Rattle.spec_laws.proofs.Indexes.{indexes-length, indexes-all}
+use Rattle.spec_laws.proofs.Indexes.{indexes-all}
 use Rattle.spec_laws.proofs.Depth.{PathFits, no-proper-prefix}
 use Rattle.spec_laws.proofs.Keeps.{Valid, held-place, fill-valid}
 use Rattle.spec_laws.proofs.SetBits.{dirty-on}
@@ -34,7 +33,6 @@ use Rattle.spec_laws.proofs.Runs.{BookFits, fill-all, fill-keeps}
 use Rattle.area_laws.proofs.Paths.{onto}
 use Rattle.area_laws.proofs.Whole.{Holds, Next}
 use Rattle.layout.proofs.Laws.{InGuestArea}
-use Rattle.walk.specs.Memory.{walkedOf}
 use Rattle.walk.specs.declared.Walked.{Walked}
 use Rattle.walk.proofs.Stands.{Stands, stands-trace}
 use Rattle.accessed.specs.Entries.{wordsOf}
@@ -46,18 +44,17 @@ use Rattle.shadow.specs.Held.{shadowArea, entryFor}
 use Rattle.shadow.specs.Fill.{fillOf}
 use Rattle.shadow.proofs.Parts.{entry-present}
 use Rattle.drops_laws.proofs.Held.{leafAt}
-use Rattle.drops_laws.proofs.Find.{find-all}
 use Rattle.drops_laws.proofs.Fill.{trail-is, fill-is}
 use Rattle.drops_laws.proofs.Valid.{framesAt, entryOf, entry-thin, valid-frame, inside-area, Stays, stays-same}
 use Rattle.translate.specs.Translate.{holding as holdingAt, translation, fillBy, filledOf, passesOf}
 use Rattle.translate.specs.declared.Held.{Held as Holding}
 use Rattle.record.specs.Record.{headTables}
 use Rattle.area_laws.proofs.Paths.{Guests}
-use Rattle.walk.specs.Memory.{memoryWorld, trailFrom, trailOf}
+use Rattle.walk.specs.Memory.{memoryWorld, trailOf}
 use Rattle.spec_laws.proofs.Asks.{Guest, walk-asks}
 use Rattle.calls.specs.Calls.{hostTop, heldOf, headHeld, withHeld}
 use Rattle.claims.proofs.Invariant.{longer, topBy, frames, Inv, stands}
-use Rattle.claims.proofs.Moves.{fits-held, maps-beside, shadow-drop, invariant, shadow-on, at-inv}
+use Rattle.claims.proofs.Moves.{fits-held, maps-beside, shadow-drop, invariant, shadow-on}
 use Rattle.claims.proofs.Bits.{walk-words}
 use Rattle.claims.proofs.Found as found
 use Rattle.words.specs.After.{After, yields}

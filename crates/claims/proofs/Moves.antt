@@ -22,7 +22,7 @@ use Rattle.spec.specs.Count.{bookStep}
 use Rattle.spec.specs.Refusal.{firstFailed, refusal}
 use Rattle.spec.specs.Run.{State, told, step}
 use Rattle.spec.specs.Prefix.{All}
-use Rattle.spec_laws.proofs.Lists.{all-map, all-kept}
+use Rattle.spec_laws.proofs.Lists.{all-kept}
 use Rattle.spec_laws.proofs.Trail.{frameIn, frameAt}
 use Rattle.spec_laws.proofs.Keeps.{Valid}
 use Rattle.spec_laws.proofs.Runs.{BookFits, step-fits}

@@ -1,23 +1,21 @@
 -- Own bit writes over any memory: they set bits 5 and 6 of guest words, and change nothing else.
 -- Assumes nothing.
-use mathlib.Core.Path.{_≡_, refl, sym, ap, ap₂, _∙_, subst}
-use mathlib.Core.Logic.{_⊎_, inl, inr}
+use mathlib.Core.Path.{_≡_, refl, sym, ap, _∙_, subst}
+use mathlib.Core.Logic.{inl, inr}
 use Prim.Native.Nat.{ℕ, _+_, _*_, _<_}
 use native.Mathlib.Omega.{arith}
-use mathlib.Core.Bool.{Bool, true, false, _&&_, _||_, cond}
+use mathlib.Core.Bool.{Bool, true, false, _&&_, _||_}
 use mathlib.Core.List.{List, [], _∷_, map}
 use lib.Dec.{eqb, ltb}
 use borrow.Author.Tests.{eqb-true, eqb-false, ltb-true, ltb-false}
 use lib.ListN.{length, drop, set, getD, length-set}
 use lib.Seq.{getD-drop, getD-set-same, getD-set-other, set-out}
-use Rattle.spec.specs.declared.Fault.{Fault}
 use Rattle.spec.specs.Config.{Config, guestBase}
 use Rattle.spec.specs.Entry.{accessed, dirty, withBit, indexes, pageOf}
 use Rattle.spec.specs.Prefix.{All}
-use Rattle.spec.specs.Walk.{Trace, trace}
-use Rattle.spec.specs.Plain.{Place}
+use Rattle.spec.specs.Walk.{trace}
 use Rattle.spec.specs.Machine.{place}
-use Rattle.spec.specs.Bits.{isLast, hasBits, withBits}
+use Rattle.spec.specs.Bits.{isLast, withBits}
 use Rattle.spec_laws.proofs.Lists.{and-first}
 use Rattle.spec_laws.proofs.Indexes.{indexes-all}
 use Rattle.spec_laws.proofs.EntryBits.{with-has, bits-same}

@@ -21,11 +21,10 @@ use Rattle.spec_laws.proofs.Bind.{bind-cong}
 use Rattle.spec_laws.proofs.Indexes.{indexes-length, indexes-split, indexes-take}
 use Rattle.walk.proofs.Stands.{plainWalked}
 use Rattle.translate.specs.Translate.{exitBy, pathIndexes}
-use Rattle.request.specs.Access.{finishBy, loadBy, storeBy, serving, refused}
+use Rattle.request.specs.Access.{finishBy, loadBy, storeBy, refused}
 use Rattle.translate.specs.declared.Held.{Held as Holding}
 use Rattle.request.specs.declared.Put.{Put}
 use Rattle.translate.specs.declared.Translated.{Translated}
-use Rattle.spec.specs.declared.Answer.the-variants as answer
 use Rattle.walk.specs.declared.Walked.{Walked}
 use Rattle.words.specs.After.{After}
 use Rattle.record.specs.declared.Record.{Record}

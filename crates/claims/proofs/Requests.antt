@@ -47,7 +47,7 @@ use Rattle.accessed.specs.Entries.{bitsIn}
 use Rattle.translate.specs.declared.Held.{Held as Holding}
 use Rattle.request.specs.Access.{bitsOf, settledOf, bytesIn, loadBy, loadFrom, loadOf, writtenBy, storeBy, storeFrom, storeOf, deviceBy, deviceOf}
 use Rattle.calls.specs.Calls.{hostTop, heldOf, headHeld, ended, refused, judged, admitted, placed, withHeld, servedBy, addressOk, translatedOf, loadCall, storeCall, deviceCall}
-use Rattle.claims.proofs.Invariant.{Inv, Follows, stands, at}
+use Rattle.claims.proofs.Invariant.{Inv, Follows, at}
 use Rattle.claims.proofs.Paths.{exit-is}
 use Rattle.claims.proofs.Found as found
 use Rattle.claims.proofs.Moves.{at-inv}
@@ -83,11 +83,6 @@ module _ (s : State) (r : Record) (m : List ℕ) (inv : Inv s r m) (covered : Al
   turned : (n : ℕ) (x : Call) → refusal c x mach (s .book) ≡ some n → Follows x s r (refused r n m)
   unfolding step
   turned n x e = follows-by x s (at c s) r r (answer.Refused n) (say.no n) m (ap (answered x (at c s)) e) refl refl (at-inv inv)
-
-  -- a call with one test, which fails with n
-  pub tested : (n : ℕ) (x : Call) (b : Bool) (y : After Reply) → refusal c x mach (s .book) ≡ firstFailed ((b, n) ∷ []) → (b ≡ true → Follows x s r y) → Follows x s r (cond b y (refused r n m))
-  tested n x true y e f = f refl
-  tested n x false y e f = turned n x e
 
   -- a request of w bytes: 3, 15 and 4; ok: its address is that of so many bytes
   pub placed-by : (x : Call) (w : ℕ) (ok : Bool) (y : After Reply) → refusal c x mach (s .book) ≡ firstFailed ((widthFits w, 15) ∷ (ok, 4) ∷ [])

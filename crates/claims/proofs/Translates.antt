@@ -8,8 +8,8 @@ use mathlib.Core.Bool.{Bool, true, false, not, _&&_, _||_, cond}
 use mathlib.Core.List.{List, [], _∷_, map}
 use mathlib.Core.Option.{Option, none, some}
 use lib.Dec.{eqb, leb, ltb}
-use borrow.Author.Tests.{le-leb, lt-leb, ltb-true, ltb-false, ne-eqb, eq-eqb}
-use lib.ListN.{length, drop}
+use borrow.Author.Tests.{le-leb, lt-leb, ltb-true, ltb-false, ne-eqb}
+use lib.ListN.{length}
 use Rattle.spec.specs.declared.Fault.{Fault}
 use Rattle.spec.specs.declared.Fault.the-variants.{HostReadOnly}
 use Rattle.spec.specs.Config.{Config}
@@ -39,19 +39,20 @@ use Rattle.layout.specs.Layout.{page}
 use Rattle.layout.proofs.Laws.{InGuestArea}
 use Rattle.walk.specs.declared.Walked.{Walked}
 use Rattle.walk.specs.declared.Walked.the-variants as walked
-use Rattle.walk.specs.Memory.{memoryWorld, walkedOf, trailFrom, trailOf}
-use Rattle.walk.proofs.Stands.{Stands, plainWalked, root-walked, table-walked}
+use Rattle.walk.specs.Memory.{memoryWorld, walkedOf, trailFrom}
+use Rattle.walk.proofs.Stands.{plainWalked, root-walked, table-walked}
 use Rattle.accessed.proofs.Walks.{walk-read}
 use Rattle.marks.proofs.Book.{depth-book}
 use Rattle.record.specs.declared.Record.{Record}
 use Rattle.record.specs.Record.{configOf, headTables}
 use Rattle.drops_laws.proofs.Find.{find-all}
 use Rattle.drops_laws.proofs.Valid.{framesAt, valid-frame, inside-area}
-use Rattle.translate.specs.declared.Checked.{Checked}
 use Rattle.translate.specs.declared.Translated.{Translated}
+use Rattle.translate.specs.declared.Verdict.{Verdict}
+use Rattle.translate.specs.declared.Verdict.the-variants as verdictIs
 use Rattle.translate.specs.declared.Held.{Held as Holding}
-use Rattle.translate.specs.Translate.{translation, exitBy, direct, directOf, servedOf, plainOf, whole, owingBy, checkedOf, settledBy, judgedBy, throughOf, unshadowedOf, servesOf, foundOf, passesOf, filledOf, plainly, grantBy, strictBy, brokenBy, laxOf, arrivedOf, missedBy, missedOf, foundBy, translateOf}
-use Rattle.translate.proofs.Bits.{through-off, through-on, unshadowed-off, unshadowed-on, arrived-off, arrived-on, missed-by, lax-broken}
+use Rattle.translate.specs.Translate.{translation, exitBy, direct, directOf, servedOf, plainOf, whole, owingBy, checkedOf, settledBy, throughOf, unshadowedOf, servesOf, foundOf, filledOf, plainly, clearedBy, strictBy, brokenBy, laxBy, ruledBy, arrivedOf, missedBy, missedOf, foundBy, translateOf}
+use Rattle.translate.proofs.Bits.{through-off, through-on, unshadowed-off, unshadowed-on, arrived-off, arrived-on, missed-by}
 use Rattle.words.specs.After.{After, yields}
 use Rattle.calls.specs.Calls.{hostTop, heldOf, headHeld, withHeld, depthAt, translatedOf}
 use Rattle.claims.proofs.Invariant.{frames, Inv}
@@ -103,6 +104,12 @@ reads-long (x ∷ xs) = ap suc (reads-long xs)
 
 no : {A : Type 0} → _≡_ {A = Bool} false true → A
 no e = let z : _≡_ {A = ℕ} 0 1 = cc in absurd (omega arith)
+
+-- a held path serves in the unit as on the book
+pub serves-is : (st : Bool) (d : ℕ) (h : Held) → serves st d (some h) ≡ servesOf st d (h .right)
+unfolding servesOf
+serves-is st zero h = refl
+serves-is st (suc d) h = let z : eqb (suc d) 0 ≡ false = ne-eqb (suc d) 0 (λ e. omega arith) in rw z
 
 module _ (s : State) (r : Record) (m : List ℕ) (inv : Inv s r m) (covered : All (Covered (configOf r) (s .machine)) (s .book .held)) (st : Bool) (a : ℕ) where
   abbrev c : Config
@@ -207,11 +214,6 @@ module _ (s : State) (r : Record) (m : List ℕ) (inv : Inv s r m) (covered : Al
   own-whole e = lacks-bits c st mach all e
 
   -- ---- a held path that serves
-  pub serves-is : (d : ℕ) (h : Held) → serves st d (some h) ≡ servesOf st d (h .right)
-  unfolding servesOf
-  serves-is zero h = refl
-  serves-is (suc d) h = let z : eqb (suc d) 0 ≡ false = ne-eqb (suc d) 0 (λ e. omega arith) in rw z
-
   module _ (h : Held) (low : deep ≤ c .levels) (held : find path (s .book .held) ≡ some h) (sv : servesOf st deep (h .right) ≡ true) where
     pub valid : Valid c mach h
     valid = find-all (Valid c mach) path h (s .book .held) (inv .valid) held
@@ -260,7 +262,7 @@ module _ (s : State) (r : Record) (m : List ℕ) (inv : Inv s r m) (covered : Al
     its = find-all (Covered c mach) path h (s .book .held) covered held
 
     ok : serves st deep (some h) ≡ true
-    ok = serves-is deep h ∙ sv
+    ok = serves-is st deep h ∙ sv
 
     abbrev rested : Trace Fault Place
     rested = rest t (valid .wide) low held-in
@@ -444,6 +446,10 @@ module _ (s : State) (r : Record) (m : List ℕ) (inv : Inv s r m) (covered : Al
       onward-came : (x : Result Fault Place) → onward .result ≡ x → directOf c ht m st a deep t wide ≡ cameTo (rightIn x) x onward-refs
       onward-came x e = direct-is t wide low onward-here ∙ ap (λ y. cameTo (rightIn y) y onward-refs) e
 
+      -- by the verdict on what the direct part came to
+      abbrev ruled : Walked → Verdict → After Translated
+      ruled = ruledBy c m hold (fills.gs s r m inv st a) a deep t
+
       missed-at : missed ≡ arrivedOf c ht m hold rt (fills.gs s r m inv st a) st a deep (part .count) t wide
       missed-at = missed-is (walked.Arrived (page t) wide (part .count)) (ap (λ y. plainWalked y (part .count)) shadow-comes)
 
@@ -489,8 +495,8 @@ module _ (s : State) (r : Record) (m : List ℕ) (inv : Inv s r m) (covered : Al
           let v : verdict c mach st a ≡ x = off-verdict c mach st a off ∙ parts .0 in
           by-fill (1 + hostExit x) x false v (ap (λ y. 1 + y) (late x o)) (ap (λ b. b && not (isGranted (verdict c mach st a))) off)
           (missed-at ∙ arrived-off c ht m hold rt st a deep t wide (fills.gs s r m inv st a) (part .count) off
-          ∙ ap (laxOf c m hold (fills.gs s r m inv st a) a deep t wide) (onward-came x refl)
-          ∙ lax-broken c m hold (fills.gs s r m inv st a) a deep t wide (cameTo (rightIn x) x onward-refs) false (not-broken (rightIn x) x onward-refs)
+          ∙ ap (λ y. ruled y (laxBy wide y)) (onward-came x refl)
+          ∙ ap (λ b. ruled (cameTo (rightIn x) x onward-refs) (cond b verdictIs.Damaged (verdictIs.Fill wide false))) (not-broken (rightIn x) x onward-refs)
           ∙ ap₂ (λ b i. filledOf c m hold (fills.gs s r m inv st a) a deep t b (1 + i) (cameTo (rightIn x) x onward-refs) false) (sym (fills.right-is s r m inv st a t wide low shadow-comes off)) (came-exit (rightIn x) x onward-refs))
           (λ z g. off-bits c st mach all off) no
         where
@@ -499,10 +505,10 @@ module _ (s : State) (r : Record) (m : List ℕ) (inv : Inv s r m) (covered : Al
           late (granted z) o = ap (λ u. lateExit deep u (granted z)) o
 
       strict-at : c .bits ≡ true → (x : Result Fault Place) → onward .result ≡ x
-          → missed ≡ strictBy c m hold (fills.gs s r m inv st a) st a deep (part .count) t wide (checkedOf c ht m rt st a deep) (cameTo (rightIn x) x onward-refs)
+          → missed ≡ ruled (cameTo (rightIn x) x onward-refs) (strictBy c m (fills.gs s r m inv st a) st a deep (part .count) wide (checkedOf c ht m rt st a deep) (cameTo (rightIn x) x onward-refs))
       strict-at on x e =
           missed-at ∙ arrived-on c ht m hold rt st a deep t wide (fills.gs s r m inv st a) (part .count) on
-          ∙ ap (strictBy c m hold (fills.gs s r m inv st a) st a deep (part .count) t wide (checkedOf c ht m rt st a deep)) (onward-came x e)
+          ∙ ap (λ y. ruled y (strictBy c m (fills.gs s r m inv st a) st a deep (part .count) wide (checkedOf c ht m rt st a deep) y)) (onward-came x e)
 
       missed-on : c .bits ≡ true → (x : Result Fault Place) → onward .result ≡ x → Translates s r m st a price missed
       missed-on on (failed x) e =
@@ -511,10 +517,10 @@ module _ (s : State) (r : Record) (m : List ℕ) (inv : Inv s r m) (covered : Al
       missed-on on (granted q) e = by owing refl
         where
           grant : (o : Option (ℕ × ℕ)) → owing ≡ o
-              → missed ≡ grantBy c m hold (fills.gs s r m inv st a) st a deep (part .count) t wide (walked.Arrived (page (q .0)) (q .1) onward-refs) onward-refs (owingBy deep (lacks w st (all .reads)) o)
+              → missed ≡ ruled (walked.Arrived (page (q .0)) (q .1) onward-refs) (clearedBy c m (fills.gs s r m inv st a) st a deep (part .count) wide onward-refs (owingBy deep (lacks w st (all .reads)) o))
           grant o z =
               strict-at on (granted q) e
-              ∙ ap (grantBy c m hold (fills.gs s r m inv st a) st a deep (part .count) t wide (walked.Arrived (page (q .0)) (q .1) onward-refs) onward-refs)
+              ∙ ap (λ y. ruled (walked.Arrived (page (q .0)) (q .1) onward-refs) (clearedBy c m (fills.gs s r m inv st a) st a deep (part .count) wide onward-refs y))
               (checked-is q (parts .0 ∙ e) ∙ ap (owingBy deep (lacks w st (all .reads))) (owes-on on ∙ z))
 
           by : (o : Option (ℕ × ℕ)) → owing ≡ o → Translates s r m st a price missed
@@ -556,7 +562,7 @@ module _ (s : State) (r : Record) (m : List ℕ) (inv : Inv s r m) (covered : Al
               → Translates s r m st a price (cond (servesOf st deep (h .right)) (yields (throughOf c ht m hold rt st a deep (frames r m (onto [] path)) (h .right)) m) (missedOf c ht m hold rt st a deep))
           by true q = subst (λ b. Translates s r m st a price (cond b (yields (throughOf c ht m hold rt st a deep (frames r m (onto [] path)) (h .right)) m) (missedOf c ht m hold rt st a deep))) (sym q) (served-path h low e q)
           by false q = subst (λ b. Translates s r m st a price (cond b (yields (throughOf c ht m hold rt st a deep (frames r m (onto [] path)) (h .right)) m) (missedOf c ht m hold rt st a deep))) (sym q)
-              (missed-path low (ap (serves st deep) e ∙ serves-is deep h ∙ q))
+              (missed-path low (ap (serves st deep) e ∙ serves-is st deep h ∙ q))
 
   -- at depth N + 1 the whole plain walk; what is held stays as it is
   plain-translates : c .levels < deep → Translates s r m st a price (yields (unshadowedOf c ht m hold rt st a deep) m)

@@ -17,7 +17,7 @@ use Rattle.spec.specs.declared.Fault.{Fault}
 use Rattle.spec.specs.declared.Fault.the-variants.{Absent, Malformed, Protected, HostAbsent, HostReadOnly}
 use Rattle.spec.specs.Config.{Config}
 use Rattle.spec.specs.Entry.{present, writable, frameOf, malformed, pageOf, indexes, entryLimit}
-use Rattle.spec.specs.Walk.{Walk, done, fail, host, word, _>>=_, World, Trace, granted, trace}
+use Rattle.spec.specs.Walk.{Walk, done, fail, host, word, _>>=_, World, Trace, trace}
 use Rattle.spec.specs.Plain.{Place, must, hosted, entry, next, levels, walk}
 use Rattle.spec.specs.Bits.{isLast, withBits, lacks, owed}
 use Rattle.spec.specs.Refusal.{inGuestArea}

@@ -2,12 +2,12 @@
 -- Assumes nothing.
 use mathlib.Core.Path.{_≡_, refl, sym, ap, _∙_}
 use mathlib.Core.Bool.{Bool, true, false, not, _&&_, _||_}
-use Prim.Native.Nat.{ℕ, zero, suc, _+_, _-_, _*_, _/_, _%_, _^_, _<_, _≤_}
-use native.Mathlib.Nat.{zero-add, zero-mul, mod-lt}
+use Prim.Native.Nat.{ℕ, suc, _+_, _-_, _*_, _/_, _%_, _^_, _<_, _≤_}
+use native.Mathlib.Nat.{zero-add, zero-mul, suc-mul, mul-le-mul-right, mod-lt}
 use native.Mathlib.Omega.{arith}
 use borrow.Author.Tests.{eqb-true, eqb-false, ne-eqb, lt-ltb, le-ltb}
 use lib.Dec.{eqb, ltb}
-use lib.Pow.{pow-pos, shr-lt, field, split}
+use lib.Pow.{pow-pos, pow-add, shr-lt, shr-shr, mod-pow-add, field, split}
 use Rattle.spec.specs.Config.{Config, frameBits}
 use Rattle.spec.specs.Entry.{bitSet, frameOf, malformed, index, wordOf}
 use Rattle.entry.specs.Levels.{ofLevels}
@@ -34,14 +34,22 @@ module _ (c : Config) (level e : ℕ) where
       let some = ne-eqb (e / 2 ^ (12 + frameBits c) % 2 ^ (40 - frameBits c)) 0 (λ z. n (high-bits (frameBits c) e (omega arith) ∙ z)) in
       ap (λ (x : Bool). not x || (ltb 1 level && bitSet 7 e)) some
 
--- a bit that is not set
-pub bit-clear : (k e : ℕ) → bitSet k e ≡ false → e / 2 ^ k % 2 ≡ 0
-unfolding bitSet
-bit-clear k e h = go (e / 2 ^ k % 2) (mod-lt (e / 2 ^ k) (omega arith)) (eqb-false (e / 2 ^ k % 2) 1 h)
+-- the room for a bit that is not set: what lies below it does not reach it, and above it the words end at an even number
+pub bit-room : (k e : ℕ) → k < 64 → e < 2 ^ 64 → e / 2 ^ k % 2 ≡ 0 → e + 2 ^ k < 2 ^ 64
+bit-room k e few word none =
+    let above = e / 2 ^ (k + 1) in
+    let whole : 63 - k + (k + 1) ≡ 64 = omega arith in
+    let double : 2 ^ (k + 1) ≡ 2 ^ k + 2 ^ k = let two : 2 ^ k * 2 ^ 1 ≡ 2 ^ k + 2 ^ k = omega arith in pow-add 2 k 1 ∙ two in
+    let half : e / 2 ^ k / 2 ≡ above = shr-shr e k 1 in
+    let low : e % 2 ^ (k + 1) ≡ e / 2 ^ k % 2 * 2 ^ k + e % 2 ^ k = rw (comm k) (mod-pow-add e 1 k) in
+    let clear : e / 2 ^ k % 2 * 2 ^ k ≡ 0 = ap (λ (x : ℕ). x * 2 ^ k) none ∙ zero-mul (2 ^ k) in
+    let fits : above < 2 ^ (63 - k) = shr-lt (63 - k) (k + 1) (rw whole word) in
+    let end : suc above * 2 ^ (k + 1) ≤ 2 ^ (63 - k) * 2 ^ (k + 1) = mul-le-mul-right (2 ^ (k + 1)) (omega (arith, fits)) in
+    let all : 2 ^ (63 - k) * 2 ^ (k + 1) ≡ 2 ^ 64 = sym (pow-add 2 (63 - k) (k + 1)) ∙ ap (λ (n : ℕ). 2 ^ n) whole in
+    omega (arith, split e (k + 1), low, clear, mod-lt e (pow-pos k), end, all, suc-mul above (2 ^ (k + 1)), double)
   where
-    go : (x : ℕ) → x < 2 → (x ≡ 1 → ⊥) → x ≡ 0
-    go zero l n = refl
-    go (suc x) l n = absurd (n (omega arith))
+    comm : (k : ℕ) → k + 1 ≡ 1 + k
+    comm k = omega arith
 
 -- ---- ranges
 pub frame-fits : (e : ℕ) → frameOf e < 2 ^ 40

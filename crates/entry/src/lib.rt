@@ -153,25 +153,21 @@ pub fn has_bits(ends: bool, e: u64) -> bool
     if ends { dirty(e) } else { true }
 }
 
-fn with_accessed(e: u64) -> u64
-    ensures { λ r. ⌜ r ≡ withBit 5 e ⌝ }
+// The entry with that bit.
+fn with_bit(e: u64, bit: u64) -> u64
+    requires { ⌜ bit < 64 ⌝ }
+    ensures { λ r. ⌜ r ≡ withBit bit e ⌝ }
 {
-    if accessed(e) { e } else { e + 32 }
+    if (e >> bit) % 2 == 1 {
+        return e;
+    }
+    e + (1u64 << bit)
 }
 
-fn with_dirty(e: u64) -> u64
-    ensures { λ r. ⌜ r ≡ withBit 6 e ⌝ }
-{
-    if dirty(e) { e } else { e + 64 }
-}
-
-// The entry with them.
+// The entry with the bits that it needs.
 pub fn with_bits(ends: bool, e: u64) -> u64
     ensures { λ r. ⌜ r ≡ withBits ends e ⌝ }
 {
-    if ends {
-        with_dirty(with_accessed(e))
-    } else {
-        with_accessed(e)
-    }
+    let seen = with_bit(e, 5);
+    if ends { with_bit(seen, 6) } else { seen }
 }

@@ -1,6 +1,6 @@
 -- What the unit says to a record of a job is what machine and book say.
 -- Assumes nothing.
-use mathlib.Core.Path.{_≡_, refl, sym, ap, _∙_, subst}
+use mathlib.Core.Path.{_≡_, refl, sym, ap, _∙_}
 use Prim.Native.Nat.{ℕ, _*_}
 use mathlib.Core.Bool.{Bool, true, false}
 use mathlib.Core.List.{List, _++_}
@@ -19,7 +19,6 @@ use Rattle.job_records.specs.declared.Job.{Job}
 use Rattle.job_records.specs.declared.Job.the-variants as job
 use Rattle.job_records.specs.Records.{asked}
 use Rattle.job_run.specs.Run.{runOf}
-use Rattle.calls.specs.Calls.{callOf}
 use Rattle.claims.proofs.Invariant.{Inv, at}
 use Rattle.claims.proofs.Opens.{opened-inv, granted-call, refused-call}
 use Rattle.claims.proofs.Demands.{Set, follows, next, at-self, opened-config}

@@ -18,7 +18,7 @@ use Rattle.walk.specs.declared.Walked.{Walked}
 use Rattle.walk.specs.declared.Walked.the-variants as walked
 use Rattle.translate.specs.declared.Held.{Held}
 use Rattle.translate.specs.declared.Translated.{Translated}
-use Rattle.translate.specs.Translate.{HeldFits, translation, exitBy, directOf, servedOf, damaged, checkedOf, judgedBy, partOf, throughOf, unshadowedOf, servesOf, foundOf, missedOf, foundBy, translateOf, unservedOf}
+use Rattle.translate.specs.Translate.{HeldFits, translation, exitBy, directOf, servedOf, damaged, checkedOf, judgedBy, lackingOf, throughOf, unshadowedOf, servesOf, foundOf, missedOf, foundBy, translateOf, unservedOf}
 use Rattle.translate.proofs.Fits.{ArrivedIn, FoundIs, found-is}
 use Rattle.translate.proofs.Bits.{through-part}
 use Rattle.translate.proofs.Leaves.{Leaves, translate-leaves}
@@ -60,7 +60,7 @@ module _ (c : Config) (ht : ℕ) (m : List ℕ) (h : Held) (root : ℕ) (st : Bo
   path-serves t w l e = at-depth l ∙ serves t w (foundOf c m h a d) e
 
   -- where its direct part lacks no bit it comes to what that came to, and is judged by its bits where one lacks
-  pub path-plainly : (t : HostPhysical) (w : Bool) → partOf c ht m st a d (t .0) w .lack ≡ false → d ≤ c .levels → pathHeldOf c m h st a d ≡ host.Found t w
+  pub path-plainly : (t : HostPhysical) (w : Bool) → lackingOf c ht m st a d (t .0) w ≡ false → d ≤ c .levels → pathHeldOf c m h st a d ≡ host.Found t w
       → let r = directOf c ht m st a d (t .0) w in translateOf c ht m h root st a d ≡ yields (translation h (exitBy r) r false) m
   unfolding servedOf
   path-plainly t w none l e =
@@ -69,7 +69,7 @@ module _ (c : Config) (ht : ℕ) (m : List ℕ) (h : Held) (root : ℕ) (st : Bo
       ∙ ap (λ b. yields (cond b (judgedBy h true (checkedOf c ht m root st a d) r) (translation h (0 + exitBy r) r false)) m) none
       ∙ ap (λ x. yields (translation h x r false) m) (zero-add (exitBy r))
 
-  pub path-judged : (t : HostPhysical) (w : Bool) → partOf c ht m st a d (t .0) w .lack ≡ true → d ≤ c .levels → pathHeldOf c m h st a d ≡ host.Found t w
+  pub path-judged : (t : HostPhysical) (w : Bool) → lackingOf c ht m st a d (t .0) w ≡ true → d ≤ c .levels → pathHeldOf c m h st a d ≡ host.Found t w
       → translateOf c ht m h root st a d ≡ yields (judgedBy h true (checkedOf c ht m root st a d) (directOf c ht m st a d (t .0) w)) m
   path-judged t w some l e =
       path-serves t w l e ∙ ap (λ x. yields x m) (through-part c ht m h root st a d (t .0) w)

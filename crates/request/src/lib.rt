@@ -1,12 +1,13 @@
 // Load, store and device store: from an address and its depth to the bytes read or written, and the held paths that a store drops.
 ghost use mathlib.Core.Path.{_≡_};
-ghost use mathlib.Core.Bool.{false};
+ghost use mathlib.Core.Bool.{true, false};
 ghost use Prim.Native.Nat.{_<_, _≤_};
 ghost use Rattle.spec.specs.Bytes.{bytesAt, withBytes};
 ghost use Rattle.spec.specs.Entry.{wordOf, frameLimit};
 ghost use Rattle.words.specs.After.{yields};
 ghost use Rattle.words.specs.Words.{wordIn};
 ghost use Rattle.layout.specs.Layout.{LayoutFits, config};
+ghost use Rattle.shadow.specs.Watch.{watchedOf};
 ghost use Rattle.translate.specs.Translate.{HeldFits, translation};
 ghost use Rattle.request.specs.Access.{Inside, ReachesFrame, setBy, bitsOf, settledOf, droppedOf, bytesIn, pathHeldOf, loadBy, loadOf, finishBy, writtenBy, storeBy, storeFrom, storeOf, deviceOf};
 use entry::GuestPhysical;
@@ -75,25 +76,18 @@ fn put_bytes(mem: &mut [u64], page: HostPhysical, address: u64, width: u64, valu
     words::set_in(mem, page.0, word_of(address), word);
 }
 
-// Before the word of a page around an address is stored to: the held paths whose shadow part read it are dropped. The word is written
-// afterwards, so that damage met here has changed no guest word.
-fn drop_readers(
+// Before the word around an address of a watched page is stored to: the held paths whose shadow part read it are dropped. The word is
+// written afterwards, so that damage met here has changed no guest word.
+fn drop_watched(
     mem: &mut [u64],
     layout: Layout,
     pool: Pool,
     page: HostPhysical,
     address: u64,
 ) -> Put
-    requires { ⌜ (LayoutFits layout) × (pool .fresh ≤ layout .shadows) × (page .0 < frameLimit) ⌝ }
+    requires { ⌜ (LayoutFits layout) × (pool .fresh ≤ layout .shadows) × (page .0 < frameLimit) × (watchedOf (config layout) (now mem) (pool .fresh) (page .0) ≡ true) ⌝ }
     ensures { λ r. ⌜ yields r (now (mem .exit)) ≡ droppedOf (config layout) (now (mem .entry)) pool (page .0) (wordOf address) ⌝ }
 {
-    if !shadow::watched(mem, layout, pool.fresh, page) {
-        return Put {
-            pool: pool,
-            exits: 0,
-            ok: true,
-        };
-    }
     let left = drops::drop_word(mem, layout, pool, page, word_of(address));
     let after = left.pool;
     if left.ok {
@@ -107,6 +101,27 @@ fn drop_readers(
         pool: pool,
         exits: 0,
         ok: false,
+    }
+}
+
+// The same of any page: one that is not watched has no such word.
+fn drop_readers(
+    mem: &mut [u64],
+    layout: Layout,
+    pool: Pool,
+    page: HostPhysical,
+    address: u64,
+) -> Put
+    requires { ⌜ (LayoutFits layout) × (pool .fresh ≤ layout .shadows) × (page .0 < frameLimit) ⌝ }
+    ensures { λ r. ⌜ yields r (now (mem .exit)) ≡ droppedOf (config layout) (now (mem .entry)) pool (page .0) (wordOf address) ⌝ }
+{
+    if shadow::watched(mem, layout, pool.fresh, page) {
+        return drop_watched(mem, layout, pool, page, address);
+    }
+    Put {
+        pool: pool,
+        exits: 0,
+        ok: true,
     }
 }
 
@@ -265,9 +280,9 @@ pub fn load(
                     let exits = translate::exit_of(walked);
                     return loaded(mem, held, held, walked, exits, address.0, width);
                 }
-                let part = translate::direct_part(mem, space, request, page, writable);
-                let walked = part.walked;
-                if !part.lack {
+                let trail = translate::direct_trail(mem, space, request, page, writable);
+                let walked = trail.walked;
+                if !translate::lacking(mem, space.layout, request, walked, &trail.tables) {
                     let exits = translate::exit_of(walked);
                     return loaded(mem, held, held, walked, exits, address.0, width);
                 }
@@ -320,12 +335,11 @@ fn finish(
     }
 }
 
-// A granted store with no bit to set: the paths that read its word are dropped, then its bytes are written. before: what was held when
-// it came.
+// A granted store with no bit to set: the paths that read its word are dropped, then its bytes are written. Most pages are not watched, and
+// what is held stays.
 fn written(
     mem: &mut [u64],
     layout: Layout,
-    before: Held,
     held: Held,
     page: HostPhysical,
     address: u64,
@@ -335,11 +349,21 @@ fn written(
     exits: u64,
 ) -> Served
     requires { ⌜ (LayoutFits layout) × (held .pool .fresh ≤ layout .shadows) × (page .0 < frameLimit) × (Inside address width) × (exits ≤ 65536) ⌝ }
-    ensures { λ r. ⌜ yields r (now (mem .exit)) ≡ writtenBy before held references exits (page .0) address width value (λ m. m) (droppedOf (config layout) (now (mem .entry)) (held .pool) (page .0) (wordOf address)) ⌝ }
+    ensures { λ r. ⌜ yields r (now (mem .exit)) ≡ writtenBy held held references exits (page .0) address width value (λ m. m) (droppedOf (config layout) (now (mem .entry)) (held .pool) (page .0) (wordOf address)) ⌝ }
 {
-    let put = drop_readers(mem, layout, held.pool, page, address);
+    if !shadow::watched(mem, layout, held.pool.fresh, page) {
+        put_bytes(mem, page, address, width, value);
+        return Served {
+            held: held,
+            answer: Answer::Done {
+                references: references,
+                exits: exits,
+            },
+        };
+    }
+    let put = drop_watched(mem, layout, held.pool, page, address);
     if !put.ok {
-        return refused(before, 11);
+        return refused(held, 11);
     }
     finish(
         mem,
@@ -358,7 +382,6 @@ fn written(
 fn stored(
     mem: &mut [u64],
     layout: Layout,
-    before: Held,
     held: Held,
     walked: Walked,
     exits: u64,
@@ -367,25 +390,14 @@ fn stored(
     value: u64,
 ) -> Served
     requires { ⌜ (LayoutFits layout) × (held .pool .fresh ≤ layout .shadows) × (ReachesFrame walked) × (Inside address width) × (exits ≤ 65536) ⌝ }
-    ensures { λ r. ⌜ yields r (now (mem .exit)) ≡ storeBy (config layout) before address width value (λ m. m) (yields (translation held exits walked false) (now (mem .entry))) walked ⌝ }
+    ensures { λ r. ⌜ yields r (now (mem .exit)) ≡ storeBy (config layout) held address width value (λ m. m) (yields (translation held exits walked false) (now (mem .entry))) walked ⌝ }
 {
     match walked {
         Walked::Arrived {
             page,
             writable,
             reads,
-        } => written(
-            mem,
-            layout,
-            before,
-            held,
-            page,
-            address,
-            width,
-            value,
-            reads,
-            exits,
-        ),
+        } => written(mem, layout, held, page, address, width, value, reads, exits),
         Walked::Faulted { fault, reads } => Served {
             held: held,
             answer: Answer::Faulted {
@@ -394,7 +406,7 @@ fn stored(
                 exits: exits,
             },
         },
-        Walked::Damaged => refused(before, 11),
+        Walked::Damaged => refused(held, 11),
     }
 }
 
@@ -478,7 +490,6 @@ pub fn store(
                         mem,
                         space.layout,
                         held,
-                        held,
                         walked,
                         exits,
                         address.0,
@@ -520,7 +531,6 @@ pub fn device_store(
         } => written(
             mem,
             space.layout,
-            held,
             held,
             page,
             address,

@@ -6,9 +6,9 @@ use mathlib.Core.Bool.{Bool, true, false, _&&_}
 use mathlib.Core.List.{List, [], _∷_}
 use lib.Dec.{T}
 use lib.ListN.{set, replicate}
-use Rattle.spec.specs.Answer.{Line, ok, value, done, no}
+use Rattle.spec.specs.Answer.{ok, value, done, no}
 use Rattle.spec.specs.Config.{Config}
-use Rattle.spec.specs.Call.{Call, root, map, setMark, load, store, loadWord, storeWord, deviceWord, forecast}
+use Rattle.spec.specs.Call.{root, map, setMark, store, loadWord, storeWord, deviceWord, forecast}
 use Rattle.spec.specs.Refusal.{configOf}
 use Rattle.spec.specs.Run.{State, after, opening}
 use Rattle.spec.specs.Computing.{specifying}

@@ -12,7 +12,7 @@ use Rattle.spec.specs.Walk.{Result, granted, failed}
 use Rattle.spec.specs.Plain.{Place, upper}
 use Rattle.spec.specs.Book.{Mark, Held, depth, paths, watched}
 use Rattle.spec.specs.Call.{Call, root, map, unmap, setMark, clearMark, load, store, device, forecast, addressIndexes, plain}
-use Rattle.spec.specs.Count.{request}
+use Rattle.spec.specs.Count.{isGranted, request}
 use Rattle.spec.specs.Refusal.{allOf, refusal}
 use Rattle.spec.specs.Run.{State, step}
 
@@ -45,10 +45,6 @@ met [] s = []
 met (x ∷ xs) s = (roleBy x (refusal (s .config) x (s .machine) (s .book)), s) ∷ met xs ((step x s) .1)
 
 -- ---- when a stretch is quiet
-
-abbrev pub isGranted : Result Fault Place → Bool
-isGranted (granted p) = true
-isGranted (failed x) = false
 
 -- the stretch has granted requests, and else only calls that change nothing
 abbrev pub grantedAt : Role × State → Bool

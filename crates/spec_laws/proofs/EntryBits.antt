@@ -62,7 +62,7 @@ pub kept-trans : (e f g : ℕ) → Kept e f → Kept f g → Kept e g
 kept-trans e f g h k =
     record { alike = alike-trans e f g (h .alike) (k .alike); keeps5 = λ z. k .keeps5 (h .keeps5 z); keeps6 = λ z. k .keeps6 (h .keeps6 z) }
 
-bit-clear : (k e : ℕ) → bitSet k e ≡ false → e / 2 ^ k % 2 ≡ 0
+pub bit-clear : (k e : ℕ) → bitSet k e ≡ false → e / 2 ^ k % 2 ≡ 0
 unfolding bitSet
 bit-clear k e h = let z = eqb-false (e / 2 ^ k % 2) 1 h in small (e / 2 ^ k % 2) (omega arith) z
   where

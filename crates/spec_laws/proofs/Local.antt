@@ -1,6 +1,6 @@
 -- A walk depends only on the words that it read and the mappings that it used.
 -- Assumes nothing.
-use mathlib.Core.Path.{_≡_, refl, sym, ap, _∙_}
+use mathlib.Core.Path.{_≡_, refl, ap, _∙_}
 use Prim.Native.Nat.{ℕ}
 use mathlib.Core.List.{List, _∷_}
 use Rattle.spec.specs.Walk.{Walk, done, fail, host, word, World, Trace, Result, trace}

@@ -19,11 +19,11 @@ use Rattle.spec.specs.Plain.{Place, upper}
 use Rattle.spec.specs.Machine.{Machine, stored}
 use Rattle.spec.specs.Book.{Held, Book, depth, find, paths, holding, watched, readsWord}
 use Rattle.spec.specs.Call.{Call, root, map, unmap, setMark, clearMark, load, store, device, forecast, Outcome, addressIndexes, plain, access, machineStep}
-use Rattle.spec.specs.Count.{Counted, one, serves, others, request, storing, bookStep}
+use Rattle.spec.specs.Count.{Counted, one, serves, others, isGranted, request, storing, bookStep}
 use Rattle.spec.specs.Refusal.{allOf, refusal}
 use Rattle.spec.specs.Run.{State, lineOf, answered, step, run, after}
 use Rattle.spec.specs.Serving.{exitsPaid, allPaid}
-use Rattle.spec.specs.Quiet.{Role, roleOf, roleBy, met, isGranted, grantedAt, onlyGranted, translated, comesToWatched, unwatchedAt, noneWatched, pathOf, pathAt, added, pathsAt, touched, allFit, quiet, quietExits}
+use Rattle.spec.specs.Quiet.{Role, roleOf, roleBy, met, grantedAt, onlyGranted, translated, comesToWatched, unwatchedAt, noneWatched, pathOf, pathAt, added, pathsAt, touched, allFit, quiet, quietExits}
 use Rattle.spec_laws.proofs.Lists.{all-map, all-both, and-left, and-right, is-true, is-false, not-both, same-is, or-cases, or-left, or-right}
 use Rattle.spec_laws.proofs.Before.{off-verdict, off-bits}
 use Rattle.spec_laws.proofs.Distinct.{in-right}

@@ -1,17 +1,16 @@
 -- The guest tables that a walk goes through, by prefix; and the words and mappings of a granted walk, by them.
 -- A prefix is written last index first here: i ∷ q is q and then i.
 -- Assumes nothing.
-use mathlib.Core.Path.{_≡_, refl, sym, ap, ap₂, _∙_, subst}
-use Prim.Native.Nat.{ℕ, pred, _+_}
-use mathlib.Core.Bool.{Bool, true, false, _&&_}
+use mathlib.Core.Path.{_≡_, refl, sym, ap, ap₂, _∙_}
+use Prim.Native.Nat.{ℕ, pred}
+use mathlib.Core.Bool.{Bool, true}
 use mathlib.Core.List.{List, [], _∷_}
 use mathlib.Core.Option.{Option, none, some}
 use Rattle.spec.specs.declared.Fault.{Fault}
 use Rattle.spec.specs.Config.{Config}
 use Rattle.spec.specs.Entry.{frameOf}
-use Rattle.spec.specs.Walk.{Walk, World, Trace, Result, granted, trace}
+use Rattle.spec.specs.Walk.{Walk, World, Trace, granted, trace}
 use Rattle.spec.specs.Plain.{Place, hosted, levels, walk}
-use Rattle.spec_laws.proofs.Bind.{more}
 use Rattle.spec_laws.proofs.Granted.{granted-is, through, then-trace, hosted-granted, level-granted}
 
 -- a prefix, and then the indexes of a list

@@ -1,6 +1,6 @@
 -- The bits of a walk over memory, read in the tables that it hands out.
 -- Assumes nothing.
-use mathlib.Core.Path.{_≡_, refl, sym, ap, ap₂, _∙_}
+use mathlib.Core.Path.{_≡_, refl, sym, ap, ap₂, _∙_, subst}
 use Prim.Native.Nat.{ℕ, _+_, _-_, _<_, _≤_}
 use native.Mathlib.Nat.{zero-add}
 use native.Mathlib.Omega.{arith}
@@ -10,7 +10,7 @@ use mathlib.Core.Option.{Option, none, some}
 use Rattle.spec.specs.declared.Fault.{Fault}
 use Rattle.spec.specs.Config.{Config}
 use Rattle.spec.specs.Entry.{indexes, pageOf, frameOf, frameLimit}
-use Rattle.spec.specs.Walk.{Walk, World, Trace, granted, trace}
+use Rattle.spec.specs.Walk.{World, Trace, granted, trace}
 use Rattle.spec.specs.Plain.{Place, levels, walk}
 use Rattle.spec.specs.Bits.{lacks, owed}
 use Rattle.spec.specs.Count.{one}
@@ -20,20 +20,19 @@ use Rattle.spec_laws.proofs.Indexes.{indexes-length}
 use Rattle.spec_laws.proofs.Lists.{all-any}
 use Rattle.spec_laws.proofs.Local.{SameWord}
 use Rattle.spec_laws.proofs.SetBits.{lacks-owed, lacks-on}
-use Rattle.entry.specs.declared.HostPhysical.{HostPhysical}
 use Rattle.layout.specs.Layout.{page}
 use Rattle.walk.specs.declared.Walked.{Walked}
 use Rattle.walk.specs.declared.Walked.the-variants as walked
-use Rattle.walk.specs.Memory.{memoryWorld, walkedOf, trailOf}
-use Rattle.walk.proofs.Laws.{loop-end}
-use Rattle.accessed.specs.Entries.{entries, Frames, wordsOf, namesOf, owedBy, owedOf}
+use Rattle.walk.specs.Memory.{memoryWorld, walkedOf, trailFrom, trailOf}
+use Rattle.accessed.specs.Entries.{entries, Frames, wordsOf, owedBy, owedOf}
 use Rattle.accessed.proofs.Walks.{arrived-granted, Read, levels-read, walk-read, trail-entries, trail-frames, levels-frames, walk-frames}
-use Rattle.translate.specs.declared.Checked.{Checked}
 use Rattle.translate.specs.declared.Checked.the-variants as checked
-use Rattle.translate.specs.Translate.{ExitsOnce, translation, exitBy, pathIndexes, damaged, whole, direct, directOf, servedOf, plainOf, owingBy, checkedBy, checkedOf, debtBy, entriesOf, judgedBy, throughOf, bitlessOf, lackingBy, partOf, unshadowedOf, filledOf, strictBy, brokenBy, laxOf, arrivedOf, missedBy, missedOf}
+use Rattle.translate.specs.Translate.{ExitsOnce, translation, exitBy, pathIndexes, whole, direct, directOf, servedOf, plainOf, owingBy, checkedBy, checkedOf, debtBy, entriesOf, judgedBy, throughOf, bitlessOf, lackingBy, lackingOf, Framed, unshadowedOf, strictBy, laxBy, verdictOf, ruledBy, arrivedOf, missedBy, missedOf}
 use Rattle.translate.specs.declared.Held.{Held}
-use Rattle.translate.specs.declared.Part.{Part}
+use Rattle.translate.specs.declared.Translated.{Translated}
+use Rattle.translate.specs.declared.Verdict.{Verdict}
 use Rattle.walk.specs.declared.Trail.{Trail}
+use Rattle.words.specs.After.{After}
 use Rattle.translate.proofs.Fits.{exit-small}
 
 module _ (c : Config) (ht : ℕ) (m : List ℕ) where
@@ -125,7 +124,7 @@ checked-once c ht m root st a d =
 
 -- ---- by the choice
 
-lacking-none : (r : Walked) → lackingBy false r ≡ false
+pub lacking-none : (r : Walked) → lackingBy false r ≡ false
 lacking-none (walked.Arrived p w n) = refl
 lacking-none (walked.Faulted x n) = refl
 lacking-none walked.Damaged = refl
@@ -148,37 +147,60 @@ module _ (c : Config) (ht : ℕ) (m : List ℕ) (st : Bool) (a d t : ℕ) (v : B
   abbrev pub lack : Bool
   lack = lacks (memoryWorld c ht m) st ((trace (memoryWorld c ht m) (direct c st a d t v)) .reads)
 
-  -- the part by what was found: no entry at depth 0, no bit with bits off, and else by the end and what it lacks
-  pub part-by : (l : Bool) (r : Walked) → directOf c ht m st a d t v ≡ r → lackingBy (c .bits && lack) r ≡ l → partOf c ht m st a d t v ≡ record { walked = r; lack = l }
-  unfolding partOf
-  part-by l r e k = ap₂ (λ (x : Walked) (y : Bool). record { walked = x; lack = y }) e (ap (lackingBy (c .bits && lack)) e ∙ k)
+  -- the trail of the direct part: where it came to, that its tables are frames, and what the entries in them lack
+  module _ (x : Trail) (is : x ≡ trailOf c ht m (c .levels - d) (direct c st a d t v)) where
+    pub trail-came : x .walked ≡ directOf c ht m st a d t v
+    unfolding directOf trailFrom
+    trail-came = ap (λ (y : Trail). y .walked) is
 
-  pub part-off : (r : Walked) → c .bits ≡ false → directOf c ht m st a d t v ≡ r → partOf c ht m st a d t v ≡ record { walked = r; lack = false }
-  part-off r off e = part-by false r e (ap (λ b. lackingBy (b && lack) r) off ∙ lacking-none r)
+    module _ (few : c .frames ≤ 65536) (deep : d ≤ 8) (small : t < frameLimit) where
+      pub trail-framed : Framed (x .walked) (x .tables)
+      trail-framed = go (x .walked) (sym trail-came)
+        where
+          go : (r : Walked) → directOf c ht m st a d t v ≡ r → Framed r (x .tables)
+          go (walked.Arrived p y n) e = subst (λ (z : Trail). Frames (z .tables)) (sym is) (direct-frames c ht m st a d t v (p .0) y n few deep small e)
+          go (walked.Faulted y n) e = tt
+          go walked.Damaged e = tt
 
-  pub part-on : (l : Bool) (p : HostPhysical) (x : Bool) (n : ℕ) → c .bits ≡ true → lack ≡ l → directOf c ht m st a d t v ≡ walked.Arrived p x n
-      → partOf c ht m st a d t v ≡ record { walked = walked.Arrived p x n; lack = l }
-  part-on l p x n on k e = part-by l (walked.Arrived p x n) e (ap (λ b. b && lack) on ∙ k)
+      abbrev lackIn : List ℕ → Bool
+      lackIn ts = lacks (wordsOf m) st (entries ts 0 (indexes d (pageOf a)))
 
-  pub part-none : d ≡ 0 → partOf c ht m st a d t v ≡ record { walked = walked.Arrived (page t) v (c .levels); lack = false }
-  unfolding directOf indexes levels lacks trace
-  part-none z =
-      let came : directOf c ht m st a d t v ≡ walked.Arrived (page t) v (c .levels - d) = loop-end c ht m (c .levels - d) st 0 d t (pageOf a) v z in
-      let all : c .levels - d ≡ c .levels = omega arith in
-      let nothing : lack ≡ false = ap (λ j. lacks (memoryWorld c ht m) st ((trace (memoryWorld c ht m) (direct c st a j t v)) .reads)) z in
-      part-by false (walked.Arrived (page t) v (c .levels)) (came ∙ ap (walked.Arrived (page t) v) all) (ap (λ b. c .bits && b) nothing ∙ and-false (c .bits))
+      pub trail-lacking : lackingBy (c .bits && lackIn (x .tables)) (x .walked) ≡ lackingOf c ht m st a d t v
+      unfolding lackingOf
+      trail-lacking = go (x .walked) (sym trail-came) ∙ ap (lackingBy (c .bits && lack)) trail-came
+        where
+          go : (r : Walked) → directOf c ht m st a d t v ≡ r → lackingBy (c .bits && lackIn (x .tables)) r ≡ lackingBy (c .bits && lack) r
+          go (walked.Arrived p y n) e =
+              ap (λ l. c .bits && l) (ap (λ (z : Trail). lackIn (z .tables)) is ∙ direct-lacks c ht m st a d t v (p .0) y n few deep small e)
+          go (walked.Faulted y n) e = refl
+          go walked.Damaged e = refl
 
   -- where no bit is to be looked at, none lacks
-  pub part-bitless : bitlessOf c d ≡ true → partOf c ht m st a d t v .lack ≡ false
-  unfolding bitlessOf
-  part-bitless e = by (eqb d 0) refl (c .bits) refl
+  pub bitless-none : bitlessOf c d ≡ true → lackingOf c ht m st a d t v ≡ false
+  unfolding bitlessOf lackingOf indexes levels lacks trace
+  bitless-none e = by (eqb d 0) refl (c .bits) refl
     where
-      by : (z : Bool) → eqb d 0 ≡ z → (b : Bool) → c .bits ≡ b → partOf c ht m st a d t v .lack ≡ false
-      by true y b k = ap (λ (x : Part). x .lack) (part-none (eqb-true d 0 y))
-      by false y false k = ap (λ (x : Part). x .lack) (part-off (directOf c ht m st a d t v) k refl)
+      nothing : (c .bits && lack) ≡ false → lackingBy (c .bits && lack) (directOf c ht m st a d t v) ≡ false
+      nothing z = ap (λ b. lackingBy b (directOf c ht m st a d t v)) z ∙ lacking-none (directOf c ht m st a d t v)
+
+      by : (z : Bool) → eqb d 0 ≡ z → (b : Bool) → c .bits ≡ b → lackingBy (c .bits && lack) (directOf c ht m st a d t v) ≡ false
+      by true y b k =
+          let no : lack ≡ false = ap (λ j. lacks (memoryWorld c ht m) st ((trace (memoryWorld c ht m) (direct c st a j t v)) .reads)) (eqb-true d 0 y) in
+          nothing (ap (λ l. c .bits && l) no ∙ and-false (c .bits))
+      by false y false k = nothing (ap (λ b. b && lack) k)
       by false y true k =
           let no : false ≡ true = sym (ap₂ (λ z b. cond z true (not b)) y k) ∙ e in
           let z : _≡_ {A = ℕ} 0 1 = ap (λ b. cond b 1 0) no in absurd (omega arith)
+
+-- past the shadow part
+module _ (c : Config) (ht : ℕ) (m : List ℕ) (root : ℕ) (gs : List ℕ) (st : Bool) (a d n : ℕ) (w : Bool) (r : Walked) where
+  pub verdict-off : c .bits ≡ false → verdictOf c ht m root gs st a d n w r ≡ laxBy w r
+  unfolding verdictOf
+  verdict-off e = ap (λ b. cond b (strictBy c m gs st a d n w (checkedOf c ht m root st a d) r) (laxBy w r)) e
+
+  pub verdict-on : c .bits ≡ true → verdictOf c ht m root gs st a d n w r ≡ strictBy c m gs st a d n w (checkedOf c ht m root st a d) r
+  unfolding verdictOf
+  verdict-on e = ap (λ b. cond b (strictBy c m gs st a d n w (checkedOf c ht m root st a d) r) (laxBy w r)) e
 
 module _ (c : Config) (ht : ℕ) (m : List ℕ) (h : Held) (root : ℕ) (st : Bool) (a d : ℕ) where
   pub unshadowed-off : c .bits ≡ false → unshadowedOf c ht m h root st a d ≡ plainOf c ht m h root st a
@@ -209,8 +231,8 @@ module _ (c : Config) (ht : ℕ) (m : List ℕ) (h : Held) (root : ℕ) (st : Bo
 
     -- judged where a bit lacks, and otherwise served as ever
     pub through-part : throughOf c ht m h root st a d t v
-        ≡ cond (partOf c ht m st a d t v .lack) (judgedBy h true (checkedOf c ht m root st a d) (directOf c ht m st a d t v)) (servedOf c ht m h st a d t v 0)
-    unfolding throughOf partOf servedOf
+        ≡ cond (lackingOf c ht m st a d t v) (judgedBy h true (checkedOf c ht m root st a d) (directOf c ht m st a d t v)) (servedOf c ht m h st a d t v 0)
+    unfolding throughOf lackingOf servedOf
     through-part = by (c .bits) (lack c ht m st a d t v) (directOf c ht m st a d t v)
       where
         by : (b l : Bool) (r : Walked) → cond b (judgedBy h l (checkedOf c ht m root st a d) r) (translation h (0 + exitBy r) r false)
@@ -223,32 +245,28 @@ module _ (c : Config) (ht : ℕ) (m : List ℕ) (h : Held) (root : ℕ) (st : Bo
         by true l (walked.Faulted x n) = ap (λ e. translation h e (walked.Faulted x n) false) (sym (zero-add (exitBy (walked.Faulted x n))))
         by true l walked.Damaged = refl
 
-    -- by the part that was walked
-    pub through-by : (x : Part) → x ≡ partOf c ht m st a d t v
-        → throughOf c ht m h root st a d t v ≡ cond (x .lack) (judgedBy h true (checkedOf c ht m root st a d) (x .walked)) (translation h (exitBy (x .walked)) (x .walked) false)
-    unfolding partOf servedOf
-    through-by x e =
+    -- by what its direct part came to, and whether that lacks a bit
+    pub through-by : (r : Walked) (l : Bool) → r ≡ directOf c ht m st a d t v → l ≡ lackingOf c ht m st a d t v
+        → throughOf c ht m h root st a d t v ≡ cond l (judgedBy h true (checkedOf c ht m root st a d) r) (translation h (exitBy r) r false)
+    unfolding servedOf
+    through-by r l e k =
         through-part
-        ∙ ap (λ k. cond (partOf c ht m st a d t v .lack) (judgedBy h true (checkedOf c ht m root st a d) (directOf c ht m st a d t v)) (translation h k (directOf c ht m st a d t v) false)) (zero-add (exitBy (directOf c ht m st a d t v)))
-        ∙ sym (ap (λ (y : Part). cond (y .lack) (judgedBy h true (checkedOf c ht m root st a d) (y .walked)) (translation h (exitBy (y .walked)) (y .walked) false)) e)
+        ∙ ap (λ n. cond (lackingOf c ht m st a d t v) (judgedBy h true (checkedOf c ht m root st a d) (directOf c ht m st a d t v)) (translation h n (directOf c ht m st a d t v) false)) (zero-add (exitBy (directOf c ht m st a d t v)))
+        ∙ sym (ap₂ (λ b (y : Walked). cond b (judgedBy h true (checkedOf c ht m root st a d) y) (translation h (exitBy y) y false)) k e)
 
     module _ (gs : List ℕ) (n : ℕ) where
-      pub arrived-off : c .bits ≡ false → arrivedOf c ht m h root gs st a d n t v ≡ laxOf c m h gs a d t v (directOf c ht m st a d t v)
-      unfolding arrivedOf
-      arrived-off e =
-          ap (λ b. cond b (strictBy c m h gs st a d n t v (checkedOf c ht m root st a d) (directOf c ht m st a d t v)) (laxOf c m h gs a d t v (directOf c ht m st a d t v))) e
+      abbrev ruled : Verdict → After Translated
+      ruled = ruledBy c m h gs a d t (directOf c ht m st a d t v)
 
-      pub arrived-on : c .bits ≡ true → arrivedOf c ht m h root gs st a d n t v ≡ strictBy c m h gs st a d n t v (checkedOf c ht m root st a d) (directOf c ht m st a d t v)
+      pub arrived-off : c .bits ≡ false → arrivedOf c ht m h root gs st a d n t v ≡ ruled (laxBy v (directOf c ht m st a d t v))
       unfolding arrivedOf
-      arrived-on e =
-          ap (λ b. cond b (strictBy c m h gs st a d n t v (checkedOf c ht m root st a d) (directOf c ht m st a d t v)) (laxOf c m h gs a d t v (directOf c ht m st a d t v))) e
+      arrived-off e = ap ruled (verdict-off c ht m root gs st a d n v (directOf c ht m st a d t v) e)
+
+      pub arrived-on : c .bits ≡ true → arrivedOf c ht m h root gs st a d n t v ≡ ruled (strictBy c m gs st a d n v (checkedOf c ht m root st a d) (directOf c ht m st a d t v))
+      unfolding arrivedOf
+      arrived-on e = ap ruled (verdict-on c ht m root gs st a d n v (directOf c ht m st a d t v) e)
 
   -- a walk of the shadow part, by what it came to
   pub missed-by : (r : Trail) → trailOf c ht m 0 (walk c st root (pathIndexes c d a)) ≡ r → missedOf c ht m h root st a d ≡ missedBy c ht m h root st a d (r .tables) (r .walked)
   unfolding missedOf
   missed-by r e = ap (λ (x : Trail). missedBy c ht m h root st a d (x .tables) (x .walked)) e
-
-pub lax-broken : (c : Config) (m : List ℕ) (h : Held) (gs : List ℕ) (a d t : ℕ) (w : Bool) (r : Walked) (b : Bool) → brokenBy r ≡ b
-    → laxOf c m h gs a d t w r ≡ cond b (damaged h m) (filledOf c m h gs a d t w (1 + exitBy r) r false)
-unfolding laxOf
-lax-broken c m h gs a d t w r b e = ap (λ x. cond x (damaged h m) (filledOf c m h gs a d t w (1 + exitBy r) r false)) e

@@ -32,12 +32,13 @@ use Rattle.shadow.proofs.Fresh.{fill-fits}
 use Rattle.translate.specs.declared.Held.{Held}
 use Rattle.translate.specs.declared.Checked.{Checked}
 use Rattle.translate.specs.declared.Checked.the-variants as checked
-use Rattle.translate.specs.Translate.{exitBy, pathOf, pathIndexes, holding, HeldFits, ExitsOnce, translation, whole, direct, directOf, servedOf, plainOf, checkedOf, settledBy, judgedBy, throughOf, unshadowedOf, servesOf, foundOf, fillBy, filledOf, passesOf, grantBy, strictBy, brokenBy, laxOf, arrivedOf, missedBy, missedOf, foundBy, translateOf}
+use Rattle.translate.specs.Translate.{exitBy, pathOf, pathIndexes, holding, HeldFits, ExitsOnce, translation, whole, direct, directOf, servedOf, plainOf, checkedOf, settledBy, judgedBy, throughOf, unshadowedOf, servesOf, foundOf, fillBy, filledOf, passesOf, clearedBy, strictBy, brokenBy, laxBy, verdictOf, ruledBy, arrivedOf, missedBy, missedOf, foundBy, translateOf}
 use Rattle.translate.proofs.Fits.{exit-small, ArrivedIn, direct-in, walk-in, FoundIs, found-is}
 use Rattle.translate.proofs.Bits.{checked-once}
 use Rattle.words.specs.After.{After, yields}
 use Rattle.pool.specs.declared.Went.{Went}
 use Rattle.translate.specs.declared.Translated.{Translated}
+use Rattle.translate.specs.declared.Verdict.the-variants as verdict
 
 top-held : (c : Config) (h : Held) → HeldFits c h → eqb (h .frame .0) 0 ≡ false → InGuestArea c (h .frame .0)
 top-held c h f q = elim (f .1) [ inl z ↦ absurd (eqb-false (h .frame .0) 0 q z) | inr g ↦ g ]
@@ -123,7 +124,7 @@ module _ (c : Config) (ht : ℕ) (m : List ℕ) (st : Bool) (h : Held) (f : Held
       go false = by (s .result .way)
 
   arrived-leaves : (gs : List ℕ) (n t : ℕ) (w : Bool) → InGuestArea c t → Leaves c m (arrivedOf c ht m h root gs st a d n t w)
-  unfolding arrivedOf laxOf
+  unfolding arrivedOf verdictOf
   arrived-leaves gs n t w g = go (c .bits) refl
     where
       r : Walked
@@ -132,22 +133,24 @@ module _ (c : Config) (ht : ℕ) (m : List ℕ) (st : Bool) (h : Held) (f : Held
       here : ArrivedIn c r
       here = direct-in c ht m st a d t w g
 
-      grant : c .bits ≡ true → (x : Walked) (j : ℕ) (k : Checked) → ArrivedIn c x → ExitsOnce k → Leaves c m (grantBy c m h gs st a d n t w x j k)
-      grant on x j (checked.Clear l) i o = filled-leaves gs t (passesOf c m gs st a d w) 1 x l g (omega arith) i (λ z. on)
+      fills : (v : Bool) (x : Walked) (sets : Bool) → ArrivedIn c x → (sets ≡ true → c .bits ≡ true) → Leaves c m (ruledBy c m h gs a d t x (verdict.Fill v sets))
+      fills v x sets i on = filled-leaves gs t v (1 + exitBy x) x sets g (let k = exit-small x in omega arith) i on
+
+      grant : c .bits ≡ true → (x : Walked) (j : ℕ) (k : Checked) → ArrivedIn c x → ExitsOnce k → Leaves c m (ruledBy c m h gs a d t x (clearedBy c m gs st a d n w j k))
+      grant on x j (checked.Clear l) i o = fills (passesOf c m gs st a d w) x l i (λ z. on)
       grant on x j (checked.Stopped y e) i o = ended m _ _ none (omega arith) tt
       grant on x j checked.Damaged i o = ended m 0 walked.Damaged none (omega arith) tt
 
-      strict : c .bits ≡ true → (x : Walked) → ArrivedIn c x → Leaves c m (strictBy c m h gs st a d n t w (checkedOf c ht m root st a d) x)
+      strict : c .bits ≡ true → (x : Walked) → ArrivedIn c x → Leaves c m (ruledBy c m h gs a d t x (strictBy c m gs st a d n w (checkedOf c ht m root st a d) x))
       strict on (walked.Arrived p v j) i = grant on (walked.Arrived p v j) j (checkedOf c ht m root st a d) i (checked-once c ht m root st a d)
       strict on (walked.Faulted x j) i = ended m _ _ none (let k = exit-small (walked.Faulted x j) in omega arith) tt
       strict on walked.Damaged i = ended m 0 walked.Damaged none (omega arith) tt
 
-      lax : (b : Bool) → Leaves c m (cond b (yields (translation h 0 walked.Damaged false) m) (filledOf c m h gs a d t w (1 + exitBy r) r false))
+      lax : (b : Bool) → Leaves c m (ruledBy c m h gs a d t r (cond b verdict.Damaged (verdict.Fill w false)))
       lax true = ended m 0 walked.Damaged none (omega arith) tt
-      lax false = filled-leaves gs t w (1 + exitBy r) r false g (let k = exit-small r in omega arith) here (λ z. absurd (false≢true z))
+      lax false = fills w r false here (λ z. absurd (false≢true z))
 
-      go : (b : Bool) → c .bits ≡ b → Leaves c m (cond b (strictBy c m h gs st a d n t w (checkedOf c ht m root st a d) r)
-          (cond (brokenBy r) (yields (translation h 0 walked.Damaged false) m) (filledOf c m h gs a d t w (1 + exitBy r) r false)))
+      go : (b : Bool) → c .bits ≡ b → Leaves c m (ruledBy c m h gs a d t r (cond b (strictBy c m gs st a d n w (checkedOf c ht m root st a d) r) (laxBy w r)))
       go true on = strict on r here
       go false off = lax (brokenBy r)
 

@@ -29,14 +29,15 @@ use Rattle.walk.specs.declared.Walked.the-variants as walked
 use Rattle.walk.specs.Memory.{memoryWorld, walkedOf, trailOf}
 use Rattle.accessed.specs.declared.Debt.{Debt}
 use Rattle.accessed.specs.declared.Debt.the-variants as debt
-use Rattle.accessed.specs.Entries.{entries, wordsOf, owedOf}
+use Rattle.accessed.specs.Entries.{entries, Frames, wordsOf, owedOf}
 use Rattle.shadow.specs.Held.{heldOf, entryFor}
 use Rattle.shadow.specs.Fill.{fillOf}
 use Rattle.translate.specs.declared.Checked.{Checked}
 use Rattle.translate.specs.declared.Checked.the-variants as checked
 use Rattle.translate.specs.declared.Held.{Held}
-use Rattle.translate.specs.declared.Part.{Part}
 use Rattle.translate.specs.declared.Translated.{Translated}
+use Rattle.translate.specs.declared.Verdict.{Verdict}
+use Rattle.translate.specs.declared.Verdict.the-variants as verdict
 
 -- H and W cost an exit, the other faults none
 abbrev pub exitBy : Walked → ℕ
@@ -162,17 +163,22 @@ throughOf c ht m h root st a d t w =
     (judgedBy h (lacks k st ((trace k (direct c st a d t w)) .reads)) (checkedOf c ht m root st a d) (directOf c ht m st a d t w))
     (servedOf c ht m h st a d t w 0)
 
--- the direct part of a held path, and whether a bit of it lacks: with bits on, where it arrived
+-- whether an entry of the direct part lacks a bit: with bits on, where it arrived
 abbrev pub lackingBy : Bool → Walked → Bool
 lackingBy lack (walked.Arrived t w n) = lack
 lackingBy lack (walked.Faulted x n) = false
 lackingBy lack walked.Damaged = false
 
-unfoldable pub partOf : Config → ℕ → List ℕ → Bool → ℕ → ℕ → ℕ → Bool → Part
-partOf c ht m st a d t w =
+unfoldable pub lackingOf : Config → ℕ → List ℕ → Bool → ℕ → ℕ → ℕ → Bool → Bool
+lackingOf c ht m st a d t w =
     let k = memoryWorld c ht m in
-    let r = directOf c ht m st a d t w in
-    record { walked = r; lack = lackingBy (c .bits && lacks k st ((trace k (direct c st a d t w)) .reads)) r }
+    lackingBy (c .bits && lacks k st ((trace k (direct c st a d t w)) .reads)) (directOf c ht m st a d t w)
+
+-- a walk that arrived came through tables that have the numbers of frames
+abbrev pub Framed : Walked → List ℕ → Type 0
+Framed (walked.Arrived p w n) ts = Frames ts
+Framed (walked.Faulted x n) ts = Unit {0}
+Framed walked.Damaged ts = Unit {0}
 
 -- no bit is to be looked at: bits are off, or no guest entry is read
 unfoldable pub bitlessOf : Config → ℕ → Bool
@@ -216,21 +222,17 @@ passesOf c m gs st a d w = w && (not (eqb d 0) || st || dirtyAt (wordsOf m) (ent
 abbrev pub plainly : Config → ℕ → ℕ → ℕ → ℕ
 plainly c d n k = n + (k - (c .levels - d))
 
--- a request that a fault ended past its shadow part, with bits on
-abbrev pub faulted : Config → Held → ℕ → ℕ → Fault → ℕ → ℕ → Translated
-faulted c h d n x k e = translation h (1 + e) (walked.Faulted x (plainly c d n k)) false
-
 -- a granted request by its bits: it fills its path, or is stopped
-abbrev pub grantBy : Config → List ℕ → Held → List ℕ → Bool → ℕ → ℕ → ℕ → ℕ → Bool → Walked → ℕ → Checked → After Translated
-grantBy c m h gs st a d n t w r k (checked.Clear lack) = filledOf c m h gs a d t (passesOf c m gs st a d w) 1 r lack
-grantBy c m h gs st a d n t w r k (checked.Stopped x e) = yields (faulted c h d n x k e) m
-grantBy c m h gs st a d n t w r k checked.Damaged = damaged h m
+abbrev pub clearedBy : Config → List ℕ → List ℕ → Bool → ℕ → ℕ → ℕ → Bool → ℕ → Checked → Verdict
+clearedBy c m gs st a d n w k (checked.Clear lack) = verdict.Fill (passesOf c m gs st a d w) lack
+clearedBy c m gs st a d n w k (checked.Stopped x e) = verdict.End x (plainly c d n k) (1 + e)
+clearedBy c m gs st a d n w k checked.Damaged = verdict.Damaged
 
 -- with bits on only a granted request fills, and a fault counts as the plain walk does. b: what its bits say
-abbrev pub strictBy : Config → List ℕ → Held → List ℕ → Bool → ℕ → ℕ → ℕ → ℕ → Bool → Checked → Walked → After Translated
-strictBy c m h gs st a d n t w b (walked.Arrived p v k) = grantBy c m h gs st a d n t w (walked.Arrived p v k) k b
-strictBy c m h gs st a d n t w b (walked.Faulted x k) = yields (faulted c h d n x k (exitBy (walked.Faulted x k))) m
-strictBy c m h gs st a d n t w b walked.Damaged = damaged h m
+abbrev pub strictBy : Config → List ℕ → List ℕ → Bool → ℕ → ℕ → ℕ → Bool → Checked → Walked → Verdict
+strictBy c m gs st a d n w b (walked.Arrived p v k) = clearedBy c m gs st a d n w k b
+strictBy c m gs st a d n w b (walked.Faulted x k) = verdict.End x (plainly c d n k) (1 + exitBy (walked.Faulted x k))
+strictBy c m gs st a d n w b walked.Damaged = verdict.Damaged
 
 abbrev pub brokenBy : Walked → Bool
 brokenBy (walked.Arrived p w n) = false
@@ -238,14 +240,24 @@ brokenBy (walked.Faulted x n) = false
 brokenBy walked.Damaged = true
 
 -- with bits off a fault of the direct part fills too
-unfoldable pub laxOf : Config → List ℕ → Held → List ℕ → ℕ → ℕ → ℕ → Bool → Walked → After Translated
-laxOf c m h gs a d t w r = cond (brokenBy r) (damaged h m) (filledOf c m h gs a d t w (1 + exitBy r) r false)
+abbrev pub laxBy : Bool → Walked → Verdict
+laxBy w r = cond (brokenBy r) verdict.Damaged (verdict.Fill w false)
+
+-- what becomes of a request whose shadow part read n words and whose direct part came to r; w: whether its path may be written through
+unfoldable pub verdictOf : Config → ℕ → List ℕ → ℕ → List ℕ → Bool → ℕ → ℕ → ℕ → Bool → Walked → Verdict
+verdictOf c ht m root gs st a d n w r = cond (c .bits) (strictBy c m gs st a d n w (checkedOf c ht m root st a d) r) (laxBy w r)
+
+-- the request by its verdict; a fill is an exit
+abbrev pub ruledBy : Config → List ℕ → Held → List ℕ → ℕ → ℕ → ℕ → Walked → Verdict → After Translated
+ruledBy c m h gs a d t r (verdict.Fill w sets) = filledOf c m h gs a d t w (1 + exitBy r) r sets
+ruledBy c m h gs a d t r (verdict.End x n e) = yields (translation h e (walked.Faulted x n) false) m
+ruledBy c m h gs a d t r verdict.Damaged = damaged h m
 
 -- past a shadow part that read n words and came to t
 unfoldable pub arrivedOf : Config → ℕ → List ℕ → Held → ℕ → List ℕ → Bool → ℕ → ℕ → ℕ → ℕ → Bool → After Translated
 arrivedOf c ht m h root gs st a d n t w =
     let r = directOf c ht m st a d t w in
-    cond (c .bits) (strictBy c m h gs st a d n t w (checkedOf c ht m root st a d) r) (laxOf c m h gs a d t w r)
+    ruledBy c m h gs a d t r (verdictOf c ht m root gs st a d n w r)
 
 abbrev pub missedBy : Config → ℕ → List ℕ → Held → ℕ → Bool → ℕ → ℕ → List ℕ → Walked → After Translated
 missedBy c ht m h root st a d gs (walked.Arrived t w n) = arrivedOf c ht m h root gs st a d n (t .0) w

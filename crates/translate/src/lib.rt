@@ -1,13 +1,14 @@
 // From an address and its depth to a host frame or a fault: a held path is found, or the guest tables are walked and the path filled.
 ghost use mathlib.Core.Path.{_≡_};
-ghost use mathlib.Core.Bool.{true, false};
-ghost use Prim.Native.Nat.{_-_, _<_, _≤_};
+ghost use mathlib.Core.Bool.{true, false, _&&_};
+ghost use Prim.Native.Nat.{_+_, _-_, _<_, _≤_};
 ghost use Rattle.spec.specs.Entry.{indexes, pageOf, frameLimit};
+ghost use Rattle.spec.specs.Bits.{lacks};
 ghost use Rattle.words.specs.After.{yields};
 ghost use Rattle.layout.specs.Layout.{LayoutFits, config};
-ghost use Rattle.translate.specs.Translate.{exitBy, ReadsFrom, translation, whole, directOf, servedOf, plainOf, checkedOf, debtBy, entriesOf, settledBy, judgedBy, bitlessOf, partOf, throughOf, unshadowedOf, servesOf, pathOf, foundOf, filledOf, passesOf, faulted, strictBy, brokenBy, laxOf, missedOf, unservedOf};
+ghost use Rattle.translate.specs.Translate.{exitBy, ReadsFrom, translation, whole, direct, directOf, servedOf, plainOf, checkedOf, debtBy, entriesOf, settledBy, judgedBy, bitlessOf, Framed, lackingBy, throughOf, unshadowedOf, servesOf, pathOf, foundOf, filledOf, passesOf, plainly, strictBy, brokenBy, laxBy, verdictOf, arrivedOf, missedOf, unservedOf};
 ghost use Rattle.walk.specs.Memory.{trailOf};
-ghost use Rattle.accessed.specs.Entries.{entries, Frames};
+ghost use Rattle.accessed.specs.Entries.{entries, Frames, wordsOf};
 use accessed::Debt;
 use entry::GuestPhysical;
 use entry::GuestVirtual;
@@ -44,16 +45,24 @@ pub struct Translated {
     pub sets: bool,
 }
 
-// What the direct part of a held path came to, and whether one of its entries lacks a bit.
-pub struct Part {
-    pub walked: Walked,
-    pub lack: bool,
-}
-
 // What the accessed and dirty bits of a walk say: that they are set or may be, or what the request meets instead, with its exit.
 pub enum Checked {
     Clear { lack: bool },
     Stopped { fault: Fault, exits: u64 },
+    Damaged,
+}
+
+// What becomes of a request past its shadow part: its path is filled, and then its bits may be to be set; or it ends without.
+pub enum Verdict {
+    Fill {
+        writable: bool,
+        sets: bool,
+    },
+    End {
+        fault: Fault,
+        reads: u64,
+        exits: u64,
+    },
     Damaged,
 }
 
@@ -92,7 +101,31 @@ pub fn exit_of(walked: Walked) -> u64
     }
 }
 
-// The walk on from the guest table of the request's depth, or from its page at depth 0.
+// The walk on from the guest table of the request's depth, with the tables that it came through.
+pub fn direct_trail(
+    mem: &[u64],
+    space: Space,
+    request: Request,
+    page: HostPhysical,
+    writable: bool,
+) -> Trail
+    requires { ⌜ (LayoutFits (space .layout)) × (request .depth ≤ space .layout .levels) × (page .0 < frameLimit) ⌝ }
+    ensures { λ r. ⌜ r ≡ trailOf (config (space .layout)) (space .top) (now (mem .entry)) (space .layout .levels - request .depth) (direct (config (space .layout)) (request .store) (request .address .0) (request .depth) (page .0) writable) ⌝ }
+{
+    walk::walk_tables(
+        mem,
+        space,
+        request.store,
+        request.address.page(),
+        request.depth,
+        0,
+        page,
+        writable,
+        space.layout.levels - request.depth,
+    )
+}
+
+// Where it comes to; at depth 0 there is no table, and the page is what the path leads to.
 pub fn direct(
     mem: &[u64],
     space: Space,
@@ -110,17 +143,7 @@ pub fn direct(
             reads: space.layout.levels,
         };
     }
-    let trail = walk::walk_tables(
-        mem,
-        space,
-        request.store,
-        request.address.page(),
-        request.depth,
-        0,
-        page,
-        writable,
-        space.layout.levels - request.depth,
-    );
+    let trail = direct_trail(mem, space, request, page, writable);
     trail.walked
 }
 
@@ -292,53 +315,34 @@ pub fn bitless(layout: Layout, depth: u64) -> bool
     layout.bits == 0
 }
 
-// The direct part of a held path, and whether one of its entries lacks a bit; those that the path covers have theirs.
-pub fn direct_part(
+// Does an entry of a direct part that came so far through these tables lack a bit? Those that a held path covers have theirs.
+pub fn lacking(
     mem: &[u64],
-    space: Space,
+    layout: Layout,
     request: Request,
-    page: HostPhysical,
-    writable: bool,
-) -> Part
-    requires { ⌜ (LayoutFits (space .layout)) × (request .depth ≤ space .layout .levels) × (page .0 < frameLimit) ⌝ }
-    ensures { λ r. ⌜ r ≡ partOf (config (space .layout)) (space .top) (now (mem .entry)) (request .store) (request .address .0) (request .depth) (page .0) writable ⌝ }
+    walked: Walked,
+    tables: &[u64; 8],
+) -> bool
+    requires { ⌜ (request .depth ≤ 8) × (Framed walked (now tables)) ⌝ }
+    ensures { λ r. ⌜ r ≡ lackingBy (config layout .bits && lacks (wordsOf (now (mem .entry))) (request .store) (entries (now (tables .entry)) 0 (indexes (request .depth) (pageOf (request .address .0))))) walked ⌝ }
 {
-    let number = request.address.page();
-    let trail = walk::walk_tables(
-        mem,
-        space,
-        request.store,
-        number,
-        request.depth,
-        0,
-        page,
-        writable,
-        space.layout.levels - request.depth,
-    );
-    let walked = trail.walked;
-    if space.layout.bits == 0 {
-        return Part {
-            walked: walked,
-            lack: false,
-        };
+    if layout.bits == 0 {
+        return false;
     }
     match walked {
         Walked::Arrived {
             page,
             writable,
             reads,
-        } => Part {
-            walked: walked,
-            lack: accessed::lacks(mem, request.store, number, request.depth, &trail.tables),
-        },
-        Walked::Faulted { fault, reads } => Part {
-            walked: walked,
-            lack: false,
-        },
-        Walked::Damaged => Part {
-            walked: walked,
-            lack: false,
-        },
+        } => accessed::lacks(
+            mem,
+            request.store,
+            request.address.page(),
+            request.depth,
+            tables,
+        ),
+        Walked::Faulted { fault, reads } => false,
+        Walked::Damaged => false,
     }
 }
 
@@ -378,12 +382,12 @@ pub fn through(
     requires { ⌜ (LayoutFits (space .layout)) × (request .depth ≤ space .layout .levels) × (page .0 < frameLimit) ⌝ }
     ensures { λ r. ⌜ r ≡ throughOf (config (space .layout)) (space .top) (now (mem .entry)) held (root .0) (request .store) (request .address .0) (request .depth) (page .0) writable ⌝ }
 {
-    let part = direct_part(mem, space, request, page, writable);
-    let walked = part.walked;
-    if part.lack {
-        return judged(mem, space, root, held, request, walked);
+    let trail = direct_trail(mem, space, request, page, writable);
+    let walked = trail.walked;
+    if !lacking(mem, space.layout, request, walked, &trail.tables) {
+        return stopped(held, walked);
     }
-    stopped(held, walked)
+    judged(mem, space, root, held, request, walked)
 }
 
 // A request at the depth where nothing is shadowed.
@@ -536,34 +540,16 @@ fn broken(walked: Walked) -> bool
 }
 
 // With bits off: filled, whatever the direct part came to.
-fn lax(
-    mem: &mut [u64],
-    layout: Layout,
-    held: Held,
-    guests: &[u64; 8],
-    request: Request,
-    page: HostPhysical,
-    writable: bool,
-    walked: Walked,
-) -> Translated
-    requires { ⌜ (LayoutFits layout) × (request .depth ≤ layout .levels) × (page .0 < frameLimit) ⌝ }
-    ensures { λ r. ⌜ yields r (now (mem .exit)) ≡ laxOf (config layout) (now (mem .entry)) held (now (guests .entry)) (request .address .0) (request .depth) (page .0) writable walked ⌝ }
+fn lax(writable: bool, walked: Walked) -> Verdict
+    ensures { λ r. ⌜ r ≡ laxBy writable walked ⌝ }
 {
     if broken(walked) {
-        return damaged(held);
+        return Verdict::Damaged;
     }
-    filled(
-        mem,
-        layout,
-        held,
-        guests,
-        request,
-        page,
-        writable,
-        1 + exit_of(walked),
-        walked,
-        false,
-    )
+    Verdict::Fill {
+        writable: writable,
+        sets: false,
+    }
 }
 
 // With bits on, does the path that a request fills let stores pass? Not where a load comes to an entry that is not dirty.
@@ -588,33 +574,83 @@ fn passes(mem: &[u64], layout: Layout, guests: &[u64; 8], request: Request, writ
     )
 }
 
-// A request that a fault ended past its shadow part, with bits on: it counts as the plain walk does. `before` words were read by the shadow
-// part, and the direct part says `reads` with the shadow entries.
-fn faulted(
-    layout: Layout,
-    held: Held,
-    depth: u64,
-    fault: Fault,
-    before: u64,
-    reads: u64,
-    exits: u64,
-) -> Translated
+// A fault past the shadow part, with bits on: it counts as the plain walk does. `before` words were read by the shadow part, and the direct
+// part says `reads` with the shadow entries.
+fn end(layout: Layout, depth: u64, fault: Fault, before: u64, reads: u64, exits: u64) -> Verdict
     requires { ⌜ (depth ≤ layout .levels) × (layout .levels - depth ≤ reads) × (before ≤ 65536) × (reads ≤ 65536) × (exits ≤ 65536) ⌝ }
-    ensures { λ r. ⌜ r ≡ faulted (config layout) held depth before fault reads exits ⌝ }
+    ensures { λ r. ⌜ r ≡ Verdict.End fault (plainly (config layout) depth before reads) (1 + exits) ⌝ }
 {
-    Translated {
-        held: held,
+    Verdict::End {
+        fault: fault,
+        reads: before + (reads - (layout.levels - depth)),
         exits: 1 + exits,
-        walked: Walked::Faulted {
-            fault: fault,
-            reads: before + (reads - (layout.levels - depth)),
-        },
-        sets: false,
     }
 }
 
-// With bits on: filled if it is granted; a fault counts as the plain walk does.
+// With bits on: filled if it is granted.
 fn strict(
+    mem: &[u64],
+    space: Space,
+    root: GuestPhysical,
+    guests: &[u64; 8],
+    request: Request,
+    writable: bool,
+    before: u64,
+    walked: Walked,
+) -> Verdict
+    requires { ⌜ (LayoutFits (space .layout)) × (request .depth ≤ space .layout .levels) × (Frames (now guests)) × (before ≤ 65536) × (ReadsFrom (space .layout .levels - request .depth) walked) ⌝ }
+    ensures { λ r. ⌜ r ≡ strictBy (config (space .layout)) (now (mem .entry)) (now (guests .entry)) (request .store) (request .address .0) (request .depth) before writable (checkedOf (config (space .layout)) (space .top) (now (mem .entry)) (root .0) (request .store) (request .address .0) (request .depth)) walked ⌝ }
+{
+    let layout = space.layout;
+    match walked {
+        Walked::Arrived {
+            page,
+            writable: w,
+            reads,
+        } => match check(mem, space, root, request) {
+            Checked::Clear { lack } => Verdict::Fill {
+                writable: passes(mem, layout, guests, request, writable),
+                sets: lack,
+            },
+            Checked::Stopped { fault, exits } => {
+                end(layout, request.depth, fault, before, reads, exits)
+            }
+            Checked::Damaged => Verdict::Damaged,
+        },
+        Walked::Faulted { fault, reads } => end(
+            layout,
+            request.depth,
+            fault,
+            before,
+            reads,
+            exit_of(walked),
+        ),
+        Walked::Damaged => Verdict::Damaged,
+    }
+}
+
+// What becomes of a request whose direct part came so far.
+fn ruled(
+    mem: &[u64],
+    space: Space,
+    root: GuestPhysical,
+    guests: &[u64; 8],
+    request: Request,
+    writable: bool,
+    before: u64,
+    walked: Walked,
+) -> Verdict
+    requires { ⌜ (LayoutFits (space .layout)) × (request .depth ≤ space .layout .levels) × (Frames (now guests)) × (before ≤ 65536) × (ReadsFrom (space .layout .levels - request .depth) walked) ⌝ }
+    ensures { λ r. ⌜ r ≡ verdictOf (config (space .layout)) (space .top) (now (mem .entry)) (root .0) (now (guests .entry)) (request .store) (request .address .0) (request .depth) before writable walked ⌝ }
+{
+    if space.layout.bits == 0 {
+        return lax(writable, walked);
+    }
+    strict(mem, space, root, guests, request, writable, before, walked)
+}
+
+// On from the page or table that a shadow part came to.
+fn arrived(
     mem: &mut [u64],
     space: Space,
     root: GuestPhysical,
@@ -624,37 +660,41 @@ fn strict(
     page: HostPhysical,
     writable: bool,
     before: u64,
-    walked: Walked,
 ) -> Translated
-    requires { ⌜ (LayoutFits (space .layout)) × (request .depth ≤ space .layout .levels) × (page .0 < frameLimit) × (Frames (now guests)) × (before ≤ 65536) × (ReadsFrom (space .layout .levels - request .depth) walked) ⌝ }
-    ensures { λ r. ⌜ yields r (now (mem .exit)) ≡ strictBy (config (space .layout)) (now (mem .entry)) held (now (guests .entry)) (request .store) (request .address .0) (request .depth) before (page .0) writable (checkedOf (config (space .layout)) (space .top) (now (mem .entry)) (root .0) (request .store) (request .address .0) (request .depth)) walked ⌝ }
+    requires { ⌜ (LayoutFits (space .layout)) × (request .depth ≤ space .layout .levels) × (page .0 < frameLimit) × (Frames (now guests)) × (before ≤ 65536) ⌝ }
+    ensures { λ r. ⌜ yields r (now (mem .exit)) ≡ arrivedOf (config (space .layout)) (space .top) (now (mem .entry)) held (root .0) (now (guests .entry)) (request .store) (request .address .0) (request .depth) before (page .0) writable ⌝ }
 {
-    let l = space.layout;
-    match walked {
-        Walked::Arrived {
-            page: p,
-            writable: w,
-            reads,
-        } => match check(mem, space, root, request) {
-            Checked::Clear { lack } => {
-                let lets = passes(mem, l, guests, request, writable);
-                filled(mem, l, held, guests, request, page, lets, 1, walked, lack)
-            }
-            Checked::Stopped { fault, exits } => {
-                faulted(l, held, request.depth, fault, before, reads, exits)
-            }
-            Checked::Damaged => damaged(held),
-        },
-        Walked::Faulted { fault, reads } => faulted(
-            l,
+    let walked = direct(mem, space, request, page, writable);
+    match ruled(mem, space, root, guests, request, writable, before, walked) {
+        Verdict::Fill {
+            writable: lets,
+            sets,
+        } => filled(
+            mem,
+            space.layout,
             held,
-            request.depth,
-            fault,
-            before,
-            reads,
-            exit_of(walked),
+            guests,
+            request,
+            page,
+            lets,
+            1 + exit_of(walked),
+            walked,
+            sets,
         ),
-        Walked::Damaged => damaged(held),
+        Verdict::End {
+            fault,
+            reads,
+            exits,
+        } => Translated {
+            held: held,
+            exits: exits,
+            walked: Walked::Faulted {
+                fault: fault,
+                reads: reads,
+            },
+            sets: false,
+        },
+        Verdict::Damaged => damaged(held),
     }
 }
 
@@ -685,33 +725,17 @@ fn missed(
             page,
             writable,
             reads,
-        } => {
-            let walked = direct(mem, space, request, page, writable);
-            if space.layout.bits == 0 {
-                return lax(
-                    mem,
-                    space.layout,
-                    held,
-                    &trail.tables,
-                    request,
-                    page,
-                    writable,
-                    walked,
-                );
-            }
-            strict(
-                mem,
-                space,
-                root,
-                held,
-                &trail.tables,
-                request,
-                page,
-                writable,
-                reads,
-                walked,
-            )
-        }
+        } => arrived(
+            mem,
+            space,
+            root,
+            held,
+            &trail.tables,
+            request,
+            page,
+            writable,
+            reads,
+        ),
         Walked::Faulted { fault, reads } => Translated {
             held: held,
             exits: 1,

@@ -21,7 +21,6 @@ use Rattle.spec_laws.proofs.Lists.{all-map}
 use Rattle.spec_laws.proofs.Local.{SameHost, SameWord, local}
 use Rattle.spec_laws.proofs.Asks.{Asked, asks-trace, AnswerIn, FaultFits, Guest, levels-asks, walk-asks}
 use Rattle.words.specs.Words as words
-use Rattle.layout.specs.declared.HostWalk.the-variants as host
 use Rattle.layout.specs.Layout.{page}
 use Rattle.host.specs.Walk.{hostWalkOf}
 use Rattle.layout.proofs.Laws.{InGuestArea}

@@ -34,7 +34,7 @@ use Rattle.calls.specs.declared.Reply.{Reply}
 use Rattle.calls.specs.Calls.{heldOf, ended, servedBy, callOf}
 use Rattle.wrong_units.specs.Unit.{Calls, afterBy, specified, Demand-3, told, unitBy, cangrieb}
 use Rattle.wrong_units.specs.Wrong.{ourStep, ourEnd, listWith}
-use Rattle.wrong_units.specs.WrongBits.{ourSets, loadSetting, storeSetting, neverSets, alwaysSets, dirtyByLoads, dirtyAtAll, lastOnly, setsOnFault, setsAfter, ownDropped, bitsDrop, loadArriving, arriveFilling, faultsFill, arrivePassing, storesPass, bitsFirst, judgedInTurn, forecastsAnyway, lengthFirst}
+use Rattle.wrong_units.specs.WrongBits.{ourSets, loadSetting, storeSetting, neverSets, alwaysSets, dirtyByLoads, dirtyAtAll, lastOnly, setsOnFault, setsAfter, ownDropped, bitsDrop, loadArriving, arriveBy, faultsFill, storesPass, bitsFirst, judgedInTurn, forecastsAnyway, lengthFirst}
 use Rattle.wrong_units.proofs.Clear.{Ready, enter-clear, down-clear}
 use Rattle.wrong_units.proofs.Computing.{besides, calling}
 use Rattle.wrong_units.proofs.Mapped.{placed, memory, recordBy, none, levelWord, openedBy, openedWords, tables, fourTables, firstBy, firstRecord}
@@ -246,7 +246,7 @@ unfolding faultsFill afterBy
 fill-begun = begins-by true faultsFill refl maps-on
 
 fill-says : ((unitBy faultsFill) .call (loadWord 0) (afterBy (unitBy faultsFill) missed (firstBy true, mappedWords))) .0 ≡ value 0x3023 20 0
-unfolding faultsFill loadArriving arriveFilling afterBy calling
+unfolding faultsFill loadArriving arriveBy afterBy calling
 fill-says = refl
 
 missed-right : (step (loadWord 0) (specified memory 4 4 true (begin ++ missed))) .0 ≡ value 0x3023 20 1
@@ -358,7 +358,7 @@ abbrev passed : After Went → After Reply
 passed = loaded (firstBy true) 0x2000 trail (0 ∷ 0 ∷ 0 ∷ 2 ∷ []) 0xa003 (walked.Arrived (page 10) true 4)
 
 passes-loads : storesPass (loadWord 0x2000) (firstBy true) named ≡ passed (insertOf area trail none named (0 ∷ 0 ∷ 0 ∷ 2 ∷ []) 0xa003)
-unfolding storesPass loadArriving arrivePassing besides
+unfolding storesPass loadArriving arriveBy besides
 passes-loads = refl
 
 passes-sets : passed (end (inUse 4) (To 7) shadowWords) ≡ ended shadowed (answer.Value 0x2003 4 1) setWords

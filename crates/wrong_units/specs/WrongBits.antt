@@ -32,9 +32,9 @@ use Rattle.record.specs.declared.Record.{Record}
 use Rattle.record.specs.Record.{configOf}
 use Rattle.translate.specs.declared.Held.{Held}
 use Rattle.translate.specs.declared.Translated.{Translated}
-use Rattle.translate.specs.declared.Checked.{Checked}
-use Rattle.translate.specs.declared.Checked.the-variants as checked
-use Rattle.translate.specs.Translate.{pathIndexes, whole, translation, damaged, faulted, directOf, checkedOf, throughOf, unshadowedOf, servesOf, foundOf, filledOf, laxOf, arrivedOf}
+use Rattle.translate.specs.declared.Verdict.{Verdict}
+use Rattle.translate.specs.declared.Verdict.the-variants as verdict
+use Rattle.translate.specs.Translate.{pathIndexes, whole, translation, damaged, directOf, throughOf, unshadowedOf, servesOf, foundOf, verdictOf, ruledBy}
 use Rattle.request.specs.declared.Put.{Put}
 use Rattle.request.specs.declared.Served.{Served}
 use Rattle.request.specs.Access as access
@@ -184,37 +184,29 @@ loadArriving arrives a w r m =
     let o : After Translated = translateWith arrives (configOf r) (hostTop r) m (heldOf r) (rootOf r) false a (depthAt r a) in
     placed r m w (addressOk false (configOf r) a w) (servedBy r (access.loadBy (heldOf r) a w (ourSets r false a (o .result .sets)) o (o .result .walked)))
 
--- a fault past the shadow part fills the path too, as with bits off
-abbrev pub fillAnyway : Walked → After Translated → After Translated → After Translated
-fillAnyway (walked.Arrived t w n) ours lax = ours
-fillAnyway (walked.Faulted x n) ours lax = lax
-fillAnyway walked.Damaged ours lax = ours
+-- a unit that gives another verdict past the shadow part, from whether the path may be written through, where the walk came to and ours
+unfoldable pub arriveBy : (Bool → Walked → Verdict → Verdict) → Arrives
+arriveBy rule c ht m h root gs st a d n t w =
+    let r = directOf c ht m st a d t w in
+    ruledBy c m h gs a d t r (rule w r (verdictOf c ht m root gs st a d n w r))
 
-unfoldable pub arriveFilling : Arrives
-arriveFilling c ht m h root gs st a d n t w =
-    fillAnyway (directOf c ht m st a d t w) (arrivedOf c ht m h root gs st a d n t w) (laxOf c m h gs a d t w (directOf c ht m st a d t w))
+-- a fault past the shadow part fills the path too, as with bits off
+abbrev pub fillAnyway : Bool → Walked → Verdict → Verdict
+fillAnyway w (walked.Arrived t y n) v = v
+fillAnyway w (walked.Faulted x n) v = verdict.Fill w false
+fillAnyway w walked.Damaged v = v
 
 unfoldable pub faultsFill : Calls
-faultsFill = onLoads (loadArriving arriveFilling) callOf
+faultsFill = onLoads (loadArriving (arriveBy fillAnyway)) callOf
 
 -- the path that a load fills lets stores pass, also at depth 0 and if the entry where its walk ends is not dirty
-abbrev pub grantPassing : Config → List ℕ → Held → List ℕ → ℕ → ℕ → ℕ → ℕ → Bool → Walked → ℕ → Checked → After Translated
-grantPassing c m h gs a d n t w r k (checked.Clear lack) = filledOf c m h gs a d t w 1 r lack
-grantPassing c m h gs a d n t w r k (checked.Stopped x e) = yields (faulted c h d n x k e) m
-grantPassing c m h gs a d n t w r k checked.Damaged = damaged h m
-
-abbrev pub passing : Config → List ℕ → Held → List ℕ → ℕ → ℕ → ℕ → ℕ → Bool → Checked → After Translated → Walked → After Translated
-passing c m h gs a d n t w b ours (walked.Arrived p v k) = grantPassing c m h gs a d n t w (walked.Arrived p v k) k b
-passing c m h gs a d n t w b ours (walked.Faulted x k) = ours
-passing c m h gs a d n t w b ours walked.Damaged = ours
-
-unfoldable pub arrivePassing : Arrives
-arrivePassing c ht m h root gs st a d n t w =
-    let ours : After Translated = arrivedOf c ht m h root gs st a d n t w in
-    cond (c .bits) (passing c m h gs a d n t w (checkedOf c ht m root st a d) ours (directOf c ht m st a d t w)) ours
+abbrev pub passing : Bool → Walked → Verdict → Verdict
+passing w r (verdict.Fill lets sets) = verdict.Fill w sets
+passing w r (verdict.End x n e) = verdict.End x n e
+passing w r verdict.Damaged = verdict.Damaged
 
 unfoldable pub storesPass : Calls
-storesPass = onLoads (loadArriving arrivePassing) callOf
+storesPass = onLoads (loadArriving (arriveBy passing)) callOf
 
 -- ---- W for a bit
 

@@ -26,8 +26,8 @@ const AT_MOST: [(&str, u64, &str); 7] = [
     ("forecast-256-spread", 40, "serve-256-spread"),
     ("depth-top-and-63", 10, "depth-top-and-5"),
     ("load-depth-0-bits", 11, "load-depth-0"),
-    ("load-depth-1-bits", 12, "load-depth-1"),
-    ("load-depth-4-bits", 12, "load-depth-4"),
+    ("load-depth-1-bits", 11, "load-depth-1"),
+    ("load-depth-4-bits", 11, "load-depth-4"),
     ("load-depth-5-bits", 11, "load-depth-5"),
 ];
 

@@ -1,5 +1,5 @@
 -- What is left of the entries lacks a bit just where all of them do. Assumes nothing.
-use mathlib.Core.Path.{_≡_, refl, sym, ap, ap₂, _∙_}
+use mathlib.Core.Path.{_≡_, sym, ap, ap₂, _∙_}
 use borrow.Author.Tests.{not-true, not-false}
 use lib.ListN.{getD}
 use Prim.Native.Nat.{_+_, _-_, _≤_}
@@ -13,12 +13,6 @@ use Rattle.accessed.proofs.Laws.{lacks-turn, none-left}
 use borrow.Author.Needs.{needs}
 use Rattle.accessed.proofs.lacks.Statement.{statement}
 use Rattle.accessed.proofs.lacks.Tie as tie
-use Rattle.accessed.proofs.lacks.Reads as reads
-use Rattle.accessed.proofs.lacks.Lts as lts
-use Rattle.accessed.proofs.ends.Reads as ends-reads
-use Rattle.entry.proofs.has_bits.Reads as has-bits-reads
-use Rattle.entry.proofs.index_of.Reads as index-of-reads
-use Rattle.words.proofs.word_in.Reads as word-in-reads
 
 abbrev Inv-loop : tie.InvT-loop
 Inv-loop mem store page steps tables left₀ depth₀ left depth =

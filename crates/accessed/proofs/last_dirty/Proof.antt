@@ -1,10 +1,8 @@
 -- The last entry lies in the last table, at the lowest index. Assumes nothing.
-use mathlib.Core.Path.{_≡_, sym, ap, _∙_}
+use mathlib.Core.Path.{_≡_, sym}
 use Prim.Native.Nat.{_-_, _<_, _+_}
 use native.Mathlib.Omega.{arith}
-use lib.ListN.{getD}
 use Rattle.spec.specs.Entry.{dirty}
-use Rattle.words.specs.Words.{wordIn}
 use Rattle.entry.proofs.Entries.{index-fits}
 use Rattle.accessed.proofs.Laws.{none-left, dirty-last}
 use borrow.Author.Needs.{needs}

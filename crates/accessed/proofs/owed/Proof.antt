@@ -1,11 +1,11 @@
 -- What is left of the entries owes what all of them do. Assumes nothing.
-use mathlib.Core.Path.{_≡_, refl, sym, ap, ap₂, _∙_}
+use mathlib.Core.Path.{_≡_, sym, ap, ap₂, _∙_}
 use mathlib.Core.Bool.{_||_}
 use Prim.Native.Nat.{_+_, _-_, _≤_}
 use native.Mathlib.Omega.{arith}
 use borrow.Author.Tests.{not-true, not-false}
 use lib.ListN.{getD}
-use Rattle.spec.specs.Entry.{indexes, frameOf}
+use Rattle.spec.specs.Entry.{indexes}
 use Rattle.spec.specs.Bits.{hasBits, mayWrite, owed}
 use Rattle.words.specs.Words.{wordIn}
 use Rattle.layout.specs.Layout.{config}
@@ -17,13 +17,6 @@ use Rattle.accessed.proofs.Laws.{owed-turn, none-left}
 use borrow.Author.Needs.{needs}
 use Rattle.accessed.proofs.owed.Statement.{statement}
 use Rattle.accessed.proofs.owed.Tie as tie
-use Rattle.accessed.proofs.owed.Reads as reads
-use Rattle.accessed.proofs.owed.Lts as lts
-use Rattle.accessed.proofs.ends.Reads as ends-reads
-use Rattle.accessed.proofs.has_or_may.Reads as has-or-may-reads
-use Rattle.entry.proofs.frame_of.Reads as frame-of-reads
-use Rattle.entry.proofs.index_of.Reads as index-of-reads
-use Rattle.words.proofs.word_in.Reads as word-in-reads
 
 abbrev Inv-loop : tie.InvT-loop
 Inv-loop mem space store page steps tables left₀ depth₀ at₀ left depth at =

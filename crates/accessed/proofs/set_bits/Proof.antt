@@ -1,5 +1,5 @@
 -- With their bits set in what is left of the entries, memory is as with all of them set. Assumes nothing.
-use mathlib.Core.Path.{_≡_, refl, sym, ap, ap₂, _∙_}
+use mathlib.Core.Path.{_≡_, sym, ap, ap₂, _∙_}
 use Prim.Native.Nat.{_+_, _-_, _≤_}
 use native.Mathlib.Omega.{arith}
 use lib.ListN.{getD, length}
@@ -12,13 +12,6 @@ use Rattle.accessed.proofs.Laws.{bits-turn, none-left}
 use borrow.Author.Needs.{needs}
 use Rattle.accessed.proofs.set_bits.Statement.{statement}
 use Rattle.accessed.proofs.set_bits.Tie as tie
-use Rattle.accessed.proofs.set_bits.Reads as reads
-use Rattle.accessed.proofs.set_bits.Lts as lts
-use Rattle.accessed.proofs.ends.Reads as ends-reads
-use Rattle.entry.proofs.index_of.Reads as index-of-reads
-use Rattle.entry.proofs.with_bits.Reads as with-bits-reads
-use Rattle.words.proofs.set_in.Reads as set-in-reads
-use Rattle.words.proofs.word_in.Reads as word-in-reads
 
 abbrev Inv-loop : tie.InvT-loop
 Inv-loop mem₀ store page steps tables left₀ depth₀ mem left depth =

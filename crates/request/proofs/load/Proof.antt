@@ -1,17 +1,15 @@
 -- Through the path held for it the request goes on with what is held as it was, by its bits where one lacks; damage is 11; else it is translated without one. Assumes nothing.
-use mathlib.Core.Path.{_≡_, sym, ap, _∙_, subst}
+use mathlib.Core.Path.{sym, ap, _∙_, subst}
 use mathlib.Core.Logic.{⊎-elim}
 use mathlib.Core.Bool.{true, false}
-use Prim.Native.Nat.{_≤_}
 use native.Mathlib.Omega.{arith}
 use borrow.Author.Tests.{not-true, not-false}
 use Rattle.words.specs.After.{After, yields}
 use Rattle.layout.specs.Layout.{config}
-use Rattle.translate.specs.declared.Part.{Part}
 use Rattle.translate.specs.declared.Translated.{Translated}
-use Rattle.translate.specs.Translate.{translation, exitBy, partOf, judgedBy}
-use Rattle.translate.proofs.Fits.{exit-few, held-small}
-use Rattle.translate.proofs.Bits.{part-bitless}
+use Rattle.translate.specs.Translate.{translation, exitBy, judgedBy}
+use Rattle.translate.proofs.Fits.{held-small}
+use Rattle.translate.proofs.Bits.{bitless-none, trail-came, trail-framed, trail-lacking}
 use Rattle.request.specs.Access.{ReachesFrame, loadBy, loadFrom, loadOf}
 use Rattle.request.proofs.Held.{path-plainly, path-judged, path-small, path-missed, path-none, path-broken, reaches-as, load-said, load-plainly}
 use borrow.Author.Needs.{needs}
@@ -35,7 +33,8 @@ direct-requires c κs =
     let args = c .before .before .before .before .before .before .before .before .before .before .before .args in
     let pre = c .before .before .before .before .before .before .before .before .before .before .before .pre in
     let found = sym (path-held .ensures) ∙ page .given .1 in
-    (pre .0, if1 .taken, path-small (config (args .space .layout)) (args .space .top) (args .mem .now) (args .held) (args .root .0) false (args .address .0) (args .depth) (pre .0 .3) (held-small (config (args .space .layout)) (args .held) (pre .1) (pre .0 .3)) _ _ found)
+    let inside = path-small (config (args .space .layout)) (args .space .top) (args .mem .now) (args .held) (args .root .0) false (args .address .0) (args .depth) (pre .0 .3) (held-small (config (args .space .layout)) (args .held) (pre .1) (pre .0 .3)) _ _ found in
+    (pre .0, if1 .taken, inside)
 
 exit-of-requires : tie.Need-exit-of-requires
 exit-of-requires c κs = search needs
@@ -51,7 +50,7 @@ loaded-requires c κs =
     let args = c .before .before .before .before .before .before .before .before .before .before .before .before .before .before .args in
     let pre = c .before .before .before .before .before .before .before .before .before .before .before .before .before .before .pre in
     let found = sym (path-held .ensures) ∙ page .given .1 in
-    let none = part-bitless (config (args .space .layout)) (args .space .top) (args .mem .now) false (args .address .0) (args .depth) _ _ (sym (bitless .ensures) ∙ if2 .taken) in
+    let none = bitless-none (config (args .space .layout)) (args .space .top) (args .mem .now) false (args .address .0) (args .depth) _ _ (sym (bitless .ensures) ∙ if2 .taken) in
     let went = path-plainly (config (args .space .layout)) (args .space .top) (args .mem .now) (args .held) (args .root .0) false (args .address .0) (args .depth) _ _ none (if1 .taken) found in
     (subst ReachesFrame (sym (direct .ensures)) (reaches-as (config (args .space .layout)) (args .space .top) (args .mem .now) (args .held) (args .root .0) false (args .address .0) (args .depth) (pre .1) _ (pre .0 .3) went), pre .2)
 
@@ -59,7 +58,7 @@ same-length : tie.Need-same-length
 same-length c = search needs
 
 returns : tie.Need-returns
-unfolding loadOf partOf
+unfolding loadOf
 returns c =
     let loaded = c .loaded in
     let exit-of = c .before .before .exit-of in
@@ -71,39 +70,53 @@ returns c =
     let if1 = c .before .before .before .before .before .before .before .before .before .before .before .before .if1 in
     let args = c .before .before .before .before .before .before .before .before .before .before .before .before .before .before .before .args in
     let found = sym (path-held .ensures) ∙ page .given .1 in
-    let none = part-bitless (config (args .space .layout)) (args .space .top) (args .mem .now) false (args .address .0) (args .depth) _ _ (sym (bitless .ensures) ∙ if2 .taken) in
+    let none = bitless-none (config (args .space .layout)) (args .space .top) (args .mem .now) false (args .address .0) (args .depth) _ _ (sym (bitless .ensures) ∙ if2 .taken) in
     let went = path-plainly (config (args .space .layout)) (args .space .top) (args .mem .now) (args .held) (args .root .0) false (args .address .0) (args .depth) _ _ none (if1 .taken) found in
     let end = direct .result in
     loaded .ensures ∙ load-plainly (config (args .space .layout)) (args .space .top) (args .root .0) (args .held) (args .held) (args .address .0) (args .width) (exit-of .result) end (args .mem .now)
     ∙ ap (λ e. (loadFrom (config (args .space .layout)) (args .space .top) (args .root .0) (args .held) (args .address .0) (args .width)) (yields (translation (args .held) e end false) (args .mem .now))) (exit-of .ensures)
     ∙ ap (λ r. (loadFrom (config (args .space .layout)) (args .space .top) (args .root .0) (args .held) (args .address .0) (args .width)) (yields (translation (args .held) (exitBy r) r false) (args .mem .now))) (direct .ensures) ∙ sym (ap (loadFrom (config (args .space .layout)) (args .space .top) (args .root .0) (args .held) (args .address .0) (args .width)) went)
 
-direct-part-requires : tie.Need-direct-part-requires
-direct-part-requires c κs =
+direct-trail-requires : tie.Need-direct-trail-requires
+direct-trail-requires c κs =
     let page = c .before .before .before .before .page in
     let path-held = c .before .before .before .before .before .before .path-held in
     let if1 = c .before .before .before .before .before .before .before .before .if1 in
     let args = c .before .before .before .before .before .before .before .before .before .before .before .args in
     let pre = c .before .before .before .before .before .before .before .before .before .before .before .pre in
     let found = sym (path-held .ensures) ∙ page .given .1 in
-    (pre .0, if1 .taken, path-small (config (args .space .layout)) (args .space .top) (args .mem .now) (args .held) (args .root .0) false (args .address .0) (args .depth) (pre .0 .3) (held-small (config (args .space .layout)) (args .held) (pre .1) (pre .0 .3)) _ _ found)
+    let inside = path-small (config (args .space .layout)) (args .space .top) (args .mem .now) (args .held) (args .root .0) false (args .address .0) (args .depth) (pre .0 .3) (held-small (config (args .space .layout)) (args .held) (pre .1) (pre .0 .3)) _ _ found in
+    (pre .0, if1 .taken, inside)
+
+lacking-requires : tie.Need-lacking-requires
+lacking-requires c κs =
+    let direct-trail = c .before .before .before .direct-trail in
+    let page = c .before .before .before .before .before .before .before .before .page in
+    let path-held = c .before .before .before .before .before .before .before .before .before .before .path-held in
+    let if1 = c .before .before .before .before .before .before .before .before .before .before .before .before .if1 in
+    let args = c .before .before .before .before .before .before .before .before .before .before .before .before .before .before .before .args in
+    let pre = c .before .before .before .before .before .before .before .before .before .before .before .before .before .before .before .pre in
+    let found = sym (path-held .ensures) ∙ page .given .1 in
+    let inside = path-small (config (args .space .layout)) (args .space .top) (args .mem .now) (args .held) (args .root .0) false (args .address .0) (args .depth) (pre .0 .3) (held-small (config (args .space .layout)) (args .held) (pre .1) (pre .0 .3)) _ _ found in
+    (omega (arith, pre .0 .0, if1 .taken), trail-framed (config (args .space .layout)) (args .space .top) (args .mem .now) false (args .address .0) (args .depth) _ _ (direct-trail .result) (direct-trail .ensures) (pre .0 .3) (omega (arith, pre .0 .0, if1 .taken)) inside)
 
 exit-of-requires-2 : tie.Need-exit-of-requires-2
 exit-of-requires-2 c κs = search needs
 
 loaded-requires-2 : tie.Need-loaded-requires-2
-unfolding partOf
 loaded-requires-2 c κs =
     let if3 = c .before .before .if3 in
-    let direct-part = c .before .before .before .before .direct-part in
-    let page = c .before .before .before .before .before .before .before .before .before .page in
-    let path-held = c .before .before .before .before .before .before .before .before .before .before .before .path-held in
-    let if1 = c .before .before .before .before .before .before .before .before .before .before .before .before .before .if1 in
-    let args = c .before .before .before .before .before .before .before .before .before .before .before .before .before .before .before .before .args in
-    let pre = c .before .before .before .before .before .before .before .before .before .before .before .before .before .before .before .before .pre in
+    let lacking = c .before .before .before .lacking in
+    let direct-trail = c .before .before .before .before .before .before .before .direct-trail in
+    let page = c .before .before .before .before .before .before .before .before .before .before .before .before .page in
+    let path-held = c .before .before .before .before .before .before .before .before .before .before .before .before .before .before .path-held in
+    let if1 = c .before .before .before .before .before .before .before .before .before .before .before .before .before .before .before .before .if1 in
+    let args = c .before .before .before .before .before .before .before .before .before .before .before .before .before .before .before .before .before .before .before .args in
+    let pre = c .before .before .before .before .before .before .before .before .before .before .before .before .before .before .before .before .before .before .before .pre in
     let found = sym (path-held .ensures) ∙ page .given .1 in
-    let none = sym (ap (λ (x : Part). x .lack) (direct-part .ensures)) ∙ not-true (direct-part .result .lack) (if3 .taken) in
-    let came = ap (λ (x : Part). x .walked) (direct-part .ensures) in
+    let inside = path-small (config (args .space .layout)) (args .space .top) (args .mem .now) (args .held) (args .root .0) false (args .address .0) (args .depth) (pre .0 .3) (held-small (config (args .space .layout)) (args .held) (pre .1) (pre .0 .3)) _ _ found in
+    let none = sym (lacking .ensures ∙ trail-lacking (config (args .space .layout)) (args .space .top) (args .mem .now) false (args .address .0) (args .depth) _ _ (direct-trail .result) (direct-trail .ensures) (pre .0 .3) (omega (arith, pre .0 .0, if1 .taken)) inside) ∙ not-true (lacking .result) (if3 .taken) in
+    let came = trail-came (config (args .space .layout)) (args .space .top) (args .mem .now) false (args .address .0) (args .depth) _ _ (direct-trail .result) (direct-trail .ensures) in
     let went = path-plainly (config (args .space .layout)) (args .space .top) (args .mem .now) (args .held) (args .root .0) false (args .address .0) (args .depth) _ _ none (if1 .taken) found in
     (subst ReachesFrame (sym came) (reaches-as (config (args .space .layout)) (args .space .top) (args .mem .now) (args .held) (args .root .0) false (args .address .0) (args .depth) (pre .1) _ (pre .0 .3) went), pre .2)
 
@@ -111,21 +124,24 @@ same-length-2 : tie.Need-same-length-2
 same-length-2 c = search needs
 
 returns-2 : tie.Need-returns-2
-unfolding loadOf partOf
+unfolding loadOf
 returns-2 c =
     let loaded2 = c .loaded2 in
     let exit-of2 = c .before .before .exit-of2 in
     let if3 = c .before .before .before .if3 in
-    let direct-part = c .before .before .before .before .before .direct-part in
-    let page = c .before .before .before .before .before .before .before .before .before .before .page in
-    let path-held = c .before .before .before .before .before .before .before .before .before .before .before .before .path-held in
-    let if1 = c .before .before .before .before .before .before .before .before .before .before .before .before .before .before .if1 in
-    let args = c .before .before .before .before .before .before .before .before .before .before .before .before .before .before .before .before .before .args in
+    let lacking = c .before .before .before .before .lacking in
+    let direct-trail = c .before .before .before .before .before .before .before .before .direct-trail in
+    let page = c .before .before .before .before .before .before .before .before .before .before .before .before .before .page in
+    let path-held = c .before .before .before .before .before .before .before .before .before .before .before .before .before .before .before .path-held in
+    let if1 = c .before .before .before .before .before .before .before .before .before .before .before .before .before .before .before .before .before .if1 in
+    let args = c .before .before .before .before .before .before .before .before .before .before .before .before .before .before .before .before .before .before .before .before .args in
+    let pre = c .before .before .before .before .before .before .before .before .before .before .before .before .before .before .before .before .before .before .before .before .pre in
     let found = sym (path-held .ensures) ∙ page .given .1 in
-    let none = sym (ap (λ (x : Part). x .lack) (direct-part .ensures)) ∙ not-true (direct-part .result .lack) (if3 .taken) in
-    let came = ap (λ (x : Part). x .walked) (direct-part .ensures) in
+    let inside = path-small (config (args .space .layout)) (args .space .top) (args .mem .now) (args .held) (args .root .0) false (args .address .0) (args .depth) (pre .0 .3) (held-small (config (args .space .layout)) (args .held) (pre .1) (pre .0 .3)) _ _ found in
+    let none = sym (lacking .ensures ∙ trail-lacking (config (args .space .layout)) (args .space .top) (args .mem .now) false (args .address .0) (args .depth) _ _ (direct-trail .result) (direct-trail .ensures) (pre .0 .3) (omega (arith, pre .0 .0, if1 .taken)) inside) ∙ not-true (lacking .result) (if3 .taken) in
+    let came = trail-came (config (args .space .layout)) (args .space .top) (args .mem .now) false (args .address .0) (args .depth) _ _ (direct-trail .result) (direct-trail .ensures) in
     let went = path-plainly (config (args .space .layout)) (args .space .top) (args .mem .now) (args .held) (args .root .0) false (args .address .0) (args .depth) _ _ none (if1 .taken) found in
-    let end = direct-part .result .walked in
+    let end = direct-trail .result .walked in
     loaded2 .ensures ∙ load-plainly (config (args .space .layout)) (args .space .top) (args .root .0) (args .held) (args .held) (args .address .0) (args .width) (exit-of2 .result) end (args .mem .now)
     ∙ ap (λ e. (loadFrom (config (args .space .layout)) (args .space .top) (args .root .0) (args .held) (args .address .0) (args .width)) (yields (translation (args .held) e end false) (args .mem .now))) (exit-of2 .ensures)
     ∙ ap (λ r. (loadFrom (config (args .space .layout)) (args .space .top) (args .root .0) (args .held) (args .address .0) (args .width)) (yields (translation (args .held) (exitBy r) r false) (args .mem .now))) came ∙ sym (ap (loadFrom (config (args .space .layout)) (args .space .top) (args .root .0) (args .held) (args .address .0) (args .width)) went)
@@ -135,24 +151,25 @@ judged-requires c κs = search needs
 
 settle-requires : tie.Need-settle-requires
 settle-requires c κs =
-    let pre = c .before .before .before .before .before .before .before .before .before .before .before .before .before .before .before .before .before .before .pre in
+    let pre = c .before .before .before .before .before .before .before .before .before .before .before .before .before .before .before .before .before .before .before .before .before .pre in
     pre .0
 
 loaded-requires-3 : tie.Need-loaded-requires-3
-unfolding partOf
 loaded-requires-3 c κs =
     let mem = c .before .before .mem in
     let judged = c .before .before .before .before .before .before .judged in
     let if3 = c .before .before .before .before .before .before .before .before .if3 in
-    let direct-part = c .before .before .before .before .before .before .before .before .before .before .direct-part in
-    let page = c .before .before .before .before .before .before .before .before .before .before .before .before .before .before .before .page in
-    let path-held = c .before .before .before .before .before .before .before .before .before .before .before .before .before .before .before .before .before .path-held in
-    let if1 = c .before .before .before .before .before .before .before .before .before .before .before .before .before .before .before .before .before .before .before .if1 in
-    let args = c .before .before .before .before .before .before .before .before .before .before .before .before .before .before .before .before .before .before .before .before .before .before .args in
-    let pre = c .before .before .before .before .before .before .before .before .before .before .before .before .before .before .before .before .before .before .before .before .before .before .pre in
+    let lacking = c .before .before .before .before .before .before .before .before .before .lacking in
+    let direct-trail = c .before .before .before .before .before .before .before .before .before .before .before .before .before .direct-trail in
+    let page = c .before .before .before .before .before .before .before .before .before .before .before .before .before .before .before .before .before .before .page in
+    let path-held = c .before .before .before .before .before .before .before .before .before .before .before .before .before .before .before .before .before .before .before .before .path-held in
+    let if1 = c .before .before .before .before .before .before .before .before .before .before .before .before .before .before .before .before .before .before .before .before .before .before .if1 in
+    let args = c .before .before .before .before .before .before .before .before .before .before .before .before .before .before .before .before .before .before .before .before .before .before .before .before .before .args in
+    let pre = c .before .before .before .before .before .before .before .before .before .before .before .before .before .before .before .before .before .before .before .before .before .before .before .before .before .pre in
     let found = sym (path-held .ensures) ∙ page .given .1 in
-    let some = sym (ap (λ (x : Part). x .lack) (direct-part .ensures)) ∙ not-false (direct-part .result .lack) (if3 .left) in
-    let came = ap (λ (x : Part). x .walked) (direct-part .ensures) in
+    let inside = path-small (config (args .space .layout)) (args .space .top) (args .mem .now) (args .held) (args .root .0) false (args .address .0) (args .depth) (pre .0 .3) (held-small (config (args .space .layout)) (args .held) (pre .1) (pre .0 .3)) _ _ found in
+    let some = sym (lacking .ensures ∙ trail-lacking (config (args .space .layout)) (args .space .top) (args .mem .now) false (args .address .0) (args .depth) _ _ (direct-trail .result) (direct-trail .ensures) (pre .0 .3) (omega (arith, pre .0 .0, if1 .taken)) inside) ∙ not-false (lacking .result) (if3 .left) in
+    let came = trail-came (config (args .space .layout)) (args .space .top) (args .mem .now) false (args .address .0) (args .depth) _ _ (direct-trail .result) (direct-trail .ensures) in
     let went = path-judged (config (args .space .layout)) (args .space .top) (args .mem .now) (args .held) (args .root .0) false (args .address .0) (args .depth) _ _ some (if1 .taken) found in
     let leads = judged .ensures ∙ ap (judgedBy (args .held) true _) came in
     (subst (λ (o : Translated). ReachesFrame (o .walked)) (sym leads) (reaches-as (config (args .space .layout)) (args .space .top) (args .mem .now) (args .held) (args .root .0) false (args .address .0) (args .depth) (pre .1) _ (pre .0 .3) went), pre .2)
@@ -161,21 +178,24 @@ same-length-3 : tie.Need-same-length-3
 same-length-3 c = search needs
 
 returns-3 : tie.Need-returns-3
-unfolding loadOf partOf
+unfolding loadOf
 returns-3 c =
     let loaded3 = c .loaded3 in
     let mem = c .before .before .before .mem in
     let settle = c .before .before .before .before .settle in
     let judged = c .before .before .before .before .before .before .before .judged in
     let if3 = c .before .before .before .before .before .before .before .before .before .if3 in
-    let direct-part = c .before .before .before .before .before .before .before .before .before .before .before .direct-part in
-    let page = c .before .before .before .before .before .before .before .before .before .before .before .before .before .before .before .before .page in
-    let path-held = c .before .before .before .before .before .before .before .before .before .before .before .before .before .before .before .before .before .before .path-held in
-    let if1 = c .before .before .before .before .before .before .before .before .before .before .before .before .before .before .before .before .before .before .before .before .if1 in
-    let args = c .before .before .before .before .before .before .before .before .before .before .before .before .before .before .before .before .before .before .before .before .before .before .before .args in
+    let lacking = c .before .before .before .before .before .before .before .before .before .before .lacking in
+    let direct-trail = c .before .before .before .before .before .before .before .before .before .before .before .before .before .before .direct-trail in
+    let page = c .before .before .before .before .before .before .before .before .before .before .before .before .before .before .before .before .before .before .before .page in
+    let path-held = c .before .before .before .before .before .before .before .before .before .before .before .before .before .before .before .before .before .before .before .before .before .path-held in
+    let if1 = c .before .before .before .before .before .before .before .before .before .before .before .before .before .before .before .before .before .before .before .before .before .before .before .if1 in
+    let args = c .before .before .before .before .before .before .before .before .before .before .before .before .before .before .before .before .before .before .before .before .before .before .before .before .before .before .args in
+    let pre = c .before .before .before .before .before .before .before .before .before .before .before .before .before .before .before .before .before .before .before .before .before .before .before .before .before .before .pre in
     let found = sym (path-held .ensures) ∙ page .given .1 in
-    let some = sym (ap (λ (x : Part). x .lack) (direct-part .ensures)) ∙ not-false (direct-part .result .lack) (if3 .left) in
-    let came = ap (λ (x : Part). x .walked) (direct-part .ensures) in
+    let inside = path-small (config (args .space .layout)) (args .space .top) (args .mem .now) (args .held) (args .root .0) false (args .address .0) (args .depth) (pre .0 .3) (held-small (config (args .space .layout)) (args .held) (pre .1) (pre .0 .3)) _ _ found in
+    let some = sym (lacking .ensures ∙ trail-lacking (config (args .space .layout)) (args .space .top) (args .mem .now) false (args .address .0) (args .depth) _ _ (direct-trail .result) (direct-trail .ensures) (pre .0 .3) (omega (arith, pre .0 .0, if1 .taken)) inside) ∙ not-false (lacking .result) (if3 .left) in
+    let came = trail-came (config (args .space .layout)) (args .space .top) (args .mem .now) false (args .address .0) (args .depth) _ _ (direct-trail .result) (direct-trail .ensures) in
     let went = path-judged (config (args .space .layout)) (args .space .top) (args .mem .now) (args .held) (args .root .0) false (args .address .0) (args .depth) _ _ some (if1 .taken) found in
     let leads = judged .ensures ∙ ap (judgedBy (args .held) true _) came in
     loaded3 .ensures
@@ -250,7 +270,8 @@ load-spec =
     loaded-requires
     same-length
     returns
-    direct-part-requires
+    direct-trail-requires
+    lacking-requires
     exit-of-requires-2
     loaded-requires-2
     same-length-2

@@ -4,7 +4,6 @@ use native.Mathlib.Omega.{arith}
 use Rattle.layout.specs.Layout.{config}
 use Rattle.walk.specs.declared.Trail.{Trail}
 use Rattle.walk.specs.Memory.{walkedOf, trailFrom}
-use Rattle.accessed.specs.Entries.{bitsIn}
 use Rattle.translate.specs.Translate as translate
 use Rattle.translate.proofs.Bits.{root-frames, whole-entries}
 use Rattle.request.specs.Access.{bitsOf}

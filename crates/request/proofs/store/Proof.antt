@@ -1,5 +1,5 @@
 -- Through the path held for it the request goes on with what is held as it was, by its bits where one lacks; damage is 11; else it is translated without one. Assumes nothing.
-use mathlib.Core.Path.{_≡_, sym, ap, _∙_, subst}
+use mathlib.Core.Path.{sym, ap, _∙_, subst}
 use mathlib.Core.Logic.{⊎-elim}
 use mathlib.Core.Bool.{true, false}
 use Prim.Native.Nat.{_≤_}
@@ -9,7 +9,7 @@ use Rattle.layout.specs.Layout.{config}
 use Rattle.translate.specs.declared.Translated.{Translated}
 use Rattle.translate.specs.Translate.{translation, exitBy}
 use Rattle.translate.proofs.Fits.{exit-few, held-small}
-use Rattle.translate.proofs.Bits.{part-bitless}
+use Rattle.translate.proofs.Bits.{bitless-none}
 use Rattle.request.specs.Access.{ReachesFrame, storeFrom, storeOf}
 use Rattle.request.proofs.Held.{path-plainly, path-serves, path-small, path-missed, path-none, path-broken, reaches-as, leaves-as, store-plainly}
 use borrow.Author.Needs.{needs}
@@ -50,7 +50,7 @@ stored-requires c κs =
     let args = c .before .before .before .before .before .before .before .before .before .before .before .before .before .before .args in
     let pre = c .before .before .before .before .before .before .before .before .before .before .before .before .before .before .pre in
     let found = sym (path-held .ensures) ∙ page .given .1 in
-    let none = part-bitless (config (args .space .layout)) (args .space .top) (args .mem .now) true (args .address .0) (args .depth) _ _ (sym (bitless .ensures) ∙ if2 .taken) in
+    let none = bitless-none (config (args .space .layout)) (args .space .top) (args .mem .now) true (args .address .0) (args .depth) _ _ (sym (bitless .ensures) ∙ if2 .taken) in
     let went = path-plainly (config (args .space .layout)) (args .space .top) (args .mem .now) (args .held) (args .root .0) true (args .address .0) (args .depth) _ _ none (if1 .taken) found in
     (pre .0, pre .1 .0, subst ReachesFrame (sym (direct .ensures)) (reaches-as (config (args .space .layout)) (args .space .top) (args .mem .now) (args .held) (args .root .0) true (args .address .0) (args .depth) (pre .1) _ (pre .0 .3) went), pre .2, rw (exit-of .ensures) (exit-few (direct .result)))
 
@@ -71,7 +71,7 @@ returns c =
     let if1 = c .before .before .before .before .before .before .before .before .before .before .before .before .before .before .if1 in
     let args = c .before .before .before .before .before .before .before .before .before .before .before .before .before .before .before .before .before .args in
     let found = sym (path-held .ensures) ∙ page .given .1 in
-    let none = part-bitless (config (args .space .layout)) (args .space .top) (args .mem .now) true (args .address .0) (args .depth) _ _ (sym (bitless .ensures) ∙ if2 .taken) in
+    let none = bitless-none (config (args .space .layout)) (args .space .top) (args .mem .now) true (args .address .0) (args .depth) _ _ (sym (bitless .ensures) ∙ if2 .taken) in
     let went = path-plainly (config (args .space .layout)) (args .space .top) (args .mem .now) (args .held) (args .root .0) true (args .address .0) (args .depth) _ _ none (if1 .taken) found in
     let end = direct .result in
     stored .ensures ∙ store-plainly (config (args .space .layout)) (args .space .top) (args .root .0) (args .held) (args .held) (args .address .0) (args .width) (args .value) (exit-of .result) end (args .mem .now)

@@ -1,6 +1,5 @@
 -- By the tests. Assumes nothing.
-use mathlib.Core.Path.{sym, ap}
-use mathlib.Core.Bool.{true, not, cond}
+use mathlib.Core.Path.{sym}
 use borrow.Author.Tests.{eq-eqb, ne-eqb}
 use Rattle.translate.specs.Translate.{bitlessOf}
 use Rattle.translate.proofs.Bits.{not-not}

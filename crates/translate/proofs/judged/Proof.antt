@@ -1,5 +1,5 @@
 -- By the end of the walk. Assumes nothing.
-use mathlib.Core.Path.{_≡_, sym, ap, _∙_}
+use mathlib.Core.Path.{ap, _∙_}
 use Rattle.translate.specs.Translate.{settledBy}
 use borrow.Author.Needs.{needs}
 use Rattle.translate.proofs.judged.Statement.{statement}

@@ -1,9 +1,7 @@
 -- By the end of the direct part, and where that arrived by its bits. Assumes nothing.
-use mathlib.Core.Path.{_≡_, sym, ap, ap₂, _∙_}
 use native.Mathlib.Omega.{arith}
 use Rattle.layout.specs.Layout.{config}
 use Rattle.walk.specs.declared.Walked.the-variants as walked
-use Rattle.translate.specs.Translate.{ReadsFrom, ExitsOnce, checkedOf, strictBy, faulted as faultedBy}
 use Rattle.translate.proofs.Fits.{exit-few}
 use Rattle.translate.proofs.Bits.{checked-once}
 use borrow.Author.Needs.{needs}
@@ -22,28 +20,23 @@ enum-known-lack c = search needs
 passes-requires : tie.Need-passes-requires
 passes-requires c κs = search needs
 
-filled-requires : tie.Need-filled-requires
-filled-requires c κs = search needs
-
 enum-known-fault : tie.Need-enum-known-fault
 enum-known-fault c = search needs
 
-faulted-requires : tie.Need-faulted-requires
-faulted-requires c κs =
+end-requires : tie.Need-end-requires
+end-requires c κs =
     let fault = c .before .fault in
     let check = c .before .before .before .check in
-    let walked = c .before .before .before .before .before .before .walked in
-    let args = c .before .before .before .before .before .before .before .before .before .before .args in
-    let pre = c .before .before .before .before .before .before .before .before .before .before .pre in
+    let walked = c .before .before .before .before .before .walked in
+    let layout = c .before .before .before .before .before .before .before .layout in
+    let args = c .before .before .before .before .before .before .before .before .before .args in
+    let pre = c .before .before .before .before .before .before .before .before .before .pre in
     let once = rw (← check .ensures, fault .given .1) at (checked-once (config (args .space .layout)) (args .space .top) (args .mem .now) (args .root .0) (args .request .store) (args .request .address .0) (args .request .depth)) in
-    let reads = rw (walked .given .1) at (pre .5) in
-    (pre .1, reads .0, pre .4, reads .1, omega (arith, once))
+    let reads = rw (walked .given .1) at (pre .4) in
+    (pre .1, reads .0, pre .3, reads .1, omega (arith, once))
 
 enum-told : tie.Need-enum-told
 enum-told c = search needs
-
-damaged-requires : tie.Need-damaged-requires
-damaged-requires c κs = search needs
 
 enum-known-walked-2 : tie.Need-enum-known-walked-2
 enum-known-walked-2 c = search needs
@@ -51,67 +44,51 @@ enum-known-walked-2 c = search needs
 exit-of-requires : tie.Need-exit-of-requires
 exit-of-requires c κs = search needs
 
-faulted-requires-2 : tie.Need-faulted-requires-2
-faulted-requires-2 c κs =
+end-requires-2 : tie.Need-end-requires-2
+end-requires-2 c κs =
     let exit-of = c .exit-of in
     let walked2 = c .before .before .walked2 in
-    let args = c .before .before .before .before .before .before .args in
     let pre = c .before .before .before .before .before .before .pre in
-    let reads = rw (walked2 .given .1) at (pre .5) in
-    (pre .1, reads .0, pre .4, reads .1, rw (exit-of .ensures) (exit-few (walked.Faulted (walked2 .given .0 .0) (walked2 .given .0 .1 .0))))
+    let reads = rw (walked2 .given .1) at (pre .4) in
+    (pre .1, reads .0, pre .3, reads .1, rw (exit-of .ensures) (exit-few (walked.Faulted (walked2 .given .0 .0) (walked2 .given .0 .1 .0))))
 
 enum-told-2 : tie.Need-enum-told-2
 enum-told-2 c = search needs
 
-damaged-requires-2 : tie.Need-damaged-requires-2
-damaged-requires-2 c κs = search needs
-
-same-length : tie.Need-same-length
-same-length c = search needs
-
 returns : tie.Need-returns
 returns c =
-    let filled = c .before .before .filled in
-    let passes = c .before .before .before .before .passes in
-    let lack = c .before .before .before .before .before .before .before .lack in
-    let check = c .before .before .before .before .before .before .before .before .before .check in
-    let walked = c .before .before .before .before .before .before .before .before .before .before .before .before .walked in
-    rw (walked .given .1, ← check .ensures, lack .given .1, ← passes .ensures) (filled .ensures)
-
-same-length-2 : tie.Need-same-length-2
-same-length-2 c = search needs
+    let passes = c .passes in
+    let lack = c .before .before .lack in
+    let check = c .before .before .before .before .check in
+    let walked = c .before .before .before .before .before .before .walked in
+    rw (walked .given .1, ← check .ensures, lack .given .1, passes .ensures)
 
 returns-2 : tie.Need-returns-2
 returns-2 c =
-    let faulted = c .faulted in
+    let end = c .end in
     let fault = c .before .before .fault in
     let check = c .before .before .before .before .check in
-    let walked = c .before .before .before .before .before .before .before .walked in
-    rw (walked .given .1, ← check .ensures, fault .given .1, faulted .ensures)
-
-same-length-3 : tie.Need-same-length-3
-same-length-3 c = search needs
+    let walked = c .before .before .before .before .before .before .walked in
+    rw (walked .given .1, ← check .ensures, fault .given .1, end .ensures)
 
 returns-3 : tie.Need-returns-3
 returns-3 c =
-    let damaged = c .damaged in
-    let enum-told = c .before .enum-told in
-    let check = c .before .before .before .check in
-    let walked = c .before .before .before .before .before .before .walked in
-    rw (walked .given .1, ← check .ensures, enum-told .given .1, damaged .ensures)
+    let enum-told = c .enum-told in
+    let check = c .before .before .check in
+    let walked = c .before .before .before .before .walked in
+    rw (walked .given .1, ← check .ensures, enum-told .given .1)
 
 returns-4 : tie.Need-returns-4
 returns-4 c =
-    let faulted2 = c .faulted2 in
+    let end2 = c .end2 in
     let exit-of = c .before .exit-of in
     let walked2 = c .before .before .before .walked2 in
-    rw (walked2 .given .1, faulted2 .ensures, exit-of .ensures)
+    rw (walked2 .given .1, end2 .ensures, exit-of .ensures)
 
 returns-5 : tie.Need-returns-5
 returns-5 c =
-    let damaged2 = c .damaged2 in
-    let enum-told2 = c .before .enum-told2 in
-    rw (enum-told2 .given .1, damaged2 .ensures)
+    let enum-told2 = c .enum-told2 in
+    rw (enum-told2 .given .1)
 
 pub strict-spec : {M : Type 1} → statement M
 strict-spec =
@@ -121,21 +98,15 @@ strict-spec =
     check-requires
     enum-known-lack
     passes-requires
-    filled-requires
     enum-known-fault
-    faulted-requires
+    end-requires
     enum-told
-    damaged-requires
     enum-known-walked-2
     exit-of-requires
-    faulted-requires-2
+    end-requires-2
     enum-told-2
-    damaged-requires-2
-    same-length
     returns
-    same-length-2
     returns-2
-    same-length-3
     returns-3
     returns-4
     returns-5)

@@ -1,38 +1,56 @@
 -- By whether a bit lacks. Assumes nothing.
-use mathlib.Core.Path.{sym, ap, _∙_}
-use mathlib.Core.Bool.{true, false, cond}
+use mathlib.Core.Path.{sym, _∙_}
+use native.Mathlib.Omega.{arith}
+use borrow.Author.Tests.{not-true, not-false}
 use Rattle.layout.specs.Layout.{config}
-use Rattle.translate.specs.Translate.{translation, exitBy, judgedBy, checkedOf}
-use Rattle.translate.proofs.Bits.{through-by}
+use Rattle.translate.proofs.Bits.{trail-came, trail-framed, trail-lacking, through-by}
 use borrow.Author.Needs.{needs}
 use Rattle.translate.proofs.through.Statement.{statement}
 use Rattle.translate.proofs.through.Tie as tie
 
-direct-part-requires : tie.Need-direct-part-requires
-direct-part-requires c κs = search needs
+direct-trail-requires : tie.Need-direct-trail-requires
+direct-trail-requires c κs = search needs
 
-judged-requires : tie.Need-judged-requires
-judged-requires c κs = search needs
-
-returns : tie.Need-returns
-returns c =
-    let judged = c .judged in
-    let if1 = c .before .if1 in
-    let direct-part = c .before .before .direct-part in
+lacking-requires : tie.Need-lacking-requires
+lacking-requires c κs =
+    let direct-trail = c .before .before .direct-trail in
     let args = c .before .before .before .before .args in
-    judged .ensures ∙ sym (through-by (config (args .space .layout)) (args .space .top) (args .mem .now) (args .held) (args .root .0) (args .request .store) (args .request .address .0) (args .request .depth) (args .page .0) (args .writable) (direct-part .result) (direct-part .ensures) ∙ ap (λ b. cond b (judgedBy (args .held) true (checkedOf (config (args .space .layout)) (args .space .top) (args .mem .now) (args .root .0) (args .request .store) (args .request .address .0) (args .request .depth)) (direct-part .result .walked)) (translation (args .held) (exitBy (direct-part .result .walked)) (direct-part .result .walked) false)) (if1 .taken))
+    let pre = c .before .before .before .before .pre in
+    (omega (arith, pre .0 .0, pre .1), trail-framed (config (args .space .layout)) (args .space .top) (args .mem .now) (args .request .store) (args .request .address .0) (args .request .depth) (args .page .0) (args .writable) (direct-trail .result) (direct-trail .ensures) (pre .0 .3) (omega (arith, pre .0 .0, pre .1)) (pre .2))
 
 stopped-requires : tie.Need-stopped-requires
 stopped-requires c κs = search needs
 
-returns-2 : tie.Need-returns-2
-returns-2 c =
+returns : tie.Need-returns
+returns c =
     let stopped = c .stopped in
     let if1 = c .before .if1 in
-    let direct-part = c .before .before .direct-part in
-    let args = c .before .before .before .before .args in
-    stopped .ensures ∙ sym (through-by (config (args .space .layout)) (args .space .top) (args .mem .now) (args .held) (args .root .0) (args .request .store) (args .request .address .0) (args .request .depth) (args .page .0) (args .writable) (direct-part .result) (direct-part .ensures) ∙ ap (λ b. cond b (judgedBy (args .held) true (checkedOf (config (args .space .layout)) (args .space .top) (args .mem .now) (args .root .0) (args .request .store) (args .request .address .0) (args .request .depth)) (direct-part .result .walked)) (translation (args .held) (exitBy (direct-part .result .walked)) (direct-part .result .walked) false)) (if1 .left))
+    let lacking = c .before .before .lacking in
+    let direct-trail = c .before .before .before .before .before .direct-trail in
+    let args = c .before .before .before .before .before .before .before .args in
+    let pre = c .before .before .before .before .before .before .before .pre in
+    rw (stopped .ensures) (sym (rw (not-true (lacking .result) (if1 .taken)) at (through-by (config (args .space .layout)) (args .space .top) (args .mem .now) (args .held) (args .root .0) (args .request .store) (args .request .address .0) (args .request .depth) (args .page .0) (args .writable) (direct-trail .result .walked) (lacking .result) (trail-came (config (args .space .layout)) (args .space .top) (args .mem .now) (args .request .store) (args .request .address .0) (args .request .depth) (args .page .0) (args .writable) (direct-trail .result) (direct-trail .ensures)) (lacking .ensures ∙ trail-lacking (config (args .space .layout)) (args .space .top) (args .mem .now) (args .request .store) (args .request .address .0) (args .request .depth) (args .page .0) (args .writable) (direct-trail .result) (direct-trail .ensures) (pre .0 .3) (omega (arith, pre .0 .0, pre .1)) (pre .2)))))
+
+judged-requires : tie.Need-judged-requires
+judged-requires c κs = search needs
+
+returns-2 : tie.Need-returns-2
+returns-2 c =
+    let judged = c .judged in
+    let if1 = c .before .if1 in
+    let lacking = c .before .before .lacking in
+    let direct-trail = c .before .before .before .before .before .direct-trail in
+    let args = c .before .before .before .before .before .before .before .args in
+    let pre = c .before .before .before .before .before .before .before .pre in
+    rw (judged .ensures) (sym (rw (not-false (lacking .result) (if1 .left)) at (through-by (config (args .space .layout)) (args .space .top) (args .mem .now) (args .held) (args .root .0) (args .request .store) (args .request .address .0) (args .request .depth) (args .page .0) (args .writable) (direct-trail .result .walked) (lacking .result) (trail-came (config (args .space .layout)) (args .space .top) (args .mem .now) (args .request .store) (args .request .address .0) (args .request .depth) (args .page .0) (args .writable) (direct-trail .result) (direct-trail .ensures)) (lacking .ensures ∙ trail-lacking (config (args .space .layout)) (args .space .top) (args .mem .now) (args .request .store) (args .request .address .0) (args .request .depth) (args .page .0) (args .writable) (direct-trail .result) (direct-trail .ensures) (pre .0 .3) (omega (arith, pre .0 .0, pre .1)) (pre .2)))))
 
 pub through-spec : {M : Type 1} → statement M
 through-spec =
-    tie.close (tie.spec direct-part-requires judged-requires returns stopped-requires returns-2)
+    tie.close
+    (tie.spec
+    direct-trail-requires
+    lacking-requires
+    stopped-requires
+    returns
+    judged-requires
+    returns-2)

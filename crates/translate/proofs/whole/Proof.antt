@@ -1,5 +1,4 @@
 -- By the walk's promise. Assumes nothing.
-use mathlib.Core.Path.{_∙_}
 use borrow.Author.Needs.{needs}
 use Rattle.translate.proofs.whole.Statement.{statement}
 use Rattle.translate.proofs.whole.Tie as tie
