@@ -49,9 +49,9 @@ use Rattle.drops_laws.proofs.Find.{find-all}
 use Rattle.drops_laws.proofs.Valid.{framesAt, valid-frame, inside-area}
 use Rattle.translate.specs.declared.Translated.{Translated}
 use Rattle.translate.specs.declared.Verdict.{Verdict}
-use Rattle.translate.specs.declared.Verdict.the-variants as verdictIs
+use Rattle.translate.specs.declared.Verdict.the-variants.{Fill}
 use Rattle.translate.specs.declared.Held.{Held as Holding}
-use Rattle.translate.specs.Translate.{translation, exitBy, direct, directOf, servedOf, plainOf, whole, owingBy, checkedOf, settledBy, throughOf, unshadowedOf, servesOf, foundOf, filledOf, plainly, clearedBy, strictBy, brokenBy, laxBy, ruledBy, arrivedOf, missedBy, missedOf, foundBy, translateOf}
+use Rattle.translate.specs.Translate.{translation, exitBy, direct, directOf, servedOf, plainOf, whole, owingBy, checkedOf, settledBy, throughOf, unshadowedOf, servesOf, foundOf, filledOf, plainly, clearedBy, strictBy, laxBy, ruledBy, arrivedOf, missedBy, missedOf, foundBy, translateOf}
 use Rattle.translate.proofs.Bits.{through-off, through-on, unshadowed-off, unshadowed-on, arrived-off, arrived-on, missed-by}
 use Rattle.words.specs.After.{After, yields}
 use Rattle.calls.specs.Calls.{hostTop, heldOf, headHeld, withHeld, depthAt, translatedOf}
@@ -93,9 +93,9 @@ came-exit : (right : Bool) (x : Result Fault Place) (n : ℕ) → exitBy (cameTo
 came-exit right (granted p) n = refl
 came-exit right (failed x) n = exit-is (failed x) n
 
-not-broken : (right : Bool) (x : Result Fault Place) (n : ℕ) → brokenBy (cameTo right x n) ≡ false
-not-broken right (granted p) n = refl
-not-broken right (failed x) n = refl
+lax-fills : (w right : Bool) (x : Result Fault Place) (n : ℕ) → laxBy w (cameTo right x n) ≡ Fill w false
+lax-fills w right (granted p) n = refl
+lax-fills w right (failed x) n = refl
 
 -- a granted walk reads an entry at each index
 reads-long : (xs : List (ℕ × ℕ)) → length (map (λ x. x .1) xs) ≡ length xs
@@ -202,9 +202,6 @@ module _ (s : State) (r : Record) (m : List ℕ) (inv : Inv s r m) (covered : Al
   -- a walk's fault is the verdict
   verdict-fault : (x : Fault) → all .result ≡ failed x → verdict c mach st a ≡ failed x
   verdict-fault x e = verdict-is owing (failed x) refl e
-
-  granted-true : (x : Result Fault Place) (p : Place) → x ≡ granted p → isGranted x ≡ true
-  granted-true x p e = ap (λ (y : Result Fault Place). isGranted y) e
 
   refused-own : {A : Type 0} (x : Fault) → verdict c mach st a ≡ failed x → isGranted (verdict c mach st a) ≡ true → A
   refused-own x e k = no (sym (ap (λ (y : Result Fault Place). isGranted y) e) ∙ k)
@@ -496,7 +493,7 @@ module _ (s : State) (r : Record) (m : List ℕ) (inv : Inv s r m) (covered : Al
           by-fill (1 + hostExit x) x false v (ap (λ y. 1 + y) (late x o)) (ap (λ b. b && not (isGranted (verdict c mach st a))) off)
           (missed-at ∙ arrived-off c ht m hold rt st a deep t wide (fills.gs s r m inv st a) (part .count) off
           ∙ ap (λ y. ruled y (laxBy wide y)) (onward-came x refl)
-          ∙ ap (λ b. ruled (cameTo (rightIn x) x onward-refs) (cond b verdictIs.Damaged (verdictIs.Fill wide false))) (not-broken (rightIn x) x onward-refs)
+          ∙ ap (ruled (cameTo (rightIn x) x onward-refs)) (lax-fills wide (rightIn x) x onward-refs)
           ∙ ap₂ (λ b i. filledOf c m hold (fills.gs s r m inv st a) a deep t b (1 + i) (cameTo (rightIn x) x onward-refs) false) (sym (fills.right-is s r m inv st a t wide low shadow-comes off)) (came-exit (rightIn x) x onward-refs))
           (λ z g. off-bits c st mach all off) no
         where
