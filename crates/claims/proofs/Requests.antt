@@ -28,14 +28,13 @@ use Rattle.spec.specs.Bytes.{widthFits, aligned, bytesAt, withBytes}
 use Rattle.spec.specs.Refusal.{firstFailed, deviceFits, tests, refusal}
 use Rattle.spec.specs.Run.{State, lineOf, answered, step}
 use Rattle.spec_laws.proofs.Lists.{and-left}
-use Rattle.spec_laws.proofs.Keeps.{plain-in}
+use Rattle.spec_laws.proofs.Keeps.{plain-in, InGuestArea}
 use Rattle.spec_laws.proofs.Counts.{verdict-granted}
 use Rattle.spec_laws.proofs.SetBits.{set-on}
 use Rattle.spec_laws.proofs.Covered.{Covered}
 use Rattle.spec_laws.proofs.Asks.{asks-trace, AnswerIn, FaultFits, Guest, asks-bind, hosted-asks}
 use Rattle.words.specs.Words as words
 use Rattle.entry.proofs.Entries.{word-fits}
-use Rattle.layout.proofs.Laws.{InGuestArea}
 use Rattle.walk.specs.Memory.{walkedOf}
 use Rattle.walk.proofs.Stands.{Stands, plainWalked, same-word, stands-walked}
 use Rattle.record.specs.declared.Record.{Record}

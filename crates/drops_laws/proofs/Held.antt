@@ -5,7 +5,7 @@ use mathlib.Core.Path.{_≡_, refl, sym, ap, ap₂, _∙_, subst}
 use mathlib.Core.Logic.{_≢_, _⊎_, inl, inr}
 use Prim.Native.Nat.{ℕ, _≤_}
 use native.Mathlib.Omega.{arith}
-use mathlib.Core.Bool.{Bool, true, false, not, _&&_, _||_, cond}
+use mathlib.Core.Bool.{Bool, true, false, not, _&&_, _||_, cond, or-false}
 use mathlib.Core.List.{List, [], _∷_}
 use lib.Dec.{T, eqb, ltb}
 use lib.ListN.{length}
@@ -168,10 +168,6 @@ swap true true u = refl
 swap true false u = refl
 swap false true u = refl
 swap false false u = refl
-
-or-false : (b : Bool) → (b || false) ≡ b
-or-false true = refl
-or-false false = refl
 
 word-from : (t i : ℕ) (F : List ℕ → ℕ) (is q : List ℕ)
     → (any (λ r. eqb t (r .0) && eqb i (r .1)) (readsFrom F q is) || under (cutWord t i F) q) ≡ under (cutWord t i F) (onto q is)

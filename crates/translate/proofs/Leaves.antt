@@ -19,7 +19,6 @@ use Rattle.pool.proofs.Outside.{out-refl}
 use Rattle.area.proofs.Outside.{indexes-narrow}
 use Rattle.layout.specs.declared.HostWalk.{HostWalk}
 use Rattle.layout.specs.declared.HostWalk.the-variants as host
-use Rattle.layout.proofs.Laws.{InGuestArea}
 use Rattle.walk.specs.declared.Walked.{Walked}
 use Rattle.walk.specs.declared.Walked.the-variants as walked
 use Rattle.spec.specs.Walk.{trace}
@@ -39,6 +38,7 @@ use Rattle.words.specs.After.{After, yields}
 use Rattle.pool.specs.declared.Went.{Went}
 use Rattle.translate.specs.declared.Translated.{Translated}
 use Rattle.translate.specs.declared.Verdict.the-variants as verdict
+use Rattle.spec_laws.proofs.Keeps.{InGuestArea}
 
 top-held : (c : Config) (h : Held) → HeldFits c h → eqb (h .frame .0) 0 ≡ false → InGuestArea c (h .frame .0)
 top-held c h f q = elim (f .1) [ inl z ↦ absurd (eqb-false (h .frame .0) 0 q z) | inr g ↦ g ]

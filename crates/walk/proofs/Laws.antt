@@ -20,11 +20,12 @@ use Rattle.layout.specs.declared.HostWalk.{HostWalk}
 use Rattle.layout.specs.declared.HostWalk.the-variants as host
 use Rattle.layout.specs.Layout.{page}
 use Rattle.host.specs.Walk.{hostWalkOf}
-use Rattle.layout.proofs.Laws.{InGuestArea, HostFits}
+use Rattle.layout.proofs.Laws.{HostFits}
 use Rattle.host.proofs.Laws.{host-fits}
 use Rattle.walk.specs.declared.Walked.{Walked}
 use Rattle.walk.specs.declared.Walked.the-variants as walked
 use Rattle.walk.specs.Memory.{placeOf, readsOf, memoryWorld, absentBy, walkedBy, walkedOf, turn, foundOf}
+use Rattle.spec_laws.proofs.Keeps.{InGuestArea}
 
 -- ---- one walk after another
 
