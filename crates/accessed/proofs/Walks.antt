@@ -8,7 +8,7 @@ use mathlib.Core.List.{List, [], _∷_, map}
 use mathlib.Core.Option.{some}
 use lib.Dec.{eqb, ltb}
 use borrow.Author.Tests.{eqb-true, eqb-false, ltb-true, ltb-false}
-use lib.ListN.{length, getD, set, replicate, length-set, List·getD-eq-default}
+use lib.ListN.{length, getD, set, replicate, length-set, List·getD-eq-default, length-map}
 use lib.Seq.{getD-set-same, getD-set-other}
 use Rattle.spec.specs.declared.Fault.{Fault}
 use Rattle.spec.specs.declared.Fault.the-variants.{Absent, Malformed, Protected, HostAbsent, HostReadOnly}
@@ -22,13 +22,14 @@ use Rattle.entry.specs.declared.HostPhysical.{HostPhysical}
 use Rattle.layout.specs.declared.HostWalk.{HostWalk}
 use Rattle.layout.specs.declared.HostWalk.the-variants as host
 use Rattle.layout.specs.Layout.{page}
-use Rattle.layout.proofs.Laws.{InGuestArea, HostFits}
+use Rattle.layout.proofs.Laws.{HostFits, area-small}
 use Rattle.host.specs.Walk.{hostWalkOf}
 use Rattle.host.proofs.Laws.{host-fits}
 use Rattle.walk.specs.declared.Walked.the-variants as walked
 use Rattle.walk.specs.Memory.{placeOf, memoryWorld, absentBy, walkedBy, walkedOf, noted, framesOf, trailFrom, trailOf}
 use Rattle.walk.proofs.Trails.{noted-at}
 use Rattle.accessed.specs.Entries.{entries, Frames}
+use Rattle.spec_laws.proofs.Keeps.{InGuestArea}
 
 -- a walk over memory arrives just where it is granted
 pub arrived-granted : (c : Config) (ht : ℕ) (m : List ℕ) (n : ℕ) (p : Walk Fault Place) (t : ℕ) (w : Bool) (k : ℕ)
@@ -89,10 +90,6 @@ walk-read w c st root is r h =
 
 -- ---- their tables
 
-same-length : (xs : List (ℕ × ℕ)) → length (map (λ x. x .0) xs) ≡ length (map (λ x. x .1) xs)
-same-length [] = refl
-same-length (x ∷ xs) = ap suc (same-length xs)
-
 -- tables that begin with those of xs
 tables-entries : (xs : List (ℕ × ℕ)) (ts : List ℕ) (k : ℕ) → ((j : ℕ) → j < length (map (λ x. x .0) xs) → getD ts (k + j) 0 ≡ getD (map (λ x. x .0) xs) j 0)
     → entries ts k (map (λ x. x .1) xs) ≡ xs
@@ -108,7 +105,7 @@ unfolding trailFrom framesOf
 trail-entries c ht m n p is us l r =
     let xs = (trace (memoryWorld c ht m) p) .reads in
     let fs = map (λ x. x .0) xs in
-    let long : length fs ≡ length is = same-length xs ∙ ap length (r .indexed) in
+    let long : length fs ≡ length is = length-map xs (λ x. x .0) ∙ sym (length-map xs (λ x. x .1)) ∙ ap length (r .indexed) in
     ap (entries (noted (replicate 8 0) 0 fs) 0) (sym (r .indexed))
     ∙ tables-entries xs (noted (replicate 8 0) 0 fs) 0 (λ j k. noted-at fs (replicate 8 0) 0 j (omega (arith, long)) k)
 
@@ -175,12 +172,9 @@ module _ (c : Config) (ht : ℕ) (m : List ℕ) where
         (levels-tables st (c .levels) (t .mid .0) true is r (all (t .mid .0) (found-in root (t .mid .0) (t .mid .1) (a .0))) (t .next))
 
   module _ (few : c .frames ≤ 65536) where
-    small : (f : ℕ) → InGuestArea c f → f < frameLimit
-    small f g = omega (arith, g .1)
-
     pub levels-frames : (st : Bool) (n t : ℕ) (v : Bool) (is : List ℕ) (r : Place) → t < frameLimit → (trace (memoryWorld c ht m) (levels c st n t v is)) .result ≡ granted r
         → All (λ f. f < frameLimit) (framesOf c ht m (levels c st n t v is))
-    levels-frames st n t v is r b h = levels-tables (λ f. f < frameLimit) small st n t v is r b h
+    levels-frames st n t v is r b h = levels-tables (λ f. f < frameLimit) (area-small c few) st n t v is r b h
 
     pub trail-frames : (p : Walk Fault Place) (n : ℕ) → All (λ f. f < frameLimit) (framesOf c ht m p) → Frames (trailOf c ht m n p .tables)
     unfolding trailFrom
@@ -188,4 +182,4 @@ module _ (c : Config) (ht : ℕ) (m : List ℕ) where
 
     pub walk-frames : (st : Bool) (root : ℕ) (is : List ℕ) (r : Place) → (trace (memoryWorld c ht m) (walk c st root is)) .result ≡ granted r
         → All (λ f. f < frameLimit) (framesOf c ht m (walk c st root is))
-    walk-frames st root is r h = walk-tables (λ f. f < frameLimit) small st root is r h
+    walk-frames st root is r h = walk-tables (λ f. f < frameLimit) (area-small c few) st root is r h

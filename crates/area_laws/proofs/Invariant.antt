@@ -53,13 +53,6 @@ pub link-small : (f : ℕ) → f < 65536 → link f < entryLimit
 unfolding link
 link-small f l = omega arith
 
-pub link-set : (f : ℕ) → link f ≢ 0
-link-set f = present-set (link f) (present-link f)
-
-pub link-inj : (f g : ℕ) → link f ≡ link g → f ≡ g
-unfolding link
-link-inj f g e = omega arith
-
 pub frame-link : (f : ℕ) → f < 65536 → frameOf (link f) ≡ f
 unfolding frameOf link
 frame-link f l = omega arith

@@ -18,12 +18,12 @@ use Rattle.spec_laws.proofs.Local.{SameMapping, SameWord}
 use Rattle.spec_laws.proofs.Asks.{Guest, walk-asks}
 use Rattle.spec_laws.proofs.Indexes.{indexes-all}
 use Rattle.spec_laws.proofs.SetBits.{lacks-on, owed-on}
-use Rattle.layout.proofs.Laws.{InGuestArea}
 use Rattle.walk.specs.Memory.{memoryWorld, walkedOf}
 use Rattle.walk.proofs.Stands.{Stands, plainWalked, same-host, same-word, asked, stands-trace, root-walked}
 use Rattle.accessed.specs.Entries.{bitsIn}
 use Rattle.translate.specs.Translate.{whole, owingBy, checkedBy, checkedOf}
 use Rattle.request.specs.Access.{setBy, bitsOf}
+use Rattle.spec_laws.proofs.Keeps.{InGuestArea}
 
 module _ (c : Config) (mach : Machine) (ht : ℕ) (m : List ℕ) (st : Stands c mach ht m) where
   abbrev w : World

@@ -30,7 +30,6 @@ use Rattle.spec_laws.proofs.Lists.{and-right}
 use Rattle.spec_laws.proofs.Counts.{verdict-granted}
 use Rattle.spec_laws.proofs.SetBits.{bits-more}
 use Rattle.entry.proofs.Entries.{word-fits}
-use Rattle.layout.proofs.Laws.{InGuestArea}
 use Rattle.record.specs.declared.Record.{Record}
 use Rattle.record.specs.Record.{configOf, configBy}
 use Rattle.record.specs.Open.{refusalOf}
@@ -43,6 +42,7 @@ use Rattle.claims.proofs.Requests.{page-in, device-in, load-step, store
 use Rattle.claims.proofs.Demands.{Set, follows, after-run, run-config}
 use Rattle.claims.proofs.Plain.{tests-passed, device-passed}
 use Rattle.claims.specs.Bytes.{byteOf, byteIn, firstByte, Loads, Stores, storeAt, storeComesTo, storeFinds, GrantedAt}
+use Rattle.spec_laws.proofs.Keeps.{InGuestArea}
 
 -- ---- a word of a list of words
 

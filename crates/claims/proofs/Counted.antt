@@ -32,7 +32,7 @@ use Rattle.spec_laws.proofs.Lists.{is-true, or-second}
 use Rattle.spec_laws.proofs.Indexes.{indexes-length, indexes-all}
 use Rattle.spec_laws.proofs.Asks.{levels-asks, walk-asks}
 use Rattle.spec_laws.proofs.Parts.{direct-trace}
-use Rattle.spec_laws.proofs.Keeps.{Valid, right-deep}
+use Rattle.spec_laws.proofs.Keeps.{Valid, right-deep, InGuestArea}
 use Rattle.spec_laws.proofs.Covered.{Covered}
 use Rattle.entry.proofs.Entries.{word-fits}
 use Rattle.words.specs.Words.{wordIn}
@@ -42,12 +42,10 @@ use Rattle.area_laws.proofs.Stores.{Beside}
 use Rattle.area_laws.proofs.Whole.{Holds, holds-memory}
 use Rattle.layout.specs.declared.HostWalk.the-variants as hosts
 use Rattle.layout.specs.Layout.{page}
-use Rattle.layout.proofs.Laws.{InGuestArea}
 use Rattle.walk.specs.declared.Walked.{Walked}
 use Rattle.walk.specs.declared.Walked.the-variants as walked
 use Rattle.walk.specs.Memory.{memoryWorld}
 use Rattle.walk.proofs.Stands.{stands-trace}
-use Rattle.marks.proofs.Book.{depth-book}
 use Rattle.record.specs.declared.Record.{Record}
 use Rattle.record.specs.Record.{configOf, configBy, fitsOf}
 use Rattle.record.specs.Open.{refusalOf}
@@ -108,7 +106,7 @@ module _ (s : State) (r : Record) (m : List ℕ) (inv : Inv s r m) (a : ℕ) whe
   path = found.path s r m inv a
 
   at : depthAt r a ≡ deep
-  at = depth-book c (r .guest .marks) (s .book) (let z = found.rules s r m inv .sizes .deep in omega arith) (inv .sorted) (inv .marks) a
+  at = found.depth-is s r m inv a
 
   -- ---- the premises
 

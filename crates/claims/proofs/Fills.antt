@@ -4,7 +4,7 @@ use mathlib.Core.Path.{_≡_, refl, sym, ap, ap₂, _∙_, subst}
 use mathlib.Core.Logic.{inr}
 use Prim.Native.Nat.{ℕ, zero, suc, _-_, _*_, _/_, _^_, _<_, _≤_}
 use native.Mathlib.Omega.{arith}
-use mathlib.Core.Bool.{Bool, true, false, not, _&&_, _||_, cond}
+use mathlib.Core.Bool.{Bool, true, false, not, _&&_, _||_, cond, and-true}
 use mathlib.Core.List.{List, [], _∷_}
 use mathlib.Core.Option.{Option, none, some}
 use lib.Dec.{T, eqb, leb, ltb}
@@ -26,13 +26,12 @@ use Rattle.spec_laws.proofs.Lists.{all-map}
 use Rattle.spec_laws.proofs.Local.{SameWord}
 use Rattle.spec_laws.proofs.Indexes.{indexes-all}
 use Rattle.spec_laws.proofs.Depth.{PathFits, no-proper-prefix}
-use Rattle.spec_laws.proofs.Keeps.{Valid, held-place, fill-valid}
+use Rattle.spec_laws.proofs.Keeps.{Valid, held-place, fill-valid, InGuestArea}
 use Rattle.spec_laws.proofs.SetBits.{dirty-on}
 use Rattle.spec_laws.proofs.Refill.{others-all, others-unheld}
 use Rattle.spec_laws.proofs.Runs.{BookFits, fill-all, fill-keeps}
 use Rattle.area_laws.proofs.Paths.{onto}
 use Rattle.area_laws.proofs.Whole.{Holds, Next}
-use Rattle.layout.proofs.Laws.{InGuestArea}
 use Rattle.walk.specs.declared.Walked.{Walked}
 use Rattle.walk.proofs.Stands.{Stands, stands-trace}
 use Rattle.accessed.specs.Entries.{wordsOf}
@@ -200,11 +199,7 @@ module _ (s : State) (r : Record) (m : List ℕ) (inv : Inv s r m) (st : Bool) (
 
     -- with bits off the path has the walk's right
     pub right-is : c .bits ≡ false → right ≡ wide
-    right-is off = ap (λ b. wide && (not (b && eqb deep 0) || st || dirtyAt w (part .reads))) off ∙ go wide
-      where
-        go : (b : Bool) → (b && true) ≡ b
-        go true = refl
-        go false = refl
+    right-is off = ap (λ b. wide && (not (b && eqb deep 0) || st || dirtyAt w (part .reads))) off ∙ and-true wide
 
     -- ---- a path with an index stands in the shadow tables
     module _ (lower : deep < c .levels) where

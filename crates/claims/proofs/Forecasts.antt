@@ -4,7 +4,7 @@
 use mathlib.Core.Path.{_≡_, refl, sym, ap, ap₂, _∙_, subst}
 use Prim.Native.Nat.{ℕ, suc, _+_, _-_, _<_, _≤_, max}
 use native.Mathlib.Omega.{arith}
-use mathlib.Core.Bool.{Bool, true, false, not, _&&_, _||_, cond, false≢true}
+use mathlib.Core.Bool.{Bool, true, false, not, _&&_, _||_, cond, false≢true, or-false, or-true}
 use mathlib.Core.List.{List, [], _∷_, _++_, map}
 use mathlib.Core.Option.{Option, none, some}
 use lib.Dec.{eqb, leb, ltb}
@@ -30,16 +30,14 @@ use Rattle.spec_laws.proofs.Lists.{all-any}
 use Rattle.spec_laws.proofs.Indexes.{indexes-all}
 use Rattle.spec.specs.Entry.{pageOf}
 use Rattle.spec_laws.proofs.Added.{standing, any-append, tables-added, tables-alone, standing-append}
-use Rattle.spec_laws.proofs.Keeps.{right-off}
+use Rattle.spec_laws.proofs.Keeps.{right-off, InGuestArea}
 use Rattle.spec_laws.proofs.Covered.{Covered}
 use Rattle.spec_laws.proofs.Price.{Price, shadowPrice, plainPrice, price, Priced, load-priced, filled, serves-load}
 use Rattle.area_laws.proofs.Paths.{onto}
-use Rattle.layout.proofs.Laws.{InGuestArea}
 use Rattle.layout.specs.declared.HostWalk.the-variants as host
 use Rattle.walk.specs.Memory.{walkedOf}
 use Rattle.walk.proofs.Stands.{plainWalked, root-walked}
 use Rattle.marks.specs.Key.{keyAt}
-use Rattle.marks.proofs.Book.{depth-book}
 use Rattle.translate.specs.declared.Held.{Held as Holding}
 use Rattle.translate.specs.Translate.{translation, exitBy, directOf, servedOf, servesOf, foundOf, plainOf}
 use Rattle.forecast.specs.declared.Sum.{Sum}
@@ -243,10 +241,6 @@ module _ (s : State) (r : Record) (m : List ℕ) (inv : Inv s r m) (off : config
               go true = refl
               go false = refl
 
-          or-true : (y : Bool) → (y || true) ≡ true
-          or-true true = refl
-          or-true false = refl
-
       -- ---- not held before the list, or not any more; n of its tables stand in the shadow tables, while they are kept
       module _ (n : ℕ) (stand : n ≡ standing path (cond (o .paths .kept) ps [])) (lost : any (same path) (cond (o .paths .kept) ps []) ≡ false) where
         abbrev known : Bool
@@ -257,10 +251,6 @@ module _ (s : State) (r : Record) (m : List ℕ) (inv : Inv s r m) (off : config
             ap (any (same path)) (kept .held) ∙ any-append (same path) (map (keyPath (c .levels)) (newest ks (o .paths .count))) (cond (o .paths .kept) ps [])
             ∙ ap₂ (λ x y. x || y) (ap (λ p. any (same p) (map (keyPath (c .levels)) (newest ks (o .paths .count)))) (sym key-is) ∙ any-keys (c .levels) key (newest ks (o .paths .count)) (path-key c deep a low seven) (kept .keys)) lost
             ∙ or-false known
-          where
-            or-false : (y : Bool) → (y || false) ≡ y
-            or-false true = refl
-            or-false false = refl
 
         -- the tables that the fill makes are the book's
         tables-are : tablesWith c (o .paths .used) (newest ks (o .paths .count)) n a deep ≡ tablesOf (path ∷ paths (b .held))
@@ -366,15 +356,12 @@ module _ (s : State) (r : Record) (m : List ℕ) (inv : Inv s r m) (off : config
 
     -- ---- any address
 
-    depth-is : depthAt r a ≡ deep
-    depth-is = depth-book c (r .guest .marks) (s .book) (omega (arith, found.rules s r m inv .sizes .deep)) (inv .sorted) (inv .marks) a
-
     address-advances : (addressFits c a && aligned a 8) ≡ true → Advances o (served c mach a b) (addressOf c ht m hold (rootOf r) (keysOf r) ks o a)
     unfolding served refusal tests bookStep addressOf
     address-advances e =
         subst (λ y. Advances o (servedBy c mach a b (firstFailed ((y, 4) ∷ []))) (cond y (loadOf c ht m hold (rootOf r) ks o a (depthAt r a)) (yields (Go o) ks))) (sym e)
         (subst (λ ms. Advances o (request c mach b false a (depth ms is)) (loadOf c ht m hold (rootOf r) ks o a (depthAt r a))) (sym same-marks)
-        (subst (λ d. Advances o k (loadOf c ht m hold (rootOf r) ks o a d)) (sym depth-is) load-advances))
+        (subst (λ d. Advances o k (loadOf c ht m hold (rootOf r) ks o a d)) (sym (found.depth-is s r m inv a)) load-advances))
 
   -- ---- the list
 

@@ -24,7 +24,7 @@ use Rattle.spec_laws.proofs.Local.{Seen, seen}
 use Rattle.spec_laws.proofs.Granted.{granted-is, through}
 use Rattle.spec_laws.proofs.Indexes.{indexes-length}
 use Rattle.spec_laws.proofs.Depth.{PathFits, no-proper-prefix, fill-fits}
-use Rattle.spec_laws.proofs.Keeps.{Valid, again, right-deep}
+use Rattle.spec_laws.proofs.Keeps.{Valid, again, right-deep, InGuestArea}
 use Rattle.spec_laws.proofs.Added.{standing, standing-most, unbroken, unbroken-standing}
 use Rattle.area_laws.proofs.Paths.{onto}
 use Rattle.area_laws.proofs.Find.{steps}
@@ -33,7 +33,6 @@ use Rattle.area_laws.proofs.Whole as tree
 use Rattle.layout.specs.declared.HostWalk.{HostWalk}
 use Rattle.layout.specs.declared.HostWalk.the-variants as host
 use Rattle.layout.specs.Layout.{page}
-use Rattle.layout.proofs.Laws.{InGuestArea}
 use Rattle.walk.proofs.Stands.{Stands}
 use Rattle.record.specs.declared.Record.{Record}
 use Rattle.record.specs.Record.{configOf}
@@ -48,9 +47,10 @@ use Rattle.drops_laws.proofs.Fill.{frame-small}
 use Rattle.drops_laws.proofs.Tables.{steps-standing}
 use Rattle.drops_laws.proofs.Valid.{framesAt, entryOf, valid-entries, valid-frame, inside-area}
 use Rattle.translate.specs.Translate.{pathIndexes, foundOf}
-use Rattle.calls.specs.Calls.{hostTop, heldOf}
+use Rattle.calls.specs.Calls.{hostTop, heldOf, depthAt}
 use Rattle.claims.proofs.Invariant.{longer, topBy, frames, Inv, stands}
 use Rattle.claims.proofs.Paths.{path-upper}
+use Rattle.marks.proofs.Book.{depth-book}
 
 -- ---- lists of held paths
 
@@ -126,6 +126,9 @@ module _ (s : State) (r : Record) (m : List ℕ) (inv : Inv s r m) where
     -- the depth of the address, and its path
     abbrev pub deep : ℕ
     deep = depth (s .book .marks) (addressIndexes cfg a)
+
+    pub depth-is : depthAt r a ≡ deep
+    depth-is = depth-book cfg (r .guest .marks) (s .book) (omega (arith, rules .sizes .deep)) (inv .sorted) (inv .marks) a
 
     abbrev pub path : List ℕ
     path = pathIndexes cfg deep a

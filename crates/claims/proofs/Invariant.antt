@@ -17,11 +17,10 @@ use Rattle.spec.specs.Call.{Call}
 use Rattle.spec.specs.Run.{State, step}
 use Rattle.spec.specs.Prefix.{All}
 use Rattle.spec_laws.proofs.Asks.{AnswerIn}
-use Rattle.spec_laws.proofs.Keeps.{Valid}
+use Rattle.spec_laws.proofs.Keeps.{Valid, InGuestArea}
 use Rattle.spec_laws.proofs.Runs.{BookFits}
 use Rattle.pool.specs.declared.Pool.{Pool}
 use Rattle.area_laws.proofs.Whole.{Holds}
-use Rattle.layout.proofs.Laws.{InGuestArea}
 use Rattle.host.proofs.Mapping.{Maps, walk-is, lookup-inside}
 use Rattle.walk.proofs.Stands.{Stands}
 use Rattle.marks.specs.Reading.{marksOf}

@@ -20,11 +20,10 @@ use Rattle.spec.specs.Refusal.{tests, refusal}
 use Rattle.spec.specs.Run.{State, told}
 use Rattle.spec.specs.Prefix.{All}
 use Rattle.spec_laws.proofs.Lists.{all-map, all-any, all-kept}
-use Rattle.spec_laws.proofs.Keeps.{Valid}
+use Rattle.spec_laws.proofs.Keeps.{Valid, InGuestArea}
 use Rattle.spec_laws.proofs.Runs.{BookFits}
 use Rattle.spec_laws.proofs.Indexes.{indexes-length, indexes-above}
 use Rattle.area_laws.proofs.Hosts.{indexes-small}
-use Rattle.layout.proofs.Laws.{InGuestArea}
 use Rattle.walk.proofs.Stands.{Stands}
 use Rattle.marks.specs.declared.Marks.{Marks}
 use Rattle.marks.specs.Key.{keyAt}

@@ -24,14 +24,13 @@ use Rattle.spec.specs.Run.{State, told, step}
 use Rattle.spec.specs.Prefix.{All}
 use Rattle.spec_laws.proofs.Lists.{all-kept}
 use Rattle.spec_laws.proofs.Trail.{frameIn, frameAt}
-use Rattle.spec_laws.proofs.Keeps.{Valid}
+use Rattle.spec_laws.proofs.Keeps.{Valid, InGuestArea}
 use Rattle.spec_laws.proofs.Runs.{BookFits, step-fits}
 use Rattle.pool.specs.declared.Pool.{Pool}
 use Rattle.pool.specs.Pool.{noneOf}
 use Rattle.area_laws.proofs.Stores.{Beside, beside-drop}
 use Rattle.area_laws.proofs.Whole.{Holds, holds-none, holds-leaves, holds-beside}
 use Rattle.host.specs.Map.{hostArea}
-use Rattle.layout.proofs.Laws.{InGuestArea}
 use Rattle.host.proofs.Mapping.{Maps, answerBy}
 use Rattle.walk.specs.Memory.{placeOf, memoryWorld}
 use Rattle.walk.proofs.Stands.{Stands}

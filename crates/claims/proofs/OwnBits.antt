@@ -21,7 +21,6 @@ use Rattle.spec_laws.proofs.Indexes.{indexes-all}
 use Rattle.spec_laws.proofs.EntryBits.{with-has, bits-same}
 use Rattle.words.specs.Words.{at, wordIn, setIn}
 use Rattle.layout.specs.Layout.{page}
-use Rattle.layout.proofs.Laws.{InGuestArea}
 use Rattle.walk.specs.declared.Walked.{Walked}
 use Rattle.walk.specs.declared.Walked.the-variants as walked
 use Rattle.walk.specs.Memory.{memoryWorld, walkedOf, framesOf}
@@ -31,6 +30,8 @@ use Rattle.translate.specs.Translate.{whole}
 use Rattle.request.specs.Access.{setBy, bitsOf, settledOf}
 use Rattle.claims.specs.Safety.{Bitted, BitsOnly}
 use Rattle.claims.proofs.Puts.{area-store}
+use Rattle.spec_laws.proofs.Covered.{WordIn}
+use Rattle.spec_laws.proofs.Keeps.{InGuestArea}
 
 -- ---- one word
 
@@ -67,14 +68,11 @@ only-set a k b = (length-set a k (withBits b (getD a k 0)), λ j. go j (eqb j k)
 
 -- ---- the entries of a walk
 
-abbrev InArea : Config → ℕ × ℕ → Type 0
-InArea c x = InGuestArea c (x .0) × (x .1 < 512)
-
 bits-long : (st : Bool) (xs : List (ℕ × ℕ)) (m : List ℕ) → length (bitsIn st m xs) ≡ length m
 bits-long st [] m = refl
 bits-long st (x ∷ xs) m = bits-long st xs _ ∙ length-set m (at (x .0) (x .1)) _
 
-bits-only : (c : Config) (st : Bool) (xs : List (ℕ × ℕ)) (m : List ℕ) → All (InArea c) xs
+bits-only : (c : Config) (st : Bool) (xs : List (ℕ × ℕ)) (m : List ℕ) → All (WordIn c) xs
     → BitsOnly true (drop (512 * guestBase c) m) (drop (512 * guestBase c) (bitsIn st m xs))
 bits-only c st [] m a = only-refl true (drop (512 * guestBase c) m)
 bits-only c st (x ∷ xs) m a =
@@ -97,7 +95,7 @@ all-pairs P Q (x ∷ xs) a b = ((a .0, b .0), all-pairs P Q xs (a .1) (b .1))
 
 module _ (c : Config) (ht root : ℕ) (st : Bool) (a : ℕ) where
   whole-in : (m : List ℕ) (t : ℕ) (v : Bool) (n : ℕ) → walkedOf c ht m 0 (whole c st root a) ≡ walked.Arrived (page t) v n
-      → All (InArea c) ((trace (memoryWorld c ht m) (whole c st root a)) .reads)
+      → All (WordIn c) ((trace (memoryWorld c ht m) (whole c st root a)) .reads)
   unfolding framesOf
   whole-in m t v n e =
       let g = arrived-granted c ht m 0 (whole c st root a) t v n e in

@@ -30,7 +30,6 @@ use Rattle.words.specs.Words as words
 use Rattle.walk.specs.Memory.{memoryWorld, walkedOf}
 use Rattle.translate.specs.Translate.{whole}
 use Rattle.walk.proofs.Stands.{plainWalked}
-use Rattle.marks.proofs.Book.{depth-book}
 use Rattle.record.specs.declared.Record.{Record}
 use Rattle.record.specs.Record.{configOf, configBy, headTables}
 use Rattle.record.specs.Open.{refusalOf}
@@ -38,7 +37,7 @@ use Rattle.calls.specs.Calls.{hostTop, heldOf, headHeld, refused, admitted, pla
 use Rattle.claims.specs.Plain.{requestAt, isStore, judgedWalk, plainWalk, withOwn, Granted, Faulted, AsWalked, Unrefused}
 use Rattle.claims.specs.Run.{guestArea, runOf}
 use Rattle.claims.proofs.Invariant.{Inv, at}
-use Rattle.claims.proofs.Found.{rules, memory-stands, root-small}
+use Rattle.claims.proofs.Found.{memory-stands, root-small, depth-is}
 use Rattle.claims.proofs.Requests.{load-step, store-step, settles, same-bitted}
 use Rattle.claims.proofs.Moves.{at-inv}
 use Rattle.claims.proofs.Bits.{whole-owed, whole-walked}
@@ -72,7 +71,7 @@ module _ (s : State) (r : Record) (m : List ℕ) (inv : Inv s r m) (covered : Se
 
   -- the depth of an address is the book's
   pub deep : (a : ℕ) → depthAt r a ≡ depth (s .book .marks) (addressIndexes c a)
-  deep a = depth-book c (r .guest .marks) (s .book) (let z = rules s r m inv .sizes .deep in omega arith) (inv .sorted) (inv .marks) a
+  deep a = depth-is s r m inv a
 
   module _ (a w : ℕ) (wide : widthFits w ≡ true) (ok : addressOk false c a w ≡ true) where
     -- the book's count before a word is stored

@@ -20,7 +20,7 @@ use Rattle.spec.specs.Run.{State}
 use Rattle.spec.specs.Prefix.{All}
 use Rattle.spec_laws.proofs.Lists.{all-map, all-any, all-both, all-keep, all-kept}
 use Rattle.spec_laws.proofs.Trail.{readsFrom}
-use Rattle.spec_laws.proofs.Keeps.{Valid, drop-unwatched}
+use Rattle.spec_laws.proofs.Keeps.{Valid, drop-unwatched, InGuestArea}
 use Rattle.spec_laws.proofs.Runs.{kept-fits}
 use Rattle.spec_laws.proofs.SetBits.{once-more}
 use Rattle.words.specs.Words as words
@@ -29,7 +29,6 @@ use Rattle.pool.specs.declared.Pool.{Pool}
 use Rattle.area_laws.proofs.Stores.{Beside, beside-refl}
 use Rattle.area_laws.proofs.Whole.{Holds, holds-store}
 use Rattle.layout.specs.Layout.{page}
-use Rattle.layout.proofs.Laws.{InGuestArea}
 use Rattle.host.proofs.Mapping.{Maps}
 use Rattle.walk.proofs.Stands.{Stands, same-word}
 use Rattle.accessed.specs.Entries.{bitsIn}

@@ -29,7 +29,7 @@ use Rattle.spec_laws.proofs.Lists.{all-map, all-keep, keep-all, is-true}
 use Rattle.spec_laws.proofs.Granted.{through, then-trace, hosted-granted, level-granted}
 use Rattle.spec_laws.proofs.Trail.{readsFrom, usesFrom}
 use Rattle.spec_laws.proofs.Local.{Seen, seen}
-use Rattle.spec_laws.proofs.Keeps.{Valid, again, lookup-with, lookup-without}
+use Rattle.spec_laws.proofs.Keeps.{Valid, again, lookup-with, lookup-without, InGuestArea}
 use Rattle.spec_laws.proofs.Runs.{BookFits, all-passed}
 use Rattle.words.specs.Words.{at}
 use Rattle.pool.specs.declared.Pool.{Pool}
@@ -43,7 +43,6 @@ use Rattle.area_laws.proofs.Whole.{Holds, holds-beside}
 use Rattle.area_laws.proofs.Hosts.{host-full, host-absent}
 use Rattle.host.specs.Walk.{hostWalkOf}
 use Rattle.host.specs.Map.{hostArea, changed, changedBy, mapOf, unmapOf, maps, unmaps, mappingOnly, noBook, numberBy, mappingBy}
-use Rattle.layout.proofs.Laws.{InGuestArea}
 use Rattle.host.proofs.Mapping.{Maps, Step, answerBy, answerOf, walk-is, map-is, unmap-is, unmapped-lookup}
 use Rattle.walk.proofs.Stands.{Stands}
 use Rattle.record.specs.declared.Record.{Record}

@@ -28,20 +28,19 @@ use Rattle.spec.specs.Bytes.{widthFits, aligned, bytesAt, withBytes}
 use Rattle.spec.specs.Refusal.{firstFailed, deviceFits, tests, refusal}
 use Rattle.spec.specs.Run.{State, lineOf, answered, step}
 use Rattle.spec_laws.proofs.Lists.{and-left}
-use Rattle.spec_laws.proofs.Keeps.{plain-in}
+use Rattle.spec_laws.proofs.Keeps.{plain-in, InGuestArea}
 use Rattle.spec_laws.proofs.Counts.{verdict-granted}
 use Rattle.spec_laws.proofs.SetBits.{set-on}
 use Rattle.spec_laws.proofs.Covered.{Covered}
 use Rattle.spec_laws.proofs.Asks.{asks-trace, AnswerIn, FaultFits, Guest, asks-bind, hosted-asks}
 use Rattle.words.specs.Words as words
 use Rattle.entry.proofs.Entries.{word-fits}
-use Rattle.layout.proofs.Laws.{InGuestArea}
 use Rattle.walk.specs.Memory.{walkedOf}
 use Rattle.walk.proofs.Stands.{Stands, plainWalked, same-word, stands-walked}
 use Rattle.record.specs.declared.Record.{Record}
 use Rattle.record.specs.Record.{configOf}
 use Rattle.translate.specs.Translate.{translation, exitBy}
-use Rattle.request.proofs.Device.{deviceScript, device-script}
+use Rattle.request.proofs.Device.{deviceScript, device-walk}
 use Rattle.record.specs.Record.{headTables}
 use Rattle.accessed.specs.Entries.{bitsIn}
 use Rattle.translate.specs.declared.Held.{Held as Holding}
@@ -278,7 +277,7 @@ module _ (s : State) (r : Record) (m : List ℕ) (inv : Inv s r m) (covered : Al
           → walkedOf c ht m 0 (next true true (pageOf a) true) ≡ plainWalked ((deviceWalk c mach a) .result) ((deviceWalk c mach a) .count)
       unfolding deviceWalk
       device-walked ok =
-          ap (walkedOf c ht m 0) (device-script (pageOf a))
+          device-walk c ht m (pageOf a)
           ∙ stands-walked c mach ht m (found.memory-stands s r m inv) 0 (deviceScript (pageOf a)) (λ q. InGuestArea c (q .0)) (device-asks (pageOf a) (device-small ok))
           ∙ ap (plainWalked ((trace (world c mach) (deviceScript (pageOf a))) .result)) (zero-add ((trace (world c mach) (deviceScript (pageOf a))) .count))
 

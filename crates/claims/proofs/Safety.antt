@@ -44,7 +44,6 @@ use Rattle.layout.specs.declared.HostWalk.{HostWalk}
 use Rattle.layout.specs.declared.HostWalk.the-variants as host
 use Rattle.host.specs.Walk.{hostWalkOf}
 use Rattle.host.specs.Map.{hostArea, changed, changeBy, changedBy, mapOf, unmapOf}
-use Rattle.layout.proofs.Laws.{InGuestArea}
 use Rattle.walk.specs.declared.Walked.{Walked}
 use Rattle.walk.specs.declared.Walked.the-variants as walked
 use Rattle.walk.specs.Memory.{walkedOf}
@@ -86,6 +85,7 @@ use Rattle.request.specs.declared.Put.{Put}
 use Rattle.drops.specs.declared.Left.{Left}
 use Rattle.translate.specs.declared.Translated.{Translated}
 use Rattle.host.specs.declared.Change.{Change}
+use Rattle.spec_laws.proofs.Keeps.{InGuestArea}
 
 abbrev Kept : Record → List ℕ → After Reply → Type 0
 Kept r m e = Keeps r m e (e .result .answer)

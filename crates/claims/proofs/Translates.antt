@@ -5,11 +5,11 @@ use Prim.Native.Nat.{ℕ, zero, suc, _+_, _-_, _*_, _/_, _^_, _<_, _≤_}
 use native.Mathlib.Nat.{zero-add}
 use native.Mathlib.Omega.{arith}
 use mathlib.Core.Bool.{Bool, true, false, not, _&&_, _||_, cond}
-use mathlib.Core.List.{List, [], _∷_, map}
+use mathlib.Core.List.{List, []}
 use mathlib.Core.Option.{Option, none, some}
 use lib.Dec.{eqb, leb, ltb}
 use borrow.Author.Tests.{le-leb, lt-leb, ltb-true, ltb-false, ne-eqb}
-use lib.ListN.{length}
+use lib.ListN.{length, length-map}
 use Rattle.spec.specs.declared.Fault.{Fault}
 use Rattle.spec.specs.declared.Fault.the-variants.{HostReadOnly}
 use Rattle.spec.specs.Config.{Config}
@@ -28,7 +28,7 @@ use Rattle.spec_laws.proofs.Granted.{ran, walk-serves}
 use Rattle.spec_laws.proofs.Parts.{shadow-fault, direct-result}
 use Rattle.spec_laws.proofs.Indexes.{indexes-length, indexes-all}
 use Rattle.spec_laws.proofs.Asks.{Guest, levels-asks}
-use Rattle.spec_laws.proofs.Keeps.{Valid, again, right-wide, right-deep}
+use Rattle.spec_laws.proofs.Keeps.{Valid, again, right-wide, right-deep, InGuestArea}
 use Rattle.spec_laws.proofs.SetBits.{lacks-bits}
 use Rattle.spec_laws.proofs.Before.{off-owes, off-verdict, off-bits}
 use Rattle.spec_laws.proofs.Covered.{Covered}
@@ -36,25 +36,23 @@ use Rattle.spec_laws.proofs.Served as served
 use Rattle.spec_laws.proofs.Missed.{missed-fault, missed-request}
 use Rattle.area_laws.proofs.Paths.{onto}
 use Rattle.layout.specs.Layout.{page}
-use Rattle.layout.proofs.Laws.{InGuestArea}
 use Rattle.walk.specs.declared.Walked.{Walked}
 use Rattle.walk.specs.declared.Walked.the-variants as walked
 use Rattle.walk.specs.Memory.{memoryWorld, walkedOf, trailFrom}
 use Rattle.walk.proofs.Stands.{plainWalked, root-walked, table-walked}
 use Rattle.accessed.proofs.Walks.{walk-read}
-use Rattle.marks.proofs.Book.{depth-book}
 use Rattle.record.specs.declared.Record.{Record}
 use Rattle.record.specs.Record.{configOf, headTables}
 use Rattle.drops_laws.proofs.Find.{find-all}
 use Rattle.drops_laws.proofs.Valid.{framesAt, valid-frame, inside-area}
 use Rattle.translate.specs.declared.Translated.{Translated}
 use Rattle.translate.specs.declared.Verdict.{Verdict}
-use Rattle.translate.specs.declared.Verdict.the-variants as verdictIs
+use Rattle.translate.specs.declared.Verdict.the-variants.{Fill}
 use Rattle.translate.specs.declared.Held.{Held as Holding}
-use Rattle.translate.specs.Translate.{translation, exitBy, direct, directOf, servedOf, plainOf, whole, owingBy, checkedOf, settledBy, throughOf, unshadowedOf, servesOf, foundOf, filledOf, plainly, clearedBy, strictBy, brokenBy, laxBy, ruledBy, arrivedOf, missedBy, missedOf, foundBy, translateOf}
+use Rattle.translate.specs.Translate.{translation, exitBy, direct, directOf, servedOf, plainOf, whole, owingBy, checkedOf, settledBy, throughOf, unshadowedOf, servesOf, foundOf, filledOf, plainly, clearedBy, strictBy, laxBy, ruledBy, arrivedOf, missedBy, missedOf, foundBy, translateOf}
 use Rattle.translate.proofs.Bits.{through-off, through-on, unshadowed-off, unshadowed-on, arrived-off, arrived-on, missed-by}
 use Rattle.words.specs.After.{After, yields}
-use Rattle.calls.specs.Calls.{hostTop, heldOf, headHeld, withHeld, depthAt, translatedOf}
+use Rattle.calls.specs.Calls.{hostTop, heldOf, headHeld, withHeld, translatedOf}
 use Rattle.claims.proofs.Invariant.{frames, Inv}
 use Rattle.claims.proofs.Moves.{at-inv}
 use Rattle.claims.proofs.Paths.{path-upper, path-lower, walk-above, exit-is}
@@ -93,14 +91,9 @@ came-exit : (right : Bool) (x : Result Fault Place) (n : ℕ) → exitBy (cameTo
 came-exit right (granted p) n = refl
 came-exit right (failed x) n = exit-is (failed x) n
 
-not-broken : (right : Bool) (x : Result Fault Place) (n : ℕ) → brokenBy (cameTo right x n) ≡ false
-not-broken right (granted p) n = refl
-not-broken right (failed x) n = refl
-
--- a granted walk reads an entry at each index
-reads-long : (xs : List (ℕ × ℕ)) → length (map (λ x. x .1) xs) ≡ length xs
-reads-long [] = refl
-reads-long (x ∷ xs) = ap suc (reads-long xs)
+lax-fills : (w right : Bool) (x : Result Fault Place) (n : ℕ) → laxBy w (cameTo right x n) ≡ Fill w false
+lax-fills w right (granted p) n = refl
+lax-fills w right (failed x) n = refl
 
 no : {A : Type 0} → _≡_ {A = Bool} false true → A
 no e = let z : _≡_ {A = ℕ} 0 1 = cc in absurd (omega arith)
@@ -202,9 +195,6 @@ module _ (s : State) (r : Record) (m : List ℕ) (inv : Inv s r m) (covered : Al
   -- a walk's fault is the verdict
   verdict-fault : (x : Fault) → all .result ≡ failed x → verdict c mach st a ≡ failed x
   verdict-fault x e = verdict-is owing (failed x) refl e
-
-  granted-true : (x : Result Fault Place) (p : Place) → x ≡ granted p → isGranted x ≡ true
-  granted-true x p e = ap (λ (y : Result Fault Place). isGranted y) e
 
   refused-own : {A : Type 0} (x : Fault) → verdict c mach st a ≡ failed x → isGranted (verdict c mach st a) ≡ true → A
   refused-own x e k = no (sym (ap (λ (y : Result Fault Place). isGranted y) e) ∙ k)
@@ -496,7 +486,7 @@ module _ (s : State) (r : Record) (m : List ℕ) (inv : Inv s r m) (covered : Al
           by-fill (1 + hostExit x) x false v (ap (λ y. 1 + y) (late x o)) (ap (λ b. b && not (isGranted (verdict c mach st a))) off)
           (missed-at ∙ arrived-off c ht m hold rt st a deep t wide (fills.gs s r m inv st a) (part .count) off
           ∙ ap (λ y. ruled y (laxBy wide y)) (onward-came x refl)
-          ∙ ap (λ b. ruled (cameTo (rightIn x) x onward-refs) (cond b verdictIs.Damaged (verdictIs.Fill wide false))) (not-broken (rightIn x) x onward-refs)
+          ∙ ap (ruled (cameTo (rightIn x) x onward-refs)) (lax-fills wide (rightIn x) x onward-refs)
           ∙ ap₂ (λ b i. filledOf c m hold (fills.gs s r m inv st a) a deep t b (1 + i) (cameTo (rightIn x) x onward-refs) false) (sym (fills.right-is s r m inv st a t wide low shadow-comes off)) (came-exit (rightIn x) x onward-refs))
           (λ z g. off-bits c st mach all off) no
         where
@@ -619,7 +609,7 @@ module _ (s : State) (r : Record) (m : List ℕ) (inv : Inv s r m) (covered : Al
           by none z = says (q .1) (lacks w st (all .reads)) (granted q) 0 (verdict-is none (granted q) z e) refl (judge none z) (λ y g. own-whole y) (λ y. on)
           by (some o) z =
               let v = verdict-is (some o) (granted q) z e in
-              let reads-all : length (all .reads) ≡ c .levels = sym (reads-long (all .reads)) ∙ ap length (walk-read w c st (mach .root) (addressIndexes c a) q e .indexed) ∙ indexes-length (c .levels) (pageOf a) in
+              let reads-all : length (all .reads) ≡ c .levels = sym (length-map (all .reads) (λ x. x .1)) ∙ ap length (walk-read w c st (mach .root) (addressIndexes c a) q e .indexed) ∙ indexes-length (c .levels) (pageOf a) in
               let level : o .0 ≤ length (all .reads) = served.owed-level w st (all .reads) (all .uses) o (owes-on on ∙ z) in
               says false false (failed (HostReadOnly (o .1))) 1 v refl
               (judge (some o) z ∙ ap (λ b. translation hold (one b) (walked.Faulted (HostReadOnly (o .1)) (all .count)) false)
@@ -634,8 +624,7 @@ module _ (s : State) (r : Record) (m : List ℕ) (inv : Inv s r m) (covered : Al
   pub translates : Translates s r m st a price (translatedOf r m st a)
   unfolding translatedOf translateOf
   translates =
-      let d : depthAt r a ≡ deep = depth-book c (r .guest .marks) (s .book) (omega (arith, found.rules s r m inv .sizes .deep)) (inv .sorted) (inv .marks) a in
-      subst (λ x. Translates s r m st a price (translateOf c ht m hold rt st a x)) (sym d) (go (ltb (c .levels) deep) refl)
+      subst (λ x. Translates s r m st a price (translateOf c ht m hold rt st a x)) (sym (found.depth-is s r m inv a)) (go (ltb (c .levels) deep) refl)
     where
       go : (b : Bool) → ltb (c .levels) deep ≡ b
           → Translates s r m st a price (cond (ltb (c .levels) deep) (yields (unshadowedOf c ht m hold rt st a deep) m) (foundBy c ht m hold rt st a deep (foundOf c m hold a deep)))

@@ -11,7 +11,7 @@ use mathlib.Core.List.{List, [], _∷_, _++_}
 use mathlib.Core.Option.{Option, none, some}
 use lib.Dec.{eqb, leb, ltb, leb→le, le→leb}
 use borrow.Author.Tests.{eqb-true, eqb-false, le-ltb, lt-ltb, ltb-true, ltb-false}
-use lib.ListN.{length, getD, set, length-set}
+use lib.ListN.{length, getD, set, length-set, length-append}
 use lib.Seq.{getD-set-same, getD-set-other, set-out}
 use Rattle.spec.specs.declared.Fault.{Fault}
 use Rattle.spec.specs.declared.Fault.the-variants.{Absent, Malformed, Protected, HostAbsent, HostReadOnly}
@@ -22,7 +22,7 @@ use Rattle.spec.specs.Plain.{Place, must, hosted, entry, next, levels, walk}
 use Rattle.spec.specs.Bits.{isLast, withBits, lacks, owed}
 use Rattle.spec.specs.Refusal.{inGuestArea}
 use Rattle.spec.specs.Prefix.{All}
-use Rattle.spec_laws.proofs.Lists.{all-map, all-any, all-left, is-true, is-false}
+use Rattle.spec_laws.proofs.Lists.{all-map, all-any, all-left, is-true, is-false, all-append}
 use Rattle.spec_laws.proofs.Indexes.{indexes-length, indexes-all}
 use Rattle.spec_laws.proofs.Asks.{AnswerIn, Guest}
 use Rattle.spec_laws.proofs.Local as answers
@@ -46,7 +46,7 @@ use Rattle.area_laws.proofs.Local.{SameEntry, look-local, Counts, look-count}
 use Rattle.layout.specs.declared.HostWalk.{HostWalk}
 use Rattle.layout.specs.declared.HostWalk.the-variants as hosts
 use Rattle.layout.specs.Layout.{page, leafOf, namedBy}
-use Rattle.layout.proofs.Laws.{InGuestArea, HostFits}
+use Rattle.layout.proofs.Laws.{HostFits}
 use Rattle.host.specs.Walk.{hostWalkOf}
 use Rattle.host.proofs.Laws.{host-fits}
 use Rattle.walk.specs.declared.Walked.{Walked}
@@ -68,20 +68,13 @@ use Rattle.request.specs.Access.{setBy, bitsOf, settledOf}
 use Rattle.calls.specs.Calls.{hostTop, heldOf, rootOf, depthAt, translatedOf}
 use Rattle.claims.specs.Counted.{Word, SameWords, hostWords, walkWords, pathWords, directWords, countedOf, LacksNone, SetsNone}
 use Rattle.words.specs.After.{After, yields}
+use Rattle.spec_laws.proofs.Keeps.{InGuestArea}
 
 -- ---- lists of words
 
 all-rest : {A : Type 0} (P : A → Type 0) (xs ys : List A) → All P (xs ++ ys) → All P ys
 all-rest P [] ys h = h
 all-rest P (x ∷ xs) ys h = all-rest P xs ys (h .1)
-
-all-append : {A : Type 0} (P : A → Type 0) (xs ys : List A) → All P xs → All P ys → All P (xs ++ ys)
-all-append P [] ys h k = k
-all-append P (x ∷ xs) ys h k = (h .0, all-append P xs ys (h .1) k)
-
-length-both : {A : Type 0} (xs ys : List A) → length (xs ++ ys) ≡ length xs + length ys
-length-both [] ys = let z : length ys ≡ 0 + length ys = omega arith in z
-length-both (x ∷ xs) ys = let k = length-both xs ys in let z : suc (length (xs ++ ys)) ≡ suc (length xs) + length ys = omega arith in z
 
 -- equal words have equal entries
 same-entries : (m n : List ℕ) (xs : List Word) → SameWords m n xs → All (SameEntry m n) xs
@@ -408,10 +401,10 @@ walk-count c ht m (host g k) j h =
         → ((r : Place) → Reads (j + c .levels + length (walkWords c ht m (k (some r)))) (walkedOf c ht m (j + c .levels) (k (some r))))
         → Reads (j + length (hostWords c ht m g ++ walkWords c ht m (k (placeOf x)))) (onHost c ht m j g k x)
     go (hosts.Found p w) q ih =
-        let l = length-both (hostWords c ht m g) (walkWords c ht m (k (some (p .0, w)))) in
+        let l = length-append (hostWords c ht m g) (walkWords c ht m (k (some (p .0, w)))) in
         reads-same (j + c .levels + length (walkWords c ht m (k (some (p .0, w))))) (j + length (hostWords c ht m g ++ walkWords c ht m (k (some (p .0, w)))))
         (walkedOf c ht m (j + c .levels) (k (some (p .0, w)))) (omega (arith, l, q)) (ih (p .0, w))
-    go (hosts.Absent n) q ih = let l = length-both (hostWords c ht m g) (walkWords c ht m (k none)) in omega (arith, l, q, none-read)
+    go (hosts.Absent n) q ih = let l = length-append (hostWords c ht m g) (walkWords c ht m (k none)) in omega (arith, l, q, none-read)
     go hosts.Damaged q ih = tt
 walk-count c ht m (word t i k) j h =
     subst (Reads (j + suc (length (walkWords c ht m (k (wordIn m t i)))))) (sym (walked-word c ht m j t i k))
@@ -581,7 +574,7 @@ module _ (r : Record) (st : Bool) (a : ℕ) where
   unfolding directOf
   comes m (held t w l f s) =
       let e = held-counted m t w l f in
-      let long = ap length e ∙ length-both (pathWords r m a d) (directly m (t .0) w) ∙ ap (λ x. x + length (directly m (t .0) w)) (path-reads m t w l f) in
+      let long = ap length e ∙ length-append (pathWords r m a d) (directly m (t .0) w) ∙ ap (λ x. x + length (directly m (t .0) w)) (path-reads m t w l f) in
       let x : Translated = throughOf c ht m hold rt st a d (t .0) w in
       let q = through-comes m (t .0) w (length (countedOf r m st a))
       (reads-same _ _ (from m (t .0) w) (sym long) (walk-count c ht m (direct c st a d (t .0) w) (c .levels - d) (levels-ends c st _ (t .0) w (indexes d (pageOf a))))) in

@@ -6,7 +6,7 @@ use mathlib.Core.Logic.{_≢_, inl, inr}
 use Prim.Native.Nat.{ℕ, zero, suc, _+_, _%_, _<_, _≤_}
 use native.Mathlib.Omega.{arith}
 use native.Mathlib.Decide.{ℕ-discrete}
-use mathlib.Core.Bool.{Bool, true, false, not, _&&_, _||_, cond}
+use mathlib.Core.Bool.{Bool, true, false, not, _&&_, _||_, cond, or-false}
 use mathlib.Core.List.{List, [], _∷_}
 use mathlib.Core.Option.{Option, none, some, IsSome}
 use lib.Dec.{T, eqb, eqb-refl}
@@ -213,11 +213,7 @@ module _ (h : Held) (e : h .path ≡ []) where
   empty-frame F r t = ap (any (λ x. eqb t (x .0))) (r ∙ ap (readsFrom F []) e)
 
   pub empty-mapping : (G : List ℕ → ℕ) (root : ℕ) → h .uses ≡ root ∷ usesFrom G [] (h .path) → (g : ℕ) → usesMapping g h ≡ eqb g root
-  empty-mapping G root u g = ap (any (eqb g)) (u ∙ ap (λ is. root ∷ usesFrom G [] is) e) ∙ only (eqb g root)
-    where
-      only : (b : Bool) → (b || false) ≡ b
-      only true = refl
-      only false = refl
+  empty-mapping G root u g = ap (any (eqb g)) (u ∙ ap (λ is. root ∷ usesFrom G [] is) e) ∙ or-false (eqb g root)
 
   pub empty-prefix : (i : ℕ) (is : List ℕ) → begins (i ∷ is) (h .path) ≡ false
   empty-prefix i is = ap (begins (i ∷ is)) e

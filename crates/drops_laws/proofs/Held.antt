@@ -5,7 +5,7 @@ use mathlib.Core.Path.{_≡_, refl, sym, ap, ap₂, _∙_, subst}
 use mathlib.Core.Logic.{_≢_, _⊎_, inl, inr}
 use Prim.Native.Nat.{ℕ, _≤_}
 use native.Mathlib.Omega.{arith}
-use mathlib.Core.Bool.{Bool, true, false, not, _&&_, _||_, cond}
+use mathlib.Core.Bool.{Bool, true, false, not, _&&_, _||_, cond, or-false}
 use mathlib.Core.List.{List, [], _∷_}
 use lib.Dec.{T, eqb, ltb}
 use lib.ListN.{length}
@@ -14,11 +14,9 @@ use Rattle.spec.specs.Entry.{present, switch, frameOf}
 use Rattle.spec.specs.Prefix.{begins, same, any, keep, propers}
 use Rattle.spec.specs.Refusal.{inGuestArea}
 use Rattle.spec.specs.Book.{Held, readsWord, usesMapping, dropWord, dropMapping, dropPrefix}
-use Rattle.spec.specs.Count.{others}
 use Rattle.spec.specs.Prefix.{All}
-use Rattle.spec_laws.proofs.Lists.{all-map, all-any, all-keep, begins-refl, same-is, same-refl, is-true, is-false, or-cases, or-left, or-right}
+use Rattle.spec_laws.proofs.Lists.{all-map, all-any, begins-refl, same-is, same-refl, is-true, is-false, or-cases, or-left, or-right}
 use Rattle.spec_laws.proofs.Distinct.{In}
-use Rattle.spec_laws.proofs.Refill.{others-all}
 use Rattle.spec_laws.proofs.Trail.{readsFrom, usesFrom}
 use Rattle.area_laws.specs.Run.{Map, get}
 use Rattle.area_laws.proofs.Change.{differ}
@@ -60,12 +58,6 @@ pub record HeldEntry (c : Config) (T G : List ℕ → ℕ) (root e : ℕ) (h : H
 -- all of them
 pub record HeldEntries (c : Config) (T G : List ℕ → ℕ) (root : ℕ) (w : Held → ℕ) (hs : List Held) : Type 0 where
   pub all : All (λ h. HeldEntry c T G root (w h) h) hs
-
-pub entries-keep : {c : Config} {F G : List ℕ → ℕ} {root : ℕ} {w : Held → ℕ} {hs : List Held} (f : Held → Bool) → HeldEntries c F G root w hs → HeldEntries c F G root w (keep f hs)
-entries-keep {hs = hs} f a = record { all = all-map _ _ (keep f hs) (λ h k. k .0) (all-keep _ f hs (a .all)) }
-
-pub entries-others : {c : Config} {F G : List ℕ → ℕ} {root : ℕ} {w : Held → ℕ} {hs : List Held} (p : List ℕ) → HeldEntries c F G root w hs → HeldEntries c F G root w (others c p hs)
-entries-others {c = c} {hs = hs} p a = record { all = others-all _ c p hs (a .all) }
 
 -- where a leaf stands a path is held
 pub record HeldAt (P : Held → Type 0) (w : Held → ℕ) (hs : List Held) (q : List ℕ) : Type 0 where
@@ -176,10 +168,6 @@ swap true true u = refl
 swap true false u = refl
 swap false true u = refl
 swap false false u = refl
-
-or-false : (b : Bool) → (b || false) ≡ b
-or-false true = refl
-or-false false = refl
 
 word-from : (t i : ℕ) (F : List ℕ → ℕ) (is q : List ℕ)
     → (any (λ r. eqb t (r .0) && eqb i (r .1)) (readsFrom F q is) || under (cutWord t i F) q) ≡ under (cutWord t i F) (onto q is)

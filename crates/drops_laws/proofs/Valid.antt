@@ -4,11 +4,10 @@ use mathlib.Core.Path.{_≡_, refl, sym, ap, _∙_, subst}
 use mathlib.Core.Logic.{inl, inr}
 use Prim.Native.Nat.{ℕ, _^_, _<_, _≤_}
 use native.Mathlib.Omega.{arith}
-use mathlib.Core.Bool.{true, false, not}
+use mathlib.Core.Bool.{false, not}
 use mathlib.Core.List.{List, [], _∷_, head-eq-of-cons-eq, tail-eq-of-cons-eq}
 use lib.Dec.{T, eqb, ltb}
 use lib.ListN.{length}
-use borrow.Author.Tests.{le-leb, lt-ltb}
 use Rattle.spec.specs.declared.Fault.{Fault}
 use Rattle.spec.specs.Config.{Config, guestBase, frameBits}
 use Rattle.spec.specs.Entry.{frameOf, frameLimit, entryLimit}
@@ -23,10 +22,9 @@ use Rattle.spec_laws.proofs.Trail as trail
 use Rattle.spec_laws.proofs.Trail.{frameIn, frameAt, namedAt, readsFrom, usesFrom, walk-trail}
 use Rattle.spec_laws.proofs.Local.{Seen, seen}
 use Rattle.spec_laws.proofs.Asks.{walk-asks}
-use Rattle.spec_laws.proofs.Keeps.{Valid, again, InArea, MappedIn, shadow-asked, store-keeps, mapping-keeps}
+use Rattle.spec_laws.proofs.Keeps.{Valid, again, InGuestArea, MappedIn, shadow-asked, store-keeps, mapping-keeps}
 use Rattle.spec_laws.proofs.SetBits.{MoreBits, more-keep}
 use Rattle.pool.specs.declared.Pool.{Pool}
-use Rattle.layout.proofs.Laws.{InGuestArea}
 use Rattle.walk.specs.Memory.{memoryWorld}
 use Rattle.walk.proofs.Stands.{Stands, stands-trace}
 use Rattle.area_laws.proofs.Paths.{onto, Pre, Ext}
@@ -37,6 +35,7 @@ use Rattle.shadow.proofs.Parts.{entry-present, entry-switch, entry-frame, entry
 use Rattle.drops_laws.proofs.Held.{leafAt, HeldEntry, HeldEntries, leaf-held, leaf-same}
 use Rattle.drops_laws.proofs.Watch.{ext-on}
 use Rattle.drops_laws.proofs.Drops.{namedIn}
+use Rattle.layout.proofs.Laws.{area-test}
 
 -- ---- headers: the host frames of guest tables are fixed by the words read
 reads-agree : (F G : List ℕ → ℕ) (is x y : List ℕ) → readsFrom F x is ≡ readsFrom G x is → Pre y x is → F y ≡ G y
@@ -67,9 +66,6 @@ onto-same : (q is : List ℕ) → trail.onto q is ≡ onto q is
 unfolding onto
 onto-same q [] = refl
 onto-same q (i ∷ is) = onto-same (i ∷ q) is
-
-in-area : (c : Config) (f : ℕ) → InArea c f → inGuestArea c f ≡ true
-in-area c f a = rw (le-leb _ _ (a .0), lt-ltb _ _ (a .1))
 
 -- the host frames of guest tables and pages, by prefix, as the walk over memory reaches them
 abbrev pub framesAt : Config → ℕ → List ℕ → ℕ → List ℕ → ℕ
@@ -110,7 +106,7 @@ module _ (c : Config) (s : Machine) (ht : ℕ) (m : List ℕ) (st : Stands c s h
     pub valid-frame : framesAt c ht m (s .root) (onto [] (h .path)) ≡ v .frame
     valid-frame = ap (frameAt (memoryWorld c ht m) (s .root)) (sym (onto-same [] (h .path))) ∙ sym (trailed .2)
 
-    pub inside-area : InArea c (v .frame)
+    pub inside-area : InGuestArea c (v .frame)
     unfolding part
     inside-area = shadow-asked c s false (h .path) (st .inside) small (v .small) .grants (v .frame, v .wide) grants
 
@@ -118,7 +114,7 @@ module _ (c : Config) (s : Machine) (ht : ℕ) (m : List ℕ) (st : Stands c s h
     unfolding entryOf part
     valid-entry = record {
       set = entry-present (framesAt c ht m (s .root) (onto [] (h .path))) (ltb (length (h .path)) (c .levels)) (h .right);
-      area = ap (inGuestArea c) (entry-frame (framesAt c ht m (s .root) (onto [] (h .path))) (ltb (length (h .path)) (c .levels)) (h .right) thin ∙ valid-frame) ∙ in-area c (v .frame) inside-area;
+      area = ap (inGuestArea c) (entry-frame (framesAt c ht m (s .root) (onto [] (h .path))) (ltb (length (h .path)) (c .levels)) (h .right) thin ∙ valid-frame) ∙ area-test c (v .frame) inside-area;
       ends = entry-switch (framesAt c ht m (s .root) (onto [] (h .path))) (ltb (length (h .path)) (c .levels)) (h .right);
       reads = sym read ∙ sym (ap (λ (x : Trace Fault Place). x .reads) same-part) ∙ trailed .0;
       uses = sym used ∙ sym (ap (λ (x : Trace Fault Place). x .uses) same-part) ∙ trailed .1 ∙ ap (λ us. s .root ∷ us) (named-same (h .path) []);

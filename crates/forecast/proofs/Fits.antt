@@ -28,7 +28,6 @@ use Rattle.marks.specs.Key.{lowPage, keyAt, searchOf}
 use Rattle.translate.specs.declared.Held.{Held}
 use Rattle.translate.specs.declared.Translated.{Translated}
 use Rattle.translate.specs.Translate.{ReadsMost, pathOf, pathIndexes, directOf, servedOf, plainOf}
-use Rattle.layout.proofs.Laws.{InGuestArea}
 use Rattle.translate.proofs.Fits.{exit-small, levels-most, walk-most, FoundIs, found-is}
 use Rattle.forecast.specs.declared.Sum.{Sum}
 use Rattle.forecast.specs.declared.Paths.{Paths}
@@ -37,6 +36,8 @@ use Rattle.forecast.specs.declared.Next.{Next}
 use Rattle.forecast.specs.declared.Next.the-variants.{Go, Damaged}
 use Rattle.forecast.specs.Forecast.{newest, tablesWith, filledOf, paidBy, paid, heldAfter, missedBy, missedOf, foundBy, keptOf, loadOf, addressOf}
 use Rattle.forecast.specs.Fits.{SumFits, PathsFit, OutlookFits}
+use Rattle.spec_laws.proofs.Counts.{one-most}
+use Rattle.spec_laws.proofs.Keeps.{InGuestArea}
 
 -- ---- the words of a walk
 
@@ -77,10 +78,6 @@ kept-is c P all m h true a d k = found-is c P all m h a d k
 kept-is c P all m h false a d k = tt
 
 -- ---- one address
-
-pub one-most : (b : Bool) → one b ≤ 1
-one-most true = omega arith
-one-most false = omega arith
 
 abbrev pub NextFits : ℕ → Next → Type 0
 NextFits i (Go o) = OutlookFits i o

@@ -7,7 +7,7 @@ use native.Mathlib.Omega.{arith}
 use mathlib.Core.Bool.{Bool, true, false, not, _||_, cond}
 use mathlib.Core.List.{List, [], _∷_}
 use mathlib.Core.Option.{Option, none, some}
-use lib.Dec.{T, eqb, leb, ltb, ltb→lt, leb→le, nleb→lt, lt→ltb, le→leb}
+use lib.Dec.{T, eqb, leb, ltb, ltb→lt, leb→le, nleb→lt}
 use lib.Pow.{pow-mono}
 use lib.ListN.{length, drop}
 use Rattle.spec.specs.Config.{Config, guestBase, frameBits}
@@ -16,7 +16,6 @@ use Rattle.spec.specs.Plain.{Place}
 use Rattle.spec.specs.Machine.{Mapping, lookup, with, without, isMapped, hostTables, hostCost}
 use Rattle.spec.specs.Refusal.{firstFailed, frameFits, inGuestArea, tests, refusal}
 use Rattle.spec.specs.Prefix.{All}
-use Rattle.spec_laws.proofs.Lists.{is-true, both}
 use Rattle.pool.specs.declared.Pool.{Pool}
 use Rattle.pool.specs.Pool.{noneOf}
 use Rattle.area.specs.Tree.{enterOf, insertOf}
@@ -33,10 +32,11 @@ use Rattle.layout.specs.declared.HostWalk.the-variants.{Found, Absent}
 use Rattle.layout.specs.Layout.{page, leafOf, namedBy}
 use Rattle.host.specs.Walk.{hostWalkOf}
 use Rattle.host.specs.Map.{hostArea, changed, changedBy, mapOf, unmapOf, Remap, maps, unmaps, remapOf, Remapped, remapsOf, asCall, mappingOnly, noBook, numberBy, mappingBy, Mapped, mapsOf}
-use Rattle.layout.proofs.Laws.{InGuestArea, in-guest-area}
+use Rattle.layout.proofs.Laws.{in-guest-area, area-test}
 use Rattle.words.specs.After.{After}
 use Rattle.pool.specs.declared.Went.{Went}
 use Rattle.host.specs.declared.Change.{Change}
+use Rattle.spec_laws.proofs.Keeps.{InGuestArea}
 
 -- what the mapping says of a guest frame, as the code has it; n: the words read where there is none
 abbrev pub answerBy : ℕ → Option Place → HostWalk
@@ -64,9 +64,6 @@ lookup-inside c g (x ∷ xs) r a e = go (eqb g (x .guest)) e (lookup-inside c g 
     go : (b : Bool) → cond b (some (x .to, x .right)) (lookup g xs) ≡ some r → (lookup g xs ≡ some r → InGuestArea c (r .0)) → InGuestArea c (r .0)
     go true k ih = let z : (x .to, x .right) ≡ r = cc in subst (λ (q : Place). InGuestArea c (q .0)) z (a .0)
     go false k ih = ih k
-
-area-test : (c : Config) (f : ℕ) → InGuestArea c f → inGuestArea c f ≡ true
-area-test c f b = is-true (inGuestArea c f) (both (leb (guestBase c) f) (ltb f (c .frames)) (le→leb (guestBase c) f (b .0)) (lt→ltb f (c .frames) (b .1)))
 
 module _ (c : Config) (xs : List Mapping) (p : Pool) (m : List ℕ) (h : Maps c xs p m) where
   -- the host walk of every guest frame, with its count

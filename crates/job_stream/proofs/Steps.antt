@@ -66,9 +66,6 @@ turn-short f g m n b d e r h = record {
 
 -- ---- a record at a time
 
-number-ran : (f : Flow) (m s : List ℕ) (t : Bool) → ranOf f m s t .after .result .number ≤ f .number + 1
-number-ran f m s t = omega arith
-
 either : (n : ℕ) (t : Bool) (x y : Turned) → x .after .result .number ≤ n → y .after .result .number ≤ n → cond t x y .after .result .number ≤ n
 either n true x y p q = p
 either n false x y p q = q

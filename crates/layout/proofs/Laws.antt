@@ -8,7 +8,7 @@ use mathlib.Core.List.{List}
 use lib.Dec.{T, leb, ltb, leb→le, ltb→lt}
 use lib.ListN.{length}
 use Rattle.spec.specs.Config.{Config, guestBase}
-use Rattle.spec.specs.Entry.{present, writable, frameOf}
+use Rattle.spec.specs.Entry.{present, writable, frameOf, frameLimit}
 use Rattle.spec.specs.Refusal.{inGuestArea}
 use Rattle.spec_laws.proofs.Lists.{and-left, and-right}
 use Rattle.area.specs.declared.Look.{Look}
@@ -19,13 +19,18 @@ use Rattle.area.proofs.Laws.{LookGood, look-good}
 use Rattle.layout.specs.declared.HostWalk.{HostWalk}
 use Rattle.layout.specs.declared.HostWalk.the-variants.{Found, Absent, Damaged}
 use Rattle.layout.specs.Layout.{leafOf, namedBy, page}
+use Rattle.spec_laws.proofs.Keeps.{InGuestArea}
+use borrow.Author.Tests.{le-leb, lt-ltb}
 
-abbrev pub InGuestArea : Config → ℕ → Type 0
-InGuestArea c f = (guestBase c ≤ f) × (f < c .frames)
+pub area-small : (c : Config) → c .frames ≤ 65536 → (f : ℕ) → InGuestArea c f → f < frameLimit
+area-small c few f g = omega (arith, g .1)
 
 pub in-guest-area : (c : Config) (f : ℕ) → T (inGuestArea c f) → InGuestArea c f
 in-guest-area c f h =
     (leb→le (guestBase c) f (and-left (leb (guestBase c) f) (ltb f (c .frames)) h), ltb→lt f (c .frames) (and-right (leb (guestBase c) f) (ltb f (c .frames)) h))
+
+pub area-test : (c : Config) (f : ℕ) → InGuestArea c f → inGuestArea c f ≡ true
+area-test c f a = rw (le-leb _ _ (a .0), lt-ltb _ _ (a .1))
 
 -- a frame that is found lies in the guest area; an absent one is told after at most a word a level
 abbrev pub HostFits : Config → HostWalk → Type 0

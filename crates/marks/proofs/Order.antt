@@ -10,7 +10,7 @@ use lib.ListN.{length}
 use Rattle.spec.specs.Prefix.{any, keep, same}
 use Rattle.spec.specs.Book.{Mark, sameMark, isSet, levelFor, depth}
 use Rattle.spec.specs.Refusal.{noTwoAlike}
-use Rattle.spec_laws.proofs.Lists.{is-true, same-refl}
+use Rattle.spec_laws.proofs.Lists.{is-true, same-refl, or-swap}
 use Rattle.spec_laws.proofs.Indexes.{eqb-sym, same-sym}
 use Rattle.marks.proofs.Ascending.{and-left}
 
@@ -28,14 +28,8 @@ module _ {A B : Type 0} (F : List A → B) (g : A → B → B) (step : (x : A) (
       ∙ ap (g a′) (sym (step b′ l)) ∙ sym (step a′ (b′ ∷ l))
   members-fold (List·Permᴰ·trans d₁ d₂) = members-fold d₁ ∙ members-fold d₂
 
-or-either : (a b r : Bool) → (a || (b || r)) ≡ (b || (a || r))
-or-either true true r = refl
-or-either true false r = refl
-or-either false true r = refl
-or-either false false r = refl
-
 pub members-any : {A : Type 0} (f : A → Bool) {xs ys : List A} → SameMembers xs ys → any f xs ≡ any f ys
-members-any f d = members-fold (any f) (λ x r. f x || r) (λ x xs. refl) (λ x y r. or-either (f x) (f y) r) d
+members-any f d = members-fold (any f) (λ x r. f x || r) (λ x xs. refl) (λ x y r. or-swap (f x) (f y) r) d
 
 pub members-length : {A : Type 0} {xs ys : List A} → SameMembers xs ys → length xs ≡ length ys
 members-length {A} d = members-fold {A = A} length (λ x r. suc r) (λ x xs. refl) (λ x y r. refl) d

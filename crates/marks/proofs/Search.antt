@@ -2,7 +2,7 @@
 -- Assumes nothing.
 use mathlib.Core.Path.{_≡_, refl, sym}
 use mathlib.Core.Bool.{Bool, true, false, _||_, cond}
-use mathlib.Core.List.{List, [], _∷_, _++_, map}
+use mathlib.Core.List.{List, [], _∷_, map}
 use Prim.Native.Nat.{ℕ, zero, suc, _<_}
 use native.Mathlib.Omega.{arith}
 use native.Mathlib.Decide.{ℕ-discrete}
@@ -11,17 +11,13 @@ use lib.Dec.{eqb, ltb}
 use lib.ListN.{getD}
 use Rattle.spec.specs.Prefix.{any}
 use Rattle.spec.specs.Prefix.{All}
-use Rattle.spec_laws.proofs.Lists.{all-map}
+use Rattle.spec_laws.proofs.Lists.{all-map, all-append}
 use Rattle.bits.specs.Bit.{bit, setAt, places}
 use Rattle.marks.specs.Table.{room, keys, placeIn, placeOf}
 
 -- each place of the list is below k, and set
 abbrev Set : ℕ → ℕ → ℕ → Type 0
 Set k x i = (i < k) × (bit x i ≡ 1)
-
-all-append : {A : Type 0} (P : A → Type 0) (xs ys : List A) → All P xs → All P ys → All P (xs ++ ys)
-all-append P [] ys a b = b
-all-append P (x ∷ xs) ys a b = (a .0, all-append P xs ys (a .1) b)
 
 places-set : (k x : ℕ) → All (Set k x) (places k x)
 unfolding places

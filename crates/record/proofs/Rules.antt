@@ -20,7 +20,6 @@ use Rattle.area_laws.proofs.Invariant.{slot, inside-is}
 use Rattle.area_laws.proofs.Whole.{Holds}
 use Rattle.layout.specs.declared.Layout.{Layout}
 use Rattle.layout.specs.Layout.{LayoutFits, config}
-use Rattle.layout.proofs.Laws.{InGuestArea}
 use Rattle.marks.specs.declared.Marks.{Marks}
 use Rattle.marks.specs.Key.{keysFit}
 use Rattle.marks.specs.Reading.{marksOf}
@@ -28,6 +27,7 @@ use Rattle.marks.proofs.Book.{keysOf, marks-fit, all-held}
 use Rattle.record.specs.declared.Record.{Record}
 use Rattle.record.specs.Record.{levels, layoutOf, configBy, configOf, heldTop, isTable, poolFits, poolsFit, choicesFit, fitsOf, sizesFit, tablesFit, zeros, headOf, headRoot, withHead, withMarks}
 use Rattle.record.specs.Open.{refusalOf}
+use Rattle.spec_laws.proofs.Keeps.{InGuestArea}
 
 both : (a b : Bool) → a && b ≡ true → (a ≡ true) × (b ≡ true)
 both a b e = and-eq-true-iff a b .0 e

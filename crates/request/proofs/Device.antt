@@ -19,7 +19,7 @@ use Rattle.translate.proofs.Fits.{ArrivedIn}
 abbrev pub deviceScript : ℕ → Walk Fault Place
 deviceScript g = hosted g >>= λ p. must (p .1) (HostReadOnly g) >> done p
 
-pub device-script : (g : ℕ) → next true true g true ≡ deviceScript g
+device-script : (g : ℕ) → next true true g true ≡ deviceScript g
 unfolding next
 device-script g = refl
 

@@ -13,7 +13,7 @@ use Rattle.words.specs.After.{After, yields}
 use Rattle.entry.specs.declared.HostPhysical.{HostPhysical}
 use Rattle.layout.specs.declared.HostWalk.{HostWalk}
 use Rattle.layout.specs.declared.HostWalk.the-variants as host
-use Rattle.layout.proofs.Laws.{InGuestArea}
+use Rattle.layout.proofs.Laws.{area-small}
 use Rattle.walk.specs.declared.Walked.{Walked}
 use Rattle.walk.specs.declared.Walked.the-variants as walked
 use Rattle.translate.specs.declared.Held.{Held}
@@ -120,12 +120,9 @@ module _ (c : Config) (ht : ℕ) (m : List ℕ) (h : Held) (root : ℕ) (st : Bo
 
   pub path-small : c .frames ≤ 65536 → h .frame .0 < frameLimit → (t : HostPhysical) (w : Bool) → pathHeldOf c m h st a d ≡ host.Found t w → t .0 < frameLimit
   unfolding pathHeldOf
-  path-small few top t w e = by (foundOf c m h a d) (found-is c (λ f. f < frameLimit) inside m h a d (λ z. top)) e
+  path-small few top t w e = by (foundOf c m h a d) (found-is c (λ f. f < frameLimit) (area-small c few) m h a d (λ z. top)) e
     where
-      inside : (f : ℕ) → InGuestArea c f → f < frameLimit
-      inside f g = omega (arith, g .1)
-
-      by : (x : HostWalk) → FoundIs c (λ f. f < frameLimit) inside x → servingBy st d x ≡ host.Found t w → t .0 < frameLimit
+      by : (x : HostWalk) → FoundIs c (λ f. f < frameLimit) (area-small c few) x → servingBy st d x ≡ host.Found t w → t .0 < frameLimit
       by (host.Absent k) g e = let z : _≡_ {A = ℕ} 0 1 = cc in absurd (omega arith)
       by host.Damaged g e = let z : _≡_ {A = ℕ} 0 1 = cc in absurd (omega arith)
       by (host.Found u v) g e = go (servesOf st d v) refl

@@ -280,6 +280,7 @@ pub fn load(
                     let exits = translate::exit_of(walked);
                     return loaded(mem, held, held, walked, exits, address.0, width);
                 }
+                // As translate::through, but that nothing is handed on by way of memory: most loads with bits lack none.
                 let trail = translate::direct_trail(mem, space, request, page, writable);
                 let walked = trail.walked;
                 if !translate::lacking(mem, space.layout, request, walked, &trail.tables) {

@@ -17,10 +17,15 @@ use Rattle.spec.specs.Machine.{Machine, costOf, hostCost, world}
 use Rattle.spec.specs.Bits.{owes, judged}
 use Rattle.spec.specs.Book.{Book, find}
 use Rattle.spec.specs.Call.{addressIndexes, plain, verdict}
-use Rattle.spec.specs.Count.{isGranted, serves, shadowed, unshadowed, request}
+use Rattle.spec.specs.Count.{isGranted, serves, shadowed, unshadowed, request, one}
 use Rattle.spec_laws.proofs.Indexes.{indexes-length}
 use Rattle.spec_laws.proofs.Granted.{no-grant, through, then-trace, hosted-granted, level-granted}
 use Rattle.spec_laws.proofs.Parts.{plain-parts}
+
+-- one exit at most
+pub one-most : (b : Bool) → one b ≤ 1
+one-most true = omega arith
+one-most false = omega arith
 
 -- the host walk of a mapped frame reads N words
 pub mapped-cost : (c : Config) (m : Machine) (g : ℕ) (r : Place) → (world c m) .hostAt g ≡ some r → (world c m) .hostCost g ≡ c .levels

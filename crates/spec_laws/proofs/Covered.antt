@@ -34,7 +34,7 @@ use Rattle.spec_laws.proofs.Parts.{direct-trace}
 use Rattle.spec_laws.proofs.Counts.{shadowOf, directOf, verdict-granted}
 use Rattle.spec_laws.proofs.Refill.{others-all}
 use Rattle.spec_laws.proofs.Runs.{fill-all, request-book}
-use Rattle.spec_laws.proofs.Keeps.{again, Valid, InArea, MappedIn, shadow-asked, plain-in, places, differ, store-keeps, lookup-without, lookup-with, mapping-keeps, upper-small, upper-long, fill-valid}
+use Rattle.spec_laws.proofs.Keeps.{again, Valid, InGuestArea, MappedIn, shadow-asked, plain-in, places, differ, store-keeps, lookup-without, lookup-with, mapping-keeps, upper-small, upper-long, fill-valid}
 use Rattle.spec_laws.proofs.SetBits.{MoreBits, bits-more, more-keep, Placed, bits-lacks, lacks-five, lacks-six}
 
 pub record Covered (c : Config) (m : Machine) (h : Held) : Type 0 where
@@ -83,13 +83,13 @@ pub record MachineFits (c : Config) (m : Machine) : Type 0 where
 
 pub more-fits : (c : Config) (m n : Machine) → MoreBits c m n → MachineFits c m → MachineFits c n
 more-fits c m n a f = record {
-  mapped = λ g. subst (λ xs. AnswerIn (InArea c) (lookup g xs)) (sym (a .mappings)) (f .mapped g);
+  mapped = λ g. subst (λ xs. AnswerIn (InGuestArea c) (lookup g xs)) (sym (a .mappings)) (f .mapped g);
   root = subst (λ r. r < 2 ^ frameBits c) (sym (a .root)) (f .root);
   long = a .long ∙ f .long;
 }
 
 abbrev pub WordIn : Config → ℕ × ℕ → Type 0
-WordIn c x = InArea c (x .0) × (x .1 < 512)
+WordIn c x = InGuestArea c (x .0) × (x .1 < 512)
 
 placed : (c : Config) (m : Machine) (x : ℕ × ℕ) → MachineFits c m → WordIn c x → Placed c m x
 placed c m x f k = subst (λ n. place c (x .0) (x .1) < n) (sym (f .long)) (below (x .0) (x .1) (guestBase c) (c .frames) (k .0 .0) (k .0 .1) (k .1))
@@ -203,20 +203,20 @@ request-stands c m b st a d f old = go (verdict c m st a) refl
 
 -- ---- a granted store, the device's too: the word, then the drops
 
-storing-stands : (c : Config) (m : Machine) (k : Counted) (p : Place) (i v : ℕ) → MachineFits c m → InArea c (p .0) → i < 512 → All (Stands c m) (k .book .held)
+storing-stands : (c : Config) (m : Machine) (k : Counted) (p : Place) (i v : ℕ) → MachineFits c m → InGuestArea c (p .0) → i < 512 → All (Stands c m) (k .book .held)
     → All (Stands c (stored c m (p .0) i v)) ((storing i (granted p) k) .book .held)
 unfolding storing
 storing-stands c m k p i v f at b a =
     all-map (λ h. Stands c m h × T (not (readsWord (p .0) i h))) (Stands c (stored c m (p .0) i v)) (dropWord (p .0) i (k .book .held))
     (λ h z. store-stands c m (p .0) i v h f (at .0) b (z .0) (z .1)) (all-keep (Stands c m) (λ h. not (readsWord (p .0) i h)) (k .book .held) a)
 
-pub device-in : (c : Config) (m : Machine) (a : ℕ) (p : Place) → MappedIn c m → (deviceWalk c m a) .result ≡ granted p → InArea c (p .0)
+pub device-in : (c : Config) (m : Machine) (a : ℕ) (p : Place) → MappedIn c m → (deviceWalk c m a) .result ≡ granted p → InGuestArea c (p .0)
 unfolding deviceWalk world trace
 device-in c m a p mi h =
     let w = world c m in
     let t = through w (hosted (pageOf a)) (λ q. must (q .1) (HostReadOnly (pageOf a)) >> done q) p h in
     let g = hosted-granted w (pageOf a) (t .mid) (t .first) in
-    subst (λ (q : Place). InArea c (q .0)) (same (t .mid) (t .mid .1) (t .next)) (subst (AnswerIn (InArea c)) (g .0) (mi (pageOf a)))
+    subst (λ (q : Place). InGuestArea c (q .0)) (same (t .mid) (t .mid .1) (t .next)) (subst (AnswerIn (InGuestArea c)) (g .0) (mi (pageOf a)))
   where
     same : (q : Place) (b : Bool) → (trace (world c m) (must b (HostReadOnly (pageOf a)) >> done q)) .result ≡ granted p → q ≡ p
     same q true e = granted-is q p e

@@ -135,7 +135,3 @@ bits-same ends e h = go ends h
     go : (b : Bool) → hasBits b e ≡ true → withBits b e ≡ e
     go false z = there 5 e (and-first (bitSet 5 e) true z)
     go true z = ap (withBit 6) (there 5 e (and-first (bitSet 5 e) (bitSet 6 e) z)) ∙ there 6 e (and-second (bitSet 5 e) (bitSet 6 e) z)
-
--- a word of 64 bits stays one
-pub with-lt : (ends : Bool) (e : ℕ) → e < 2 ^ 64 → withBits ends e < 2 ^ 64
-with-lt ends e h = let k = (with-kept ends e) .alike .high in omega (arith, h, k)

@@ -79,22 +79,22 @@ valid-again c m n h v e = record { small = v .small; frame = v .frame; wide = v 
 
 -- ---- the words that a shadow part reads are in the guest area
 
-abbrev pub InArea : Config → ℕ → Type 0
-InArea c f = (guestBase c ≤ f) × (f < c .frames)
+abbrev pub InGuestArea : Config → ℕ → Type 0
+InGuestArea c f = (guestBase c ≤ f) × (f < c .frames)
 
 -- every mapping leads into the guest area
 abbrev pub MappedIn : Config → Machine → Type 0
-MappedIn c m = (g : ℕ) → AnswerIn (InArea c) (lookup g (m .mappings))
+MappedIn c m = (g : ℕ) → AnswerIn (InGuestArea c) (lookup g (m .mappings))
 
 pub shadow-asked : (c : Config) (m : Machine) (st : Bool) (p : List ℕ) → MappedIn c m → m .root < 2 ^ frameBits c → All (λ i. i < 512) p
-    → Asked (AnswerIn (InArea c)) (λ g. g < 2 ^ frameBits c) (λ t i. InArea c t × (i < 512)) (FaultFits c) (λ r. InArea c (r .0)) (trace (world c m) (walk c st (m .root) p))
+    → Asked (AnswerIn (InGuestArea c)) (λ g. g < 2 ^ frameBits c) (λ t i. InGuestArea c t × (i < 512)) (FaultFits c) (λ r. InGuestArea c (r .0)) (trace (world c m) (walk c st (m .root) p))
 unfolding world
 shadow-asked c m st p mi b s =
-    asks-trace (AnswerIn (InArea c)) (λ g. g < 2 ^ frameBits c) (λ t i. InArea c t × (i < 512)) (FaultFits c) (world c m) (walk c st (m .root) p) (λ r. InArea c (r .0)) mi
-    (walk-asks c (InArea c) st (m .root) p b s)
+    asks-trace (AnswerIn (InGuestArea c)) (λ g. g < 2 ^ frameBits c) (λ t i. InGuestArea c t × (i < 512)) (FaultFits c) (world c m) (walk c st (m .root) p) (λ r. InGuestArea c (r .0)) mi
+    (walk-asks c (InGuestArea c) st (m .root) p b s)
 
 -- and a granted walk comes to a page there
-pub plain-in : (c : Config) (m : Machine) (st : Bool) (a : ℕ) (r : Place) → MappedIn c m → m .root < 2 ^ frameBits c → (plain c m st a) .result ≡ granted r → InArea c (r .0)
+pub plain-in : (c : Config) (m : Machine) (st : Bool) (a : ℕ) (r : Place) → MappedIn c m → m .root < 2 ^ frameBits c → (plain c m st a) .result ≡ granted r → InGuestArea c (r .0)
 unfolding plain
 plain-in c m st a r mi b h = shadow-asked c m st (addressIndexes c a) mi b (indexes-all (c .levels) (pageOf a)) .grants r h
 
@@ -131,7 +131,7 @@ store-keeps c m t i v h mi rb bt bi va nr =
     u = world c (stored c m t i v)
 
     In : ℕ × ℕ → Type 0
-    In x = InArea c (x .0) × (x .1 < 512)
+    In x = InGuestArea c (x .0) × (x .1 < 512)
 
     Off : ℕ × ℕ → Type 0
     Off x = T (not (eqb t (x .0) && eqb i (x .1)))

@@ -24,11 +24,11 @@ use Rattle.spec.specs.Refusal.{allOf, refusal}
 use Rattle.spec.specs.Run.{State, lineOf, answered, step, run, after}
 use Rattle.spec.specs.Serving.{exitsPaid, allPaid}
 use Rattle.spec.specs.Quiet.{Role, roleOf, roleBy, met, grantedAt, onlyGranted, translated, comesToWatched, unwatchedAt, noneWatched, pathOf, pathAt, added, pathsAt, touched, allFit, quiet, quietExits}
-use Rattle.spec_laws.proofs.Lists.{all-map, all-both, and-left, and-right, is-true, is-false, not-both, same-is, or-cases, or-left, or-right}
+use Rattle.spec_laws.proofs.Lists.{all-map, all-both, and-left, and-right, is-true, is-false, not-both, same-is, or-cases, or-left, or-right, or-swap}
 use Rattle.spec_laws.proofs.Before.{off-verdict, off-bits}
 use Rattle.spec_laws.proofs.Distinct.{in-right}
 use Rattle.spec_laws.proofs.Refill.{others-all}
-use Rattle.spec_laws.proofs.Keeps.{Valid, InArea, MappedIn, upper-small, upper-long, plain-in, store-keeps, unwatched-unread, drop-unwatched, fill-valid}
+use Rattle.spec_laws.proofs.Keeps.{Valid, InGuestArea, MappedIn, upper-small, upper-long, plain-in, store-keeps, unwatched-unread, drop-unwatched, fill-valid}
 use Rattle.spec_laws.proofs.Runs.{fill-all, request-book}
 use Rattle.spec_laws.proofs.Added.{any-append}
 use Rattle.spec_laws.proofs.Members.{Within, SamePaths, distinct-same, tables-within, distinct-new, none-new}
@@ -109,7 +109,7 @@ storing-unwatched i p k n =
     (ap (λ b. k .exits + one b) (is-false (watched (p .0) (k .book .held)) (λ w. not-both (watched (p .0) (k .book .held)) w n)) ∙ add-zero (k .exits))
     (drop-unwatched (p .0) i (k .book .held) n)
 
-stored-sound : (c : Config) (m : Machine) (t i v : ℕ) (hs : List Held) → InArea c t → i < 512 → T (not (watched t hs)) → Sound c m hs → Sound c (stored c m t i v) hs
+stored-sound : (c : Config) (m : Machine) (t i v : ℕ) (hs : List Held) → InGuestArea c t → i < 512 → T (not (watched t hs)) → Sound c m hs → Sound c (stored c m t i v) hs
 stored-sound c m t i v hs at l n s = record {
   mapped = s .mapped;
   root = s .root;
@@ -220,18 +220,13 @@ grown-same : (t : Option (List ℕ)) (ps hs : List (List ℕ)) → SamePaths (ps
 grown-same none ps hs q = refl
 grown-same (some p) ps hs q = go (any (same p) hs) refl
   where
-    swap : (a b d : Bool) → (a || (b || d)) ≡ (b || (a || d))
-    swap true true d = refl
-    swap true false d = refl
-    swap false b d = refl
-
     held : (b : Bool) → same q p ≡ b → any (same p) hs ≡ true → any (same q) (ps ++ hs) ≡ (b || any (same q) (ps ++ hs))
     held true e k = any-append (same q) ps hs ∙ ap (λ b. any (same q) ps || b) (ap (λ x. any (same x) hs) (same-is q p (subst T (sym e) tt)) ∙ k) ∙ or-true (any (same q) ps)
     held false e k = refl
 
     go : (b : Bool) → any (same p) hs ≡ b → any (same q) (ps ++ cond b hs (p ∷ hs)) ≡ (same q p || any (same q) (ps ++ hs))
     go true k = held (same q p) refl k
-    go false k = any-append (same q) ps (p ∷ hs) ∙ swap (any (same q) ps) (same q p) (any (same q) hs) ∙ ap (λ b. same q p || b) (sym (any-append (same q) ps hs))
+    go false k = any-append (same q) ps (p ∷ hs) ∙ or-swap (any (same q) ps) (same q p) (any (same q) hs) ∙ ap (λ b. same q p || b) (sym (any-append (same q) ps hs))
 
 -- one path more where it was paid for
 grown-paid : (t : Option (List ℕ)) (hs : List (List ℕ)) → distinct (grown t hs) ≡ pays t hs + distinct hs

@@ -4,7 +4,7 @@ use mathlib.Core.Path.{_≡_, refl, sym, ap, ap₂, _∙_, subst}
 use Prim.Native.Nat.{ℕ, _+_, _-_, _<_, _≤_}
 use native.Mathlib.Nat.{zero-add}
 use native.Mathlib.Omega.{arith}
-use mathlib.Core.Bool.{Bool, true, false, not, _&&_, cond}
+use mathlib.Core.Bool.{Bool, true, false, not, _&&_, cond, and-false}
 use mathlib.Core.List.{List, _∷_, map}
 use mathlib.Core.Option.{Option, none, some}
 use Rattle.spec.specs.declared.Fault.{Fault}
@@ -13,7 +13,6 @@ use Rattle.spec.specs.Entry.{indexes, pageOf, frameOf, frameLimit}
 use Rattle.spec.specs.Walk.{World, Trace, granted, trace}
 use Rattle.spec.specs.Plain.{Place, levels, walk}
 use Rattle.spec.specs.Bits.{lacks, owed}
-use Rattle.spec.specs.Count.{one}
 use lib.Dec.{eqb, leb}
 use borrow.Author.Tests.{eqb-true, eq-eqb, ne-eqb}
 use Rattle.spec_laws.proofs.Indexes.{indexes-length}
@@ -34,6 +33,7 @@ use Rattle.translate.specs.declared.Verdict.{Verdict}
 use Rattle.walk.specs.declared.Trail.{Trail}
 use Rattle.words.specs.After.{After}
 use Rattle.translate.proofs.Fits.{exit-small}
+use Rattle.spec_laws.proofs.Counts.{one-most}
 
 module _ (c : Config) (ht : ℕ) (m : List ℕ) where
   abbrev w : World
@@ -101,10 +101,6 @@ module _ (c : Config) (ht : ℕ) (m : List ℕ) where
 
 -- ---- ranges
 
-exit-once : (b : Bool) → one b ≤ 1
-exit-once true = omega arith
-exit-once false = omega arith
-
 -- what stops a request by its bits costs an exit at most
 pub checked-once : (c : Config) (ht : ℕ) (m : List ℕ) (root : ℕ) (st : Bool) (a d : ℕ) → ExitsOnce (checkedOf c ht m root st a d)
 unfolding checkedOf
@@ -115,7 +111,7 @@ checked-once c ht m root st a d =
   where
     owing : (l : Bool) (o : Option (ℕ × ℕ)) → ExitsOnce (owingBy d l o)
     owing l none = tt
-    owing l (some o) = exit-once (leb (o .0) d)
+    owing l (some o) = one-most (leb (o .0) d)
 
     go : (l : Bool) (o : Option (ℕ × ℕ)) (r : Walked) → ExitsOnce (checkedBy d l o r)
     go l o (walked.Arrived p v n) = owing l o
@@ -132,10 +128,6 @@ lacking-none walked.Damaged = refl
 pub not-not : (b : Bool) → not (not b) ≡ b
 not-not true = refl
 not-not false = refl
-
-and-false : (b : Bool) → (b && false) ≡ false
-and-false true = refl
-and-false false = refl
 
 pub chosen-off : (b : ℕ) → b ≡ 0 → not (eqb b 0) ≡ false
 chosen-off b e = ap not (eq-eqb b 0 e)

@@ -20,7 +20,7 @@ use Rattle.area.specs.Tree.{lookupOf}
 use Rattle.layout.specs.declared.HostWalk.{HostWalk}
 use Rattle.layout.specs.declared.HostWalk.the-variants as host
 use Rattle.layout.specs.Layout.{page, leafOf, namedBy}
-use Rattle.layout.proofs.Laws.{InGuestArea, in-guest-area}
+use Rattle.layout.proofs.Laws.{in-guest-area}
 use Rattle.walk.specs.declared.Walked.{Walked}
 use Rattle.walk.specs.declared.Walked.the-variants as walked
 use Rattle.walk.specs.Memory.{memoryWorld, absentBy, walkedBy, walkedOf, turn}
@@ -32,6 +32,7 @@ use Rattle.spec.specs.declared.Fault.{Fault}
 use Rattle.spec.specs.Walk.{Walk, Result, granted, failed, trace}
 use Rattle.spec_laws.proofs.Indexes.{indexes-length}
 use Rattle.host.specs.Walk.{hostWalkOf}
+use Rattle.spec_laws.proofs.Keeps.{InGuestArea}
 
 pub exit-small : (r : Walked) → exitBy r ≤ 1
 exit-small (walked.Arrived t w n) = omega arith

@@ -19,7 +19,6 @@ use Rattle.pool.proofs.Outside.{out-refl}
 use Rattle.area.proofs.Outside.{indexes-narrow}
 use Rattle.layout.specs.declared.HostWalk.{HostWalk}
 use Rattle.layout.specs.declared.HostWalk.the-variants as host
-use Rattle.layout.proofs.Laws.{InGuestArea}
 use Rattle.walk.specs.declared.Walked.{Walked}
 use Rattle.walk.specs.declared.Walked.the-variants as walked
 use Rattle.spec.specs.Walk.{trace}
@@ -32,13 +31,14 @@ use Rattle.shadow.proofs.Fresh.{fill-fits}
 use Rattle.translate.specs.declared.Held.{Held}
 use Rattle.translate.specs.declared.Checked.{Checked}
 use Rattle.translate.specs.declared.Checked.the-variants as checked
-use Rattle.translate.specs.Translate.{exitBy, pathOf, pathIndexes, holding, HeldFits, ExitsOnce, translation, whole, direct, directOf, servedOf, plainOf, checkedOf, settledBy, judgedBy, throughOf, unshadowedOf, servesOf, foundOf, fillBy, filledOf, passesOf, clearedBy, strictBy, brokenBy, laxBy, verdictOf, ruledBy, arrivedOf, missedBy, missedOf, foundBy, translateOf}
+use Rattle.translate.specs.Translate.{exitBy, pathOf, pathIndexes, holding, HeldFits, ExitsOnce, translation, whole, direct, directOf, servedOf, plainOf, checkedOf, settledBy, judgedBy, throughOf, unshadowedOf, servesOf, foundOf, fillBy, filledOf, passesOf, clearedBy, strictBy, laxBy, verdictOf, ruledBy, arrivedOf, missedBy, missedOf, foundBy, translateOf}
 use Rattle.translate.proofs.Fits.{exit-small, ArrivedIn, direct-in, walk-in, FoundIs, found-is}
 use Rattle.translate.proofs.Bits.{checked-once}
 use Rattle.words.specs.After.{After, yields}
 use Rattle.pool.specs.declared.Went.{Went}
 use Rattle.translate.specs.declared.Translated.{Translated}
 use Rattle.translate.specs.declared.Verdict.the-variants as verdict
+use Rattle.spec_laws.proofs.Keeps.{InGuestArea}
 
 top-held : (c : Config) (h : Held) → HeldFits c h → eqb (h .frame .0) 0 ≡ false → InGuestArea c (h .frame .0)
 top-held c h f q = elim (f .1) [ inl z ↦ absurd (eqb-false (h .frame .0) 0 q z) | inr g ↦ g ]
@@ -146,13 +146,14 @@ module _ (c : Config) (ht : ℕ) (m : List ℕ) (st : Bool) (h : Held) (f : Held
       strict on (walked.Faulted x j) i = ended m _ _ none (let k = exit-small (walked.Faulted x j) in omega arith) tt
       strict on walked.Damaged i = ended m 0 walked.Damaged none (omega arith) tt
 
-      lax : (b : Bool) → Leaves c m (ruledBy c m h gs a d t r (cond b verdict.Damaged (verdict.Fill w false)))
-      lax true = ended m 0 walked.Damaged none (omega arith) tt
-      lax false = fills w r false here (λ z. absurd (false≢true z))
+      lax : (x : Walked) → ArrivedIn c x → Leaves c m (ruledBy c m h gs a d t x (laxBy w x))
+      lax (walked.Arrived p v j) i = fills w (walked.Arrived p v j) false i (λ z. absurd (false≢true z))
+      lax (walked.Faulted x j) i = fills w (walked.Faulted x j) false i (λ z. absurd (false≢true z))
+      lax walked.Damaged i = ended m 0 walked.Damaged none (omega arith) tt
 
       go : (b : Bool) → c .bits ≡ b → Leaves c m (ruledBy c m h gs a d t r (cond b (strictBy c m gs st a d n w (checkedOf c ht m root st a d) r) (laxBy w r)))
       go true on = strict on r here
-      go false off = lax (brokenBy r)
+      go false off = lax r here
 
   missed-leaves : Leaves c m (missedOf c ht m h root st a d)
   unfolding missedOf trailFrom

@@ -234,14 +234,11 @@ strictBy c m gs st a d n w b (walked.Arrived p v k) = clearedBy c m gs st a d n 
 strictBy c m gs st a d n w b (walked.Faulted x k) = verdict.End x (plainly c d n k) (1 + exitBy (walked.Faulted x k))
 strictBy c m gs st a d n w b walked.Damaged = verdict.Damaged
 
-abbrev pub brokenBy : Walked → Bool
-brokenBy (walked.Arrived p w n) = false
-brokenBy (walked.Faulted x n) = false
-brokenBy walked.Damaged = true
-
 -- with bits off a fault of the direct part fills too
 abbrev pub laxBy : Bool → Walked → Verdict
-laxBy w r = cond (brokenBy r) verdict.Damaged (verdict.Fill w false)
+laxBy w (walked.Arrived p v n) = verdict.Fill w false
+laxBy w (walked.Faulted x n) = verdict.Fill w false
+laxBy w walked.Damaged = verdict.Damaged
 
 -- what becomes of a request whose shadow part read n words and whose direct part came to r; w: whether its path may be written through
 unfoldable pub verdictOf : Config → ℕ → List ℕ → ℕ → List ℕ → Bool → ℕ → ℕ → ℕ → Bool → Walked → Verdict

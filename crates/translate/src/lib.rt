@@ -6,7 +6,7 @@ ghost use Rattle.spec.specs.Entry.{indexes, pageOf, frameLimit};
 ghost use Rattle.spec.specs.Bits.{lacks};
 ghost use Rattle.words.specs.After.{yields};
 ghost use Rattle.layout.specs.Layout.{LayoutFits, config};
-ghost use Rattle.translate.specs.Translate.{exitBy, ReadsFrom, translation, whole, direct, directOf, servedOf, plainOf, checkedOf, debtBy, entriesOf, settledBy, judgedBy, bitlessOf, Framed, lackingBy, throughOf, unshadowedOf, servesOf, pathOf, foundOf, filledOf, passesOf, plainly, strictBy, brokenBy, laxBy, verdictOf, arrivedOf, missedOf, unservedOf};
+ghost use Rattle.translate.specs.Translate.{exitBy, ReadsFrom, translation, whole, direct, directOf, servedOf, plainOf, checkedOf, debtBy, entriesOf, settledBy, judgedBy, bitlessOf, Framed, lackingBy, throughOf, unshadowedOf, servesOf, pathOf, foundOf, filledOf, passesOf, plainly, strictBy, laxBy, verdictOf, arrivedOf, missedOf, unservedOf};
 ghost use Rattle.walk.specs.Memory.{trailOf};
 ghost use Rattle.accessed.specs.Entries.{entries, Frames, wordsOf};
 use accessed::Debt;
@@ -98,6 +98,18 @@ pub fn exit_of(walked: Walked) -> u64
             Fault::HostReadOnly(frame) => 1,
         },
         Walked::Damaged => 0,
+    }
+}
+
+// A request by where its walk came to, with no bit to set.
+fn as_walked(held: Held, walked: Walked) -> Translated
+    ensures { λ r. ⌜ r ≡ translation held (exitBy walked) walked false ⌝ }
+{
+    Translated {
+        held: held,
+        exits: exit_of(walked),
+        walked: walked,
+        sets: false,
     }
 }
 
@@ -205,12 +217,7 @@ pub fn plain(
 {
     let trail = whole(mem, space, store, root, address);
     let walked = trail.walked;
-    Translated {
-        held: held,
-        exits: exit_of(walked),
-        walked: walked,
-        sets: false,
-    }
+    as_walked(held, walked)
 }
 
 // ---- bits
@@ -293,18 +300,6 @@ fn settled(held: Held, walked: Walked, reads: u64, checked: Checked) -> Translat
     }
 }
 
-// A request that ended before its word, without its bits.
-fn stopped(held: Held, walked: Walked) -> Translated
-    ensures { λ r. ⌜ r ≡ translation held (exitBy walked) walked false ⌝ }
-{
-    Translated {
-        held: held,
-        exits: exit_of(walked),
-        walked: walked,
-        sets: false,
-    }
-}
-
 // Is there no bit to look at? Bits are off, or no guest entry is read.
 pub fn bitless(layout: Layout, depth: u64) -> bool
     ensures { λ r. ⌜ r ≡ bitlessOf (config layout) depth ⌝ }
@@ -364,7 +359,7 @@ pub fn judged(
             writable,
             reads,
         } => settled(held, walked, reads, check(mem, space, root, request)),
-        Walked::Faulted { fault, reads } => stopped(held, walked),
+        Walked::Faulted { fault, reads } => as_walked(held, walked),
         Walked::Damaged => damaged(held),
     }
 }
@@ -385,7 +380,7 @@ pub fn through(
     let trail = direct_trail(mem, space, request, page, writable);
     let walked = trail.walked;
     if !lacking(mem, space.layout, request, walked, &trail.tables) {
-        return stopped(held, walked);
+        return as_walked(held, walked);
     }
     judged(mem, space, root, held, request, walked)
 }
@@ -417,7 +412,7 @@ fn unshadowed(
             reads,
             judge(mem, space, root, request, &trail.tables),
         ),
-        Walked::Faulted { fault, reads } => stopped(held, walked),
+        Walked::Faulted { fault, reads } => as_walked(held, walked),
         Walked::Damaged => damaged(held),
     }
 }
@@ -524,31 +519,24 @@ fn filled(
     }
 }
 
-// Did the walk meet damage?
-fn broken(walked: Walked) -> bool
-    ensures { λ r. ⌜ r ≡ brokenBy walked ⌝ }
-{
-    match walked {
-        Walked::Arrived {
-            page,
-            writable,
-            reads,
-        } => false,
-        Walked::Faulted { fault, reads } => false,
-        Walked::Damaged => true,
-    }
-}
-
 // With bits off: filled, whatever the direct part came to.
 fn lax(writable: bool, walked: Walked) -> Verdict
     ensures { λ r. ⌜ r ≡ laxBy writable walked ⌝ }
 {
-    if broken(walked) {
-        return Verdict::Damaged;
-    }
-    Verdict::Fill {
-        writable: writable,
-        sets: false,
+    match walked {
+        Walked::Arrived {
+            page,
+            writable: w,
+            reads,
+        } => Verdict::Fill {
+            writable: writable,
+            sets: false,
+        },
+        Walked::Faulted { fault, reads } => Verdict::Fill {
+            writable: writable,
+            sets: false,
+        },
+        Walked::Damaged => Verdict::Damaged,
     }
 }
 
@@ -643,10 +631,10 @@ fn ruled(
     requires { ⌜ (LayoutFits (space .layout)) × (request .depth ≤ space .layout .levels) × (Frames (now guests)) × (before ≤ 65536) × (ReadsFrom (space .layout .levels - request .depth) walked) ⌝ }
     ensures { λ r. ⌜ r ≡ verdictOf (config (space .layout)) (space .top) (now (mem .entry)) (root .0) (now (guests .entry)) (request .store) (request .address .0) (request .depth) before writable walked ⌝ }
 {
-    if space.layout.bits == 0 {
-        return lax(writable, walked);
+    if space.layout.bits != 0 {
+        return strict(mem, space, root, guests, request, writable, before, walked);
     }
-    strict(mem, space, root, guests, request, writable, before, walked)
+    lax(writable, walked)
 }
 
 // On from the page or table that a shadow part came to.

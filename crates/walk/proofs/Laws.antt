@@ -1,7 +1,7 @@
 -- What a walk over memory comes to, step by step: the laws that the code is proved by.
 -- Assumes nothing.
 use mathlib.Core.Path.{_≡_, refl, sym, ap, _∙_}
-use Prim.Native.Nat.{ℕ, pred, _+_, _-_, _<_, _≤_}
+use Prim.Native.Nat.{ℕ, pred, _+_, _-_, _≤_}
 use native.Mathlib.Nat.{add-assoc}
 use native.Mathlib.Omega.{arith}
 use mathlib.Core.Bool.{Bool, true, false, not, _&&_, _||_, cond}
@@ -10,10 +10,9 @@ use lib.Dec.{eqb}
 use Rattle.spec.specs.declared.Fault.{Fault}
 use Rattle.spec.specs.declared.Fault.the-variants.{Absent, Malformed, Protected, HostAbsent, HostReadOnly}
 use Rattle.spec.specs.Config.{Config}
-use Rattle.spec.specs.Entry.{present, writable, frameOf, malformed, index, indexes}
+use Rattle.spec.specs.Entry.{present, writable, frameOf, malformed, indexes}
 use Rattle.spec.specs.Walk.{Walk, done, host, _>>=_, _>>_, World, Trace, Result, granted, failed, trace}
 use Rattle.spec.specs.Plain.{Place, must, mapped, hosted, entry, next, levels, walk}
-use Rattle.spec_laws.proofs.Indexes.{indexes-step}
 use Rattle.spec_laws.proofs.Bind.{onto, trace-bind, bind-assoc}
 use Rattle.entry.specs.declared.HostPhysical.{HostPhysical}
 use Rattle.words.specs.Words.{wordIn}
@@ -21,11 +20,12 @@ use Rattle.layout.specs.declared.HostWalk.{HostWalk}
 use Rattle.layout.specs.declared.HostWalk.the-variants as host
 use Rattle.layout.specs.Layout.{page}
 use Rattle.host.specs.Walk.{hostWalkOf}
-use Rattle.layout.proofs.Laws.{InGuestArea, HostFits}
+use Rattle.layout.proofs.Laws.{HostFits}
 use Rattle.host.proofs.Laws.{host-fits}
 use Rattle.walk.specs.declared.Walked.{Walked}
 use Rattle.walk.specs.declared.Walked.the-variants as walked
 use Rattle.walk.specs.Memory.{placeOf, readsOf, memoryWorld, absentBy, walkedBy, walkedOf, turn, foundOf}
+use Rattle.spec_laws.proofs.Keeps.{InGuestArea}
 
 -- ---- one walk after another
 
@@ -239,19 +239,7 @@ turn-fits c ht m n st level t i right = rw (turn-step c ht m n st level t i righ
     go true false = on (eqb level 1)
     go false b = omega arith
 
--- the loop's turn, with k indexes left and the levels below them
-pub loop-step : (c : Config) (ht : ℕ) (m : List ℕ) (n : ℕ) (st : Bool) (below k t path : ℕ) (right : Bool) → 0 < k
-    → walkedOf c ht m n (levels c st (below + k) t right (indexes k path))
-    ≡ thenWalked (walkedOf c ht m n (turn c st (below + (k - 1) + 1) t (index (k - 1) path) right))
-    (λ u v j. walkedOf c ht m j (levels c st (below + (k - 1)) u v (indexes (k - 1) path)))
-loop-step c ht m n st below k t path right h =
-    let up : below + k ≡ below + (k - 1) + 1 = omega arith in
-    let down : pred (below + (k - 1) + 1) ≡ below + (k - 1) = omega arith in
-    ap (λ is. walkedOf c ht m n (levels c st (below + k) t right is)) (indexes-step k path h)
-    ∙ ap (λ l. walkedOf c ht m n (levels c st l t right (index (k - 1) path ∷ indexes (k - 1) path))) up
-    ∙ levels-step c ht m n st (below + (k - 1) + 1) t (index (k - 1) path) (indexes (k - 1) path) right
-    ∙ ap (λ l. thenWalked (walkedOf c ht m n (turn c st (below + (k - 1) + 1) t (index (k - 1) path) right)) (λ u v j. walkedOf c ht m j (levels c st l u v (indexes (k - 1) path)))) down
-
+-- the loop's end, with no index left
 pub loop-end : (c : Config) (ht : ℕ) (m : List ℕ) (n : ℕ) (st : Bool) (below k t path : ℕ) (right : Bool) → k ≡ 0
     → walkedOf c ht m n (levels c st (below + k) t right (indexes k path)) ≡ walked.Arrived (page t) right n
 unfolding indexes

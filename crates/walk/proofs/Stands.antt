@@ -23,11 +23,11 @@ use Rattle.spec_laws.proofs.Asks.{Asked, asks-trace, AnswerIn, FaultFits, Guest
 use Rattle.words.specs.Words as words
 use Rattle.layout.specs.Layout.{page}
 use Rattle.host.specs.Walk.{hostWalkOf}
-use Rattle.layout.proofs.Laws.{InGuestArea}
 use Rattle.host.proofs.Mapping.{answerBy, answerOf}
 use Rattle.walk.specs.declared.Walked.{Walked}
 use Rattle.walk.specs.declared.Walked.the-variants as walked
 use Rattle.walk.specs.Memory.{placeOf, readsOf, memoryWorld, absentBy, walkedBy, walkedOf}
+use Rattle.spec_laws.proofs.Keeps.{InGuestArea}
 
 -- a result of the specification's walk with its count, as the code has it
 abbrev pub plainWalked : Result Fault Place → ℕ → Walked

@@ -20,9 +20,9 @@ use Rattle.wrong_units.proofs.Refute.{Comes, refuted, refuted-opened, b
 abbrev pub plain : List Call
 plain = setMark 0 5 ∷ []
 
-load-right : (step (loadWord 0) (specified memory 4 4 false (begin ++ plain))) .0 ≡ value 0x3003 24 0
+pub plain-right : (step (loadWord 0) (specified memory 4 4 false (begin ++ plain))) .0 ≡ value 0x3003 24 0
 unfolding specifying
-load-right = refl
+plain-right = refl
 
 -- ---- counts of 4 and 0 always: a plain walk reads 24 words
 
@@ -35,7 +35,7 @@ unfolding flatCounts afterBy calling
 flat-says = refl
 
 pub flat-counts-refuted : Demand-3 (unitBy flatCounts) → ⊥
-flat-counts-refuted = refuted flatCounts begin plain (loadWord 0) (firstRecord, mappedWords) (value 0x3003 4 0) (value 0x3003 24 0) flat-comes flat-says load-right tt
+flat-counts-refuted = refuted flatCounts begin plain (loadWord 0) (firstRecord, mappedWords) (value 0x3003 4 0) (value 0x3003 24 0) flat-comes flat-says plain-right tt
 
 -- ---- every request faults: this load is granted
 
@@ -48,7 +48,7 @@ unfolding faultsAll afterBy calling
 faults-says = refl
 
 pub faults-all-refuted : Demand-3 (unitBy faultsAll) → ⊥
-faults-all-refuted = refuted faultsAll begin plain (loadWord 0) (firstRecord, mappedWords) (fault 65 4 0 5 1) (value 0x3003 24 0) faults-comes faults-says load-right tt
+faults-all-refuted = refuted faultsAll begin plain (loadWord 0) (firstRecord, mappedWords) (fault 65 4 0 5 1) (value 0x3003 24 0) faults-comes faults-says plain-right tt
 
 -- ---- one word for all: the first guest word is the top table's entry 0, and the page has another
 
@@ -61,7 +61,7 @@ unfolding oneWord afterBy calling
 one-word-says = refl
 
 pub one-word-refuted : Demand-3 (unitBy oneWord) → ⊥
-one-word-refuted = refuted oneWord begin plain (loadWord 0) (firstRecord, mappedWords) (value 0x1003 24 0) (value 0x3003 24 0) one-word-comes one-word-says load-right tt
+one-word-refuted = refuted oneWord begin plain (loadWord 0) (firstRecord, mappedWords) (value 0x1003 24 0) (value 0x3003 24 0) one-word-comes one-word-says plain-right tt
 
 -- ---- nothing is stored: a 7 written is read again as 0
 

@@ -41,7 +41,7 @@ use Rattle.wrong_units.proofs.Mapped.{placed, memory, recordBy, none, l
 use Rattle.wrong_units.proofs.Filled as filled
 use Rattle.wrong_units.proofs.Filled.{others, mappedWords, other-maps, heldWords}
 use Rattle.wrong_units.proofs.Refute.{Comes, ComesBy, goes-on, refuted, refuted-by, refuted-opened-by, begin, begins-at, begins-by}
-use Rattle.wrong_units.proofs.Answers.{plain}
+use Rattle.wrong_units.proofs.Answers.{plain, plain-right}
 
 -- the frames mapped, with bits on
 maps-on : afterBy cangrieb others (firstBy true, tables []) ≡ (firstBy true, mappedWords)
@@ -91,12 +91,8 @@ always-says : ((unitBy alwaysSets) .call (loadWord 0) (afterBy (unitBy alwaysSet
 unfolding alwaysSets loadSetting afterBy calling
 always-says = refl
 
-off-right : (step (loadWord 0) (specified memory 4 4 false (begin ++ plain))) .0 ≡ value 0x3003 24 0
-unfolding specifying
-off-right = refl
-
 pub always-sets-refuted : Demand-3 (unitBy alwaysSets) → ⊥
-always-sets-refuted = refuted alwaysSets begin plain (loadWord 0) (firstRecord, mappedWords) (value 0x3023 24 0) (value 0x3003 24 0) always-begun always-says off-right tt
+always-sets-refuted = refuted alwaysSets begin plain (loadWord 0) (firstRecord, mappedWords) (value 0x3023 24 0) (value 0x3003 24 0) always-begun always-says plain-right tt
 
 dirty-begun : Begun dirtyByLoads
 unfolding dirtyByLoads afterBy

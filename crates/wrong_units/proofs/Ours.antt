@@ -47,7 +47,7 @@ use Rattle.claims.proofs.Lookups.{run-lookup}
 use Rattle.claims.proofs.Quiet.{quiet-day}
 use Rattle.wrong_units.specs.Unit.{runBy, afterBy, specified, Demand-3, Demand-2, QuietDay, Calls, told, unitBy, cangrieb, WordsCounted, Lookups}
 use Rattle.wrong_units.specs.Wrong.{ourDrops, storeAs, storeWith, deviceAs, deviceWith, ourStep, ourEnd, listWith, forecastWith}
-use Rattle.wrong_units.specs.WrongBits.{ourSets, loadSetting, storeSetting, missedAs, missedWith, foundAs, translateWith, loadArriving}
+use Rattle.wrong_units.specs.WrongBits.{ourSets, loadSetting, storeSetting, Arrives, missedAs, missedWith, foundAs, translateWith, loadArriving, arriveBy}
 
 -- a table of calls that does what ours does on every record and memory that stand for a machine and a book
 abbrev pub AsOurs : Calls → Type 0
@@ -184,27 +184,32 @@ pub store-setting-ours : (r : Record) (m : List ℕ) (a w v : ℕ) → storeSett
 unfolding storeSetting callOf storeCall storeOf translatedOf
 store-setting-ours r m a w v = refl
 
+-- our verdicts, as they are
+abbrev ours : Arrives
+ours = arriveBy (λ lets r v. v)
+
 missed-as-ours : (c : Config) (ht : ℕ) (m : List ℕ) (h : Held) (root : ℕ) (st : Bool) (a d : ℕ) (gs : List ℕ) (x : Walked)
-    → missedAs arrivedOf c ht m h root st a d gs x ≡ missedBy c ht m h root st a d gs x
+    → missedAs ours c ht m h root st a d gs x ≡ missedBy c ht m h root st a d gs x
+unfolding arriveBy arrivedOf
 missed-as-ours c ht m h root st a d gs (walked.Arrived t w n) = refl
 missed-as-ours c ht m h root st a d gs (walked.Faulted x n) = refl
 missed-as-ours c ht m h root st a d gs walked.Damaged = refl
 
-missed-with-ours : (c : Config) (ht : ℕ) (m : List ℕ) (h : Held) (root : ℕ) (st : Bool) (a d : ℕ) → missedWith arrivedOf c ht m h root st a d ≡ missedOf c ht m h root st a d
+missed-with-ours : (c : Config) (ht : ℕ) (m : List ℕ) (h : Held) (root : ℕ) (st : Bool) (a d : ℕ) → missedWith ours c ht m h root st a d ≡ missedOf c ht m h root st a d
 unfolding missedOf
 missed-with-ours c ht m h root st a d = let r = trailOf c ht m 0 (walk c st root (pathIndexes c d a)) in missed-as-ours c ht m h root st a d (r .tables) (r .walked)
 
 found-as-ours : (c : Config) (ht : ℕ) (m : List ℕ) (h : Held) (root : ℕ) (st : Bool) (a d : ℕ) (x : HostWalk)
-    → foundAs arrivedOf c ht m h root st a d x ≡ foundBy c ht m h root st a d x
+    → foundAs ours c ht m h root st a d x ≡ foundBy c ht m h root st a d x
 found-as-ours c ht m h root st a d (host.Found t w) = ap (cond (servesOf st d w) (yields (throughOf c ht m h root st a d (t .0) w) m)) (missed-with-ours c ht m h root st a d)
 found-as-ours c ht m h root st a d (host.Absent n) = missed-with-ours c ht m h root st a d
 found-as-ours c ht m h root st a d host.Damaged = refl
 
-translate-with-ours : (c : Config) (ht : ℕ) (m : List ℕ) (h : Held) (root : ℕ) (st : Bool) (a d : ℕ) → translateWith arrivedOf c ht m h root st a d ≡ translateOf c ht m h root st a d
+translate-with-ours : (c : Config) (ht : ℕ) (m : List ℕ) (h : Held) (root : ℕ) (st : Bool) (a d : ℕ) → translateWith ours c ht m h root st a d ≡ translateOf c ht m h root st a d
 unfolding translateOf
 translate-with-ours c ht m h root st a d = ap (cond (ltb (c .levels) d) (yields (unshadowedOf c ht m h root st a d) m)) (found-as-ours c ht m h root st a d (foundOf c m h a d))
 
-pub load-arriving-ours : (r : Record) (m : List ℕ) (a w : ℕ) → loadArriving arrivedOf a w r m ≡ callOf (load a w) r m
+pub load-arriving-ours : (r : Record) (m : List ℕ) (a w : ℕ) → loadArriving ours a w r m ≡ callOf (load a w) r m
 unfolding loadArriving callOf loadCall loadOf
 load-arriving-ours r m a w =
     ap (λ (o : After Translated). placed r m w (addressOk false (configOf r) a w) (servedBy r (loadFrom (configOf r) (hostTop r) (rootOf r) (heldOf r) a w o)))

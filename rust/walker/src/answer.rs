@@ -33,7 +33,7 @@ pub const TOO_MANY_ADDRESSES: u32 = 14;
 /// A load or store of another width than 1, 2, 4 or 8; only 3 goes before it.
 pub const BAD_WIDTH: u32 = 15;
 
-/// "16 where a forecast is wanted with bits on, after 3 and before 14"
+/// A forecast of a unit that has accessed and dirty bits; only 3 goes before it.
 pub const NO_FORECAST: u32 = 16;
 
 /// What an opening chooses beside its sizes. Jobs have none of it.
@@ -84,7 +84,7 @@ pub enum Fault {
     Protected { level: u32 },
     /// H: a host entry is not present.
     HostAbsent { frame: u64 },
-    /// W: a store, and the "level 1 host entry is not writable"; or a bit that a
+    /// W: a store to a page whose host entry forbids it; or a bit that a
     /// request needs is not set, in a table whose frame is mapped read-only.
     HostReadOnly { frame: u64 },
 }

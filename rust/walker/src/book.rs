@@ -152,7 +152,7 @@ pub fn shadow_steps(levels: u32, depth: u32) -> usize {
 }
 
 /// Whether a walk meets its fault in the shadow part. "At d = 0 that includes P and W."
-/// W for a bit "belongs to the part that reads the entry" (document 02, 6): the direct
+/// W for a bit is the fault of whichever part reads its entry (document 02, 6): the direct
 /// part reads those of level d and below.
 pub fn faults_in_shadow_part(walk: &Walk, levels: u32, depth: u32) -> bool {
     if walk.end.is_ok() || depth > levels {
@@ -173,8 +173,8 @@ fn shadow_part_complete(walk: &Walk, levels: u32, depth: u32) -> bool {
 /// The book's note of a shadow part that met no fault. "Its writable bit is the
 /// and of the guest bits it covers, and at d = 0 of the host bit too."
 ///
-/// If bit 6 counts, as for a load with bits on, it is among them: "A depth-0 path filled
-/// by a load while bit 6 is clear forbids stores". A depth-0 path alone covers level 1.
+/// If bit 6 counts, as for a load with bits on, it is among them: such a path must not let
+/// a store by that owes the bit. A depth-0 path alone covers level 1.
 pub fn note_shadow_part(walk: &Walk, levels: u32, depth: u32, dirty_counts: bool) -> HeldPath {
     let mut note = HeldPath { words: Vec::new(), frames: Vec::new(), writable: true };
     let steps = &walk.steps[..shadow_steps(levels, depth)];

@@ -57,8 +57,8 @@ pub fn words_read(steps: &[Step]) -> u64 {
     steps.iter().map(Step::words).sum()
 }
 
-/// "a granted request sets bit 5 in its four guest entries, and a store also sets bit
-/// 6 at level 1" (document 02, 6): the bits of an entry that a request needs.
+/// The bits that a request needs in an entry of its walk (document 02, 6): accessed at
+/// every level, dirty where a store's walk ends.
 pub fn needed_bits(level: u32, access: Access) -> u64 {
     if level == 1 && access == Access::Store {
         ACCESSED | DIRTY
@@ -67,8 +67,8 @@ pub fn needed_bits(level: u32, access: Access) -> u64 {
     }
 }
 
-/// The levels and guest frames at which "a bit needed and not set when the request
-/// came, in a table whose guest frame is mapped read-only" stands, "top level first".
+/// Where a request lacks a bit that it may not set, since the table is mapped read-only:
+/// level and guest frame, from the top down, judged on the words as they were before it.
 /// The frame is the one by which this walk reached the table.
 pub fn lacking(steps: &[Step], access: Access) -> Vec<(u32, u64)> {
     let mut list = Vec::new();
@@ -161,7 +161,7 @@ impl Machine {
     pub fn plain_walk(&self, address: u64, access: Access) -> Walk {
         let mut steps = Vec::new();
         let end = self.walk_down(address, access, &mut steps);
-        // W for a bit: "This check comes after all others".
+        // W for a bit is judged last, when the walk itself has found no fault.
         let lacking = if self.bits && end.is_ok() { lacking(&steps, access) } else { Vec::new() };
         match lacking.first() {
             Some((level, frame)) => {

@@ -66,7 +66,7 @@ pub fn once_translated(before: &Unit, address: u64, walk: &Walk) -> Book {
     let depth = book.depth(address);
     match book.path(address, depth) {
         Some(path) if !book.held.contains_key(&path) => {
-            // "So the quiet-day figure is for bits off" (document 02, 6).
+            // Quiet stretches are found in runs without bits (document 02, 6).
             book.fill(path, note_shadow_part(walk, before.machine().levels, depth, false));
         }
         _ => {}

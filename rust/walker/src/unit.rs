@@ -71,7 +71,7 @@ impl Unit {
         Unit::open_with(levels, words, h, s, Choices::default())
     }
 
-    /// "Opening chooses them on or off" (document 02, 6).
+    /// The same with the choices of document 02, which a job cannot make.
     pub fn open_with(levels: u32, words: Vec<u64>, h: u64, s: u64, choices: Choices) -> Result<Unit, u32> {
         let length = words.len() as u64;
         let frames = length / FRAME_WORDS;
@@ -330,14 +330,14 @@ impl Unit {
         if let Err(fault) = walk.end {
             exits += (fault.is_of_host() && !shadow_fault) as u64;
         }
-        // With bits on "a fault on a path not held carries the plain count".
+        // With bits on a fault that finds no path held counts as if nothing were shadowed.
         let plain_count = shadow_fault || bits && not_held && !granted;
         let references = references(&walk, levels, depth, plain_count);
         // "A path not held is filled exactly if the request meets no fault in its
-        // shadow part." With bits on: "only by a granted request".
+        // shadow part." With bits on the direct part must be granted too.
         let fills = not_held && if bits { granted } else { !shadow_fault };
-        // "the first granted store through it costs one exit and refills it". With bits
-        // off no store is granted that the held path forbids.
+        // A path that a load filled with bit 6 clear lets stores by from the first granted
+        // one on. With bits off no store is granted that the held path forbids.
         let refills = forbidden && granted;
 
         let met = Met { depth, not_held, forbidden, shadow_fault };
@@ -355,8 +355,8 @@ impl Unit {
             self.events.add_many("paths dropped by overflow", dropped);
             self.note_own_fill(watched_before, self.watches_target(&walk, access));
         }
-        // "The bits are set before the word is loaded or stored." "The unit's own bit
-        // writes drop nothing and cost no reference or exit." A fault sets none.
+        // Before the caller uses the word. No path is dropped for it and nothing counted: the
+        // book is not told. A fault sets none.
         if bits && granted {
             self.machine.set_bits(&walk, access);
         }

@@ -68,8 +68,7 @@ fn four_entries(last: u64) -> Vec<(usize, usize, u64)> {
     vec![(0, 0, 0x1023), (1, 0, 0x2023), (2, 0, 0x3023), (3, 0, last)]
 }
 
-// "On, a granted request sets bit 5 in its four guest entries, and a store also sets bit
-// 6 at level 1."
+// ---- which bits a granted request sets
 
 #[test]
 fn a_load_sets_bit_5_in_four_entries() {
@@ -93,7 +92,6 @@ fn a_store_sets_bit_6_at_level_1_alone() {
     assert_eq!(changed(&unit, &before), all);
 }
 
-/// "off [...] is as before"
 #[test]
 fn off_no_bit_is_set() {
     for depth in 0..=5 {
@@ -169,8 +167,7 @@ fn the_lines_of_document_01() {
     assert_eq!(load(&mut unit, 1 << 48), Answer::No(4));
 }
 
-// "A path is filled only by a granted request, and a fault on a path not held carries
-// the plain count." A fault sets no bit.
+// ---- a fault fills no path, counts as the plain walk does and sets no bit
 
 /// A, M, P, H and W of a page, with its count on a path not held and whether it is one
 /// of the host's.
@@ -266,9 +263,7 @@ fn a_fault_behind_the_shadow_part_overflows_nothing() {
     assert_eq!(load(&mut unit, 0), value(0, 4, 0));
 }
 
-// "A depth-0 path filled by a load while bit 6 is clear forbids stores, even if another
-// path sets the bit meanwhile; the first granted store through it costs one exit and
-// refills it."
+// ---- paths that a load filled with bit 6 clear, and their refill
 
 #[test]
 fn the_first_store_after_a_load_refills() {
@@ -382,7 +377,7 @@ fn faults_by_a_path_that_forbids_stores() {
     }
 }
 
-// "The unit's own bit writes drop nothing and cost no reference or exit."
+// ---- own bit writes
 
 #[test]
 fn own_bit_writes_drop_nothing_and_cost_nothing() {
@@ -426,10 +421,7 @@ fn stores_of_entries_drop_and_clear_bits() {
     assert_eq!(store(&mut unit, 0, 4), done(4, 1));
 }
 
-// "A bit needed and not set when the request came, in a table whose guest frame is mapped
-// read-only, gives W with that frame. This check comes after all others, top level first,
-// belongs to the part that reads the entry, and carries a granted request's count, or the
-// granted plain walk's at depth 0 or on a path not held."
+// ---- W for a bit: its place among the faults, its frame, count and exits
 
 /// The exits on a path not held, at depths 0 to 5, for the tables of levels 1 to 4: one
 /// for the path, one more where the entry is the direct part's; at depth 5 that alone.
@@ -573,7 +565,7 @@ fn w_for_a_bit_sets_none_of_the_others() {
     }
 }
 
-// "whose guest frame is mapped read-only": the frame by which the walk came to the table.
+// ---- one host frame under two guest frames, only one of them read-only
 
 #[test]
 fn the_frame_is_the_walks_own() {
@@ -612,7 +604,7 @@ fn the_roots_frame_is_its_number() {
     }
 }
 
-// "when the request came": a table that maps itself.
+// ---- tables that map themselves: judged before any bit is set
 
 /// The address whose four indexes are 1.
 const ONES: u64 = 0x80_4020_1000;
@@ -665,8 +657,8 @@ fn a_word_reached_twice_gets_the_bits_of_all_its_levels() {
     assert_eq!(load(&mut unit, ONES + 8), value(0x9023, 4, 1));
 }
 
-// "The bits are set before the word is loaded or stored." The word at 0x4020 is the entry
-// of level 1 by which it is reached, 0x3003.
+// ---- the word is used after its bits are set. That at 0x4020 is the entry of level 1 by
+// which it is reached, 0x3003.
 
 #[test]
 fn a_load_of_its_own_entry_has_the_bit() {
@@ -719,7 +711,7 @@ fn a_device_store_needs_and_sets_no_bit() {
     assert_eq!(unit.call(&Call::device_store_word(0x8000, 0)), fault(Fault::HostAbsent { frame: 8 }, 4, 1));
 }
 
-/// "16 where a forecast is wanted with bits on, after 3 and before 14"
+/// Before 14: the list is not looked at.
 #[test]
 fn refusal_16() {
     let mut unit = guest_with_bits();

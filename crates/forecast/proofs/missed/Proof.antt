@@ -9,7 +9,8 @@ use Rattle.walk.specs.declared.Trail.{Trail}
 use Rattle.translate.proofs.Fits.{walk-in}
 use Rattle.translate.specs.Translate.{pathIndexes}
 use Rattle.forecast.specs.Forecast.{missedOf}
-use Rattle.forecast.proofs.Fits.{served-most, served-exits, path-most, one-most}
+use Rattle.spec_laws.proofs.Counts.{one-most}
+use Rattle.forecast.proofs.Fits.{served-most, served-exits, path-most}
 use borrow.Author.Needs.{needs}
 use Rattle.forecast.proofs.missed.Statement.{statement}
 use Rattle.forecast.proofs.missed.Tie as tie

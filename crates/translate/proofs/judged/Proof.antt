@@ -17,8 +17,8 @@ settled-requires c κs = search needs
 enum-known-walked-2 : tie.Need-enum-known-walked-2
 enum-known-walked-2 c = search needs
 
-stopped-requires : tie.Need-stopped-requires
-stopped-requires c κs = search needs
+as-walked-requires : tie.Need-as-walked-requires
+as-walked-requires c κs = search needs
 
 enum-told : tie.Need-enum-told
 enum-told c = search needs
@@ -36,9 +36,9 @@ returns c =
 
 returns-2 : tie.Need-returns-2
 returns-2 c =
-    let stopped = c .stopped in
+    let as-walked = c .as-walked in
     let walked2 = c .before .before .walked2 in
-    rw (walked2 .given .1) (stopped .ensures)
+    rw (walked2 .given .1) (as-walked .ensures)
 
 returns-3 : tie.Need-returns-3
 returns-3 c =
@@ -54,7 +54,7 @@ judged-spec =
     check-requires
     settled-requires
     enum-known-walked-2
-    stopped-requires
+    as-walked-requires
     enum-told
     damaged-requires
     returns

@@ -1,4 +1,4 @@
--- Of the whole walk's trail only its end is used, and the exits are those of that end. Assumes nothing.
+-- Of the whole walk's trail only its end is used. Assumes nothing.
 use Rattle.walk.specs.Memory.{trailFrom}
 use Rattle.translate.specs.Translate.{plainOf}
 use borrow.Author.Needs.{needs}
@@ -8,15 +8,15 @@ use Rattle.translate.proofs.plain.Tie as tie
 whole-requires : tie.Need-whole-requires
 whole-requires c κs = search needs
 
-exit-of-requires : tie.Need-exit-of-requires
-exit-of-requires c κs = search needs
+as-walked-requires : tie.Need-as-walked-requires
+as-walked-requires c κs = search needs
 
 returns : tie.Need-returns
 unfolding plainOf trailFrom
 returns c =
-    let exit-of = c .exit-of in
+    let as-walked = c .as-walked in
     let whole = c .before .whole in
-    rw (exit-of .ensures, whole .ensures)
+    rw (as-walked .ensures, whole .ensures)
 
 pub plain-spec : {M : Type 1} → statement M
-plain-spec = tie.close (tie.spec whole-requires exit-of-requires returns)
+plain-spec = tie.close (tie.spec whole-requires as-walked-requires returns)

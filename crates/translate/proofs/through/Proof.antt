@@ -18,18 +18,18 @@ lacking-requires c κs =
     let pre = c .before .before .before .before .pre in
     (omega (arith, pre .0 .0, pre .1), trail-framed (config (args .space .layout)) (args .space .top) (args .mem .now) (args .request .store) (args .request .address .0) (args .request .depth) (args .page .0) (args .writable) (direct-trail .result) (direct-trail .ensures) (pre .0 .3) (omega (arith, pre .0 .0, pre .1)) (pre .2))
 
-stopped-requires : tie.Need-stopped-requires
-stopped-requires c κs = search needs
+as-walked-requires : tie.Need-as-walked-requires
+as-walked-requires c κs = search needs
 
 returns : tie.Need-returns
 returns c =
-    let stopped = c .stopped in
+    let as-walked = c .as-walked in
     let if1 = c .before .if1 in
     let lacking = c .before .before .lacking in
     let direct-trail = c .before .before .before .before .before .direct-trail in
     let args = c .before .before .before .before .before .before .before .args in
     let pre = c .before .before .before .before .before .before .before .pre in
-    rw (stopped .ensures) (sym (rw (not-true (lacking .result) (if1 .taken)) at (through-by (config (args .space .layout)) (args .space .top) (args .mem .now) (args .held) (args .root .0) (args .request .store) (args .request .address .0) (args .request .depth) (args .page .0) (args .writable) (direct-trail .result .walked) (lacking .result) (trail-came (config (args .space .layout)) (args .space .top) (args .mem .now) (args .request .store) (args .request .address .0) (args .request .depth) (args .page .0) (args .writable) (direct-trail .result) (direct-trail .ensures)) (lacking .ensures ∙ trail-lacking (config (args .space .layout)) (args .space .top) (args .mem .now) (args .request .store) (args .request .address .0) (args .request .depth) (args .page .0) (args .writable) (direct-trail .result) (direct-trail .ensures) (pre .0 .3) (omega (arith, pre .0 .0, pre .1)) (pre .2)))))
+    rw (as-walked .ensures) (sym (rw (not-true (lacking .result) (if1 .taken)) at (through-by (config (args .space .layout)) (args .space .top) (args .mem .now) (args .held) (args .root .0) (args .request .store) (args .request .address .0) (args .request .depth) (args .page .0) (args .writable) (direct-trail .result .walked) (lacking .result) (trail-came (config (args .space .layout)) (args .space .top) (args .mem .now) (args .request .store) (args .request .address .0) (args .request .depth) (args .page .0) (args .writable) (direct-trail .result) (direct-trail .ensures)) (lacking .ensures ∙ trail-lacking (config (args .space .layout)) (args .space .top) (args .mem .now) (args .request .store) (args .request .address .0) (args .request .depth) (args .page .0) (args .writable) (direct-trail .result) (direct-trail .ensures) (pre .0 .3) (omega (arith, pre .0 .0, pre .1)) (pre .2)))))
 
 judged-requires : tie.Need-judged-requires
 judged-requires c κs = search needs
@@ -50,7 +50,7 @@ through-spec =
     (tie.spec
     direct-trail-requires
     lacking-requires
-    stopped-requires
+    as-walked-requires
     returns
     judged-requires
     returns-2)

@@ -42,8 +42,8 @@ settled-requires c κs = search needs
 enum-known-walked-2 : tie.Need-enum-known-walked-2
 enum-known-walked-2 c = search needs
 
-stopped-requires : tie.Need-stopped-requires
-stopped-requires c κs = search needs
+as-walked-requires : tie.Need-as-walked-requires
+as-walked-requires c κs = search needs
 
 enum-told : tie.Need-enum-told
 enum-told c = search needs
@@ -68,13 +68,13 @@ returns-2 c =
 returns-3 : tie.Need-returns-3
 unfolding trailFrom
 returns-3 c =
-    let stopped = c .stopped in
+    let as-walked = c .as-walked in
     let walked2 = c .before .before .walked2 in
     let whole = c .before .before .before .before .whole in
     let if1 = c .before .before .before .before .before .if1 in
     let args = c .before .before .before .before .before .before .before .before .args in
     let came : walkedOf (config (args .space .layout)) (args .space .top) (args .mem .now) 0 (wholeWalk (config (args .space .layout)) (args .request .store) (args .root .0) (args .request .address .0)) ≡ whole .result .walked = sym (ap (λ (t : Trail). t .walked) (whole .ensures)) in
-    stopped .ensures ∙ sym (unshadowed-on (config (args .space .layout)) (args .space .top) (args .mem .now) (args .held) (args .root .0) (args .request .store) (args .request .address .0) (args .request .depth) _ (chosen-on _ (if1 .left)) (came ∙ walked2 .given .1))
+    as-walked .ensures ∙ sym (unshadowed-on (config (args .space .layout)) (args .space .top) (args .mem .now) (args .held) (args .root .0) (args .request .store) (args .request .address .0) (args .request .depth) _ (chosen-on _ (if1 .left)) (came ∙ walked2 .given .1))
 
 returns-4 : tie.Need-returns-4
 unfolding trailFrom
@@ -98,7 +98,7 @@ unshadowed-spec =
     judge-requires
     settled-requires
     enum-known-walked-2
-    stopped-requires
+    as-walked-requires
     enum-told
     damaged-requires
     returns-2
