@@ -1,20 +1,31 @@
 -- A call's record and answer as the C interface has them: words in fixed order.
 -- Assumes nothing.
-use Prim.Native.Nat.{ℕ}
+use Prim.Native.Nat.{ℕ, _/_, _%_}
+use mathlib.Core.Bool.{not, _&&_, cond}
 use mathlib.Core.List.{List, [], _∷_}
+use lib.Dec.{eqb, leb, ltb}
 use lib.ListN.{getD}
 use Rattle.spec.specs.declared.Answer.{Answer}
+use Rattle.spec.specs.declared.Lookup.{Lookup}
 use Rattle.spec.specs.Answer as say
 use Rattle.spec.specs.Answer.{Line, line}
 use Rattle.words.specs.After.{After, yields}
 use Rattle.pool.specs.declared.Pool.{Pool}
 use Rattle.record.specs.declared.Head.{Head}
 use Rattle.record.specs.declared.Record.{Record}
-use Rattle.record.specs.Record.{recordBy, headOf}
+use Rattle.bits.specs.Bit.{bit}
+use Rattle.marks.specs.Table.{room, lookupIn}
+use Rattle.choice.specs.declared.Tally.{Tally}
+use Rattle.choice.specs.Window.{withCharged, chargesOf}
+use Rattle.choice.specs.Order.{automaticAt}
+use Rattle.record.specs.Record.{recordBy, headOf, headTally}
+use Rattle.translate.specs.declared.Held.{Held}
 use Rattle.calls.specs.declared.Reply.{Reply}
+use Rattle.calls.specs.Calls.{tallyAfter, headWindow}
 use Rattle.cangrieb.specs.declared.FlatAnswer.{FlatAnswer}
+use Rattle.cangrieb.specs.declared.FlatMark.{FlatMark}
 
--- ---- the head, in 16 words
+-- ---- the head, in 20 words
 
 -- the pool whose words stand at these places
 abbrev pub poolIn : List ℕ → ℕ → ℕ → ℕ → ℕ → Pool
@@ -27,6 +38,7 @@ headIn ws = record {
   root = record { 0 = getD ws 13 0 };
   held = record { 0 = getD ws 14 0 };
   set = getD ws 15 0;
+  tally = record { on = getD ws 16 0; charged = getD ws 17 0; at = getD ws 18 0; count = getD ws 19 0 };
 }
 
 -- and back
@@ -35,11 +47,20 @@ headWords h =
     let l = h .layout in
     let p = h .pools .host in
     let q = h .pools .shadow in
-    l .levels ∷ l .hosts ∷ l .shadows ∷ l .frames ∷ l .bits ∷ p .fresh ∷ p .free ∷ p .used ∷ p .top ∷ q .fresh ∷ q .free ∷ q .used ∷ q .top ∷ h .root .0 ∷ h .held .0 ∷ h .set ∷ []
+    let t = h .tally in
+    l .levels ∷ l .hosts ∷ l .shadows ∷ l .frames ∷ l .bits ∷ p .fresh ∷ p .free ∷ p .used ∷ p .top ∷ q .fresh ∷ q .free ∷ q .used ∷ q .top ∷ h .root .0 ∷ h .held .0 ∷ h .set ∷ t .on ∷ t .charged ∷ t .at ∷ t .count ∷ []
 
--- the record that head and places say
-abbrev pub recordIn : List ℕ → List ℕ → Record
-recordIn ws place = recordBy (headIn ws) place
+-- with another word of the requests charged
+abbrev pub headCharged : Head → ℕ → Head
+headCharged h n = headTally h (withCharged (h .tally) n)
+
+-- after a load or a store with that answer, which left that held and is charged to nobody
+abbrev pub windowIn : Head → Held → Answer → Head
+windowIn h x a = headWindow h x (tallyAfter a (h .tally))
+
+-- the record that the head and the three arrays say: the places of the marks, then the ring and the order of the automatic choice
+abbrev pub recordIn : List ℕ → List ℕ → List ℕ → List ℕ → Record
+recordIn ws place ring order = recordBy (headIn ws) place ring order
 
 -- ---- answers
 
@@ -64,13 +85,46 @@ answerOf x = saidBy (line x)
 pub record Flat : Type 0 where
   pub head : List ℕ
   pub place : List ℕ
+  pub ring : List ℕ
+  pub order : List ℕ
   pub answer : FlatAnswer
 
-abbrev pub flat : List ℕ → List ℕ → FlatAnswer → Flat
-flat ws place a = record { head = ws; place = place; answer = a }
+abbrev pub flat : List ℕ → List ℕ → List ℕ → List ℕ → FlatAnswer → Flat
+flat ws place ring order a = record { head = ws; place = place; ring = ring; order = order; answer = a }
 
 abbrev pub replyOf : Reply → Flat
-replyOf r = flat (headWords (headOf (r .unit))) (r .unit .guest .marks .place) (answerOf (r .answer))
+replyOf r =
+    flat (headWords (headOf (r .unit))) (r .unit .guest .marks .place) (r .unit .guest .choice .ring) (r .unit .guest .choice .order) (answerOf (r .answer))
 
 abbrev pub leftOf : After Reply → After Flat
 leftOf e = yields (replyOf (e .result)) (e .memory)
+
+-- ---- what the record's own methods say
+
+-- the depth of an address by the places of the marks, and how many were read for it
+abbrev pub lookupOf : Head → List ℕ → ℕ → Lookup
+lookupOf h place a = lookupIn (h .layout .levels) (record { set = h .set; place = place }) a
+
+abbrev pub noMark : FlatMark
+noMark = record { kind = 0; level = 0; prefix = 0; charges = 0 }
+
+-- of a mark at the place i: 2 if it is automatic, else 1. A count above 64 is no count of marks
+unfoldable pub kindAt : ℕ → List ℕ → ℕ → ℕ
+kindAt count order i = cond (leb count room && automaticAt count order i) 2 1
+
+-- of a mark with the key k, of n levels: the requests of the window that were charged to its prefix. Only a mark of level 1 has any, with
+-- the choice on; of 6 levels or more there is no record
+unfoldable pub chargesAt : ℕ → List ℕ → Tally → ℕ → ℕ
+chargesAt n ring t k = cond (eqb (k % 8) 1 && not (eqb (t .on) 0) && ltb n 6) (chargesOf n ring t (k / 8)) 0
+
+abbrev pub markWith : Record → ℕ → ℕ → FlatMark
+markWith r i k = record {
+  kind = kindAt (r .guest .choice .tally .count) (r .guest .choice .order) i;
+  level = k % 8;
+  prefix = k / 8;
+  charges = chargesAt (r .layout .levels) (r .guest .choice .ring) (r .guest .choice .tally) k;
+}
+
+-- what stands at the place i
+unfoldable pub markIn : Record → ℕ → FlatMark
+markIn r i = cond (ltb i room && eqb (bit (r .guest .marks .set) i) 1) (markWith r i (getD (r .guest .marks .place) i 0)) noMark

@@ -1,10 +1,15 @@
-// The unit's calls for C and for Rust. The record is lent in two parts, its head of 16 words and the places of its marks, and
-// the memory beside it; the answer is numbers. Nothing is asked of the caller but that those words are at those places.
+// The unit's calls for C and for Rust. The record is lent in four parts, its head of 20 words, the places of its marks and the two arrays
+// of the automatic choice, and the memory beside it; the answer is numbers. Nothing is asked of the caller but that those words are at
+// those places.
 ghost use mathlib.Core.Path.{_≡_};
+ghost use mathlib.Core.Logic.{_≢_};
 ghost use Rattle.words.specs.After.{yields};
-ghost use Rattle.record.specs.Record.{headOf};
-ghost use Rattle.calls.specs.Calls.{headHeld, openCall, loadCall, storeCall, deviceCall, rootCall, mapCall, unmapCall, setMarkCall, clearMarkCall, forecastCall, lookupAt};
-ghost use Rattle.cangrieb.specs.Flat.{headIn, headWords, recordIn, answerOf, flat, leftOf};
+ghost use Rattle.calls.specs.Calls.{headHeld, openCall, loadCall, storeCall, deviceCall, rootCall, mapCall, unmapCall, setMarkCall, clearMarkCall, forecastCall};
+ghost use Rattle.cangrieb.specs.Flat.{headIn, headWords, headCharged, windowIn, recordIn, answerOf, flat, replyOf, leftOf, lookupOf, noMark, kindAt, chargesAt, markIn};
+use calls::Reply;
+use calls::Stored;
+use choice::Choice;
+use choice::Tally;
 use entry::GuestPhysical;
 use entry::GuestVirtual;
 use entry::HostPhysical;
@@ -31,10 +36,20 @@ pub struct FlatAnswer {
     pub exits: u64,
 }
 
+// What stands at a place of the marks. kind: 0 nothing, 1 a mark of the operator's, 2 an automatic one. charges: how many requests of the
+// window were charged to its prefix, for a mark of level 1 with the choice on; else 0, as all else where nothing stands.
+#[repr(C)]
+pub struct FlatMark {
+    pub kind: u64,
+    pub level: u64,
+    pub prefix: u64,
+    pub charges: u64,
+}
+
 // ---- the record in numbers
 
-// The head that 16 words say.
-fn head_in(w: &[u64; 16]) -> Head
+// The head that 20 words say.
+fn head_in(w: &[u64; 20]) -> Head
     ensures { λ r. ⌜ r ≡ headIn (now (w .entry)) ⌝ }
 {
     Head {
@@ -62,16 +77,23 @@ fn head_in(w: &[u64; 16]) -> Head
         root: GuestPhysical(w[13]),
         held: HostPhysical(w[14]),
         set: w[15],
+        tally: Tally {
+            on: w[16],
+            charged: w[17],
+            at: w[18],
+            count: w[19],
+        },
     }
 }
 
 // And back.
-fn head_words(h: Head) -> [u64; 16]
+fn head_words(h: Head) -> [u64; 20]
     ensures { λ r. ⌜ r ≡ headWords h ⌝ }
 {
     let l = h.layout;
     let host = h.pools.host;
     let shadow = h.pools.shadow;
+    let tally = h.tally;
     [
         l.levels,
         l.hosts,
@@ -89,19 +111,26 @@ fn head_words(h: Head) -> [u64; 16]
         h.root.0,
         h.held.0,
         h.set,
+        tally.on,
+        tally.charged,
+        tally.at,
+        tally.count,
     ]
 }
 
 // The whole record, for a call that changes the marks.
-fn record_in(head: &[u64; 16], place: &[u64; 64]) -> Record
-    ensures { λ r. ⌜ r ≡ recordIn (now (head .entry)) (now (place .entry)) ⌝ }
+fn record_in(head: &[u64; 20], place: &[u64; 64], ring: &[u64; 64], order: &[u64; 64]) -> Record
+    ensures { λ r. ⌜ r ≡ recordIn (now (head .entry)) (now (place .entry)) (now (ring .entry)) (now (order .entry)) ⌝ }
 {
     let h = head_in(head);
     let layout = h.layout;
     let pools = h.pools;
     let root = h.root;
     let held = h.held;
+    let tally = h.tally;
     let places = *place;
+    let charged = *ring;
+    let automatic = *order;
     Record {
         layout: layout,
         pools: pools,
@@ -112,19 +141,24 @@ fn record_in(head: &[u64; 16], place: &[u64; 64]) -> Record
                 set: h.set,
                 place: places,
             },
+            choice: Choice {
+                tally: tally,
+                ring: charged,
+                order: automatic,
+            },
         },
     }
 }
 
 // The words of a head.
-fn words_in(head: &[u64; 16]) -> [u64; 16]
+fn words_in(head: &[u64; 20]) -> [u64; 20]
     ensures { λ r. ⌜ r ≡ now (head .entry) ⌝ }
 {
     *head
 }
 
 // What is held takes the place of what was; a request changes no other word of a head.
-fn put_held(head: &mut [u64; 16], held: Held)
+fn put_held(head: &mut [u64; 20], held: Held)
     ensures { λ _. ⌜ now (head .exit) ≡ headWords (headHeld (headIn (now (head .entry))) held) ⌝ }
 {
     let mut words = words_in(head);
@@ -137,13 +171,26 @@ fn put_held(head: &mut [u64; 16], held: Held)
     *head = words;
 }
 
-// A record takes the place of the one lent.
-fn put_back(head: &mut [u64; 16], place: &mut [u64; 64], unit: Record)
-    ensures { λ _. ⌜ (now (head .exit) ≡ headWords (headOf unit)) × (now (place .exit) ≡ unit .guest .marks .place) ⌝ }
+// And the word of the requests charged.
+fn put_charged(head: &mut [u64; 20], charged: u64)
+    ensures { λ _. ⌜ now (head .exit) ≡ headWords (headCharged (headIn (now (head .entry))) charged) ⌝ }
 {
-    let places = unit.guest.marks.place;
-    *head = head_words(unit.head());
-    *place = places;
+    let mut words = words_in(head);
+    words[17] = charged;
+    *head = words;
+}
+
+// After a load or a store with that answer: what is held, and the request in the window. With the choice off there is no window.
+fn put_window(head: &mut [u64; 20], held: Held, answer: Answer)
+    ensures { λ _. ⌜ now (head .exit) ≡ headWords (windowIn (headIn (now (head .entry))) held answer) ⌝ }
+{
+    let tally = head_in(head).tally;
+    put_held(head, held);
+    if tally.on == 0 {
+        return;
+    }
+    let after = calls::tally_after(tally, answer);
+    put_charged(head, after.charged);
 }
 
 // ---- answers
@@ -221,79 +268,148 @@ fn answer_of(a: Answer) -> FlatAnswer
     }
 }
 
+// The record of a reply takes the place of the one lent.
+fn put_back(
+    head: &mut [u64; 20],
+    place: &mut [u64; 64],
+    ring: &mut [u64; 64],
+    order: &mut [u64; 64],
+    reply: Reply,
+) -> FlatAnswer
+    ensures { λ r. ⌜ flat (now (head .exit)) (now (place .exit)) (now (ring .exit)) (now (order .exit)) r ≡ replyOf reply ⌝ }
+{
+    let unit = reply.unit;
+    let answer = reply.answer;
+    let places = unit.guest.marks.place;
+    *place = places;
+    let charged = unit.guest.choice.ring;
+    *ring = charged;
+    let automatic = unit.guest.choice.order;
+    *order = automatic;
+    *head = head_words(unit.head());
+    answer_of(answer)
+}
+
 // ---- the calls
 
-// Opens the memory, with or without accessed and dirty bits: 1, 2.
+// Opens the memory, with or without accessed and dirty bits, and the automatic choice of marks: 1, 2.
 #[no_mangle]
 pub extern "C" fn cangrieb_open(
-    head: &mut [u64; 16],
+    head: &mut [u64; 20],
     place: &mut [u64; 64],
+    ring: &mut [u64; 64],
+    order: &mut [u64; 64],
     mem: &mut [u64],
     hosts: u64,
     shadows: u64,
     bits: bool,
+    choice: bool,
 ) -> FlatAnswer
-    ensures { λ r. ⌜ yields (flat (now (head .exit)) (now (place .exit)) r) (now (mem .exit)) ≡ leftOf (openCall (now (mem .entry)) hosts shadows bits) ⌝ }
+    ensures { λ r. ⌜ yields (flat (now (head .exit)) (now (place .exit)) (now (ring .exit)) (now (order .exit)) r) (now (mem .exit)) ≡ leftOf (openCall (now (mem .entry)) hosts shadows bits choice) ⌝ }
 {
-    let r = unit::open(mem, hosts, shadows, bits);
-    let answer = r.answer;
-    put_back(head, place, r.unit);
-    answer_of(answer)
+    let r = unit::open(mem, hosts, shadows, bits, choice);
+    put_back(head, place, ring, order, r)
 }
 
 // Loads so many bytes: 3, 15, 4, 11.
 #[no_mangle]
-pub extern "C" fn cangrieb_load(
-    head: &mut [u64; 16],
-    place: &[u64; 64],
+pub extern "C" fn cangrieb_load<'a>(
+    head: &mut [u64; 20],
+    place: &'a [u64; 64],
+    ring: &'a [u64; 64],
+    order: &'a [u64; 64],
     mem: &mut [u64],
     address: u64,
     width: u64,
 ) -> FlatAnswer
-    ensures { λ r. ⌜ yields (flat (now (head .exit)) (now (place .entry)) r) (now (mem .exit)) ≡ leftOf (loadCall (recordIn (now (head .entry)) (now (place .entry))) (now (mem .entry)) address width) ⌝ }
+    ensures { λ r. ⌜ yields (flat (now (head .exit)) (now (place .entry)) (now (ring .entry)) (now (order .entry)) r) (now (mem .exit)) ≡ leftOf (loadCall (recordIn (now (head .entry)) (now (place .entry)) (now (ring .entry)) (now (order .entry))) (now (mem .entry)) address width) ⌝ }
 {
     let h = head_in(head);
-    let s = calls::load_at(h, place, mem, address, width);
+    let s = calls::load_at(h, place, ring, order, mem, address, width);
     let answer = s.answer;
     let held = s.held;
-    put_held(head, held);
+    put_window(head, held, answer);
     answer_of(answer)
+}
+
+// A store with the automatic choice on: served on the parts that are lent; where it is charged, the rest by the whole record.
+fn store_on(
+    head: &mut [u64; 20],
+    place: &mut [u64; 64],
+    ring: &mut [u64; 64],
+    order: &mut [u64; 64],
+    mem: &mut [u64],
+    address: u64,
+    width: u64,
+    value: u64,
+) -> FlatAnswer
+    requires { ⌜ headIn (now head) .tally .on ≢ 0 ⌝ }
+    ensures { λ r. ⌜ yields (flat (now (head .exit)) (now (place .exit)) (now (ring .exit)) (now (order .exit)) r) (now (mem .exit)) ≡ leftOf (storeCall (recordIn (now (head .entry)) (now (place .entry)) (now (ring .entry)) (now (order .entry))) (now (mem .entry)) address width value) ⌝ }
+{
+    let h = head_in(head);
+    match calls::store_on(h, place, ring, order, mem, address, width, value) {
+        Stored::Served(s) => {
+            let answer = s.answer;
+            let held = s.held;
+            put_window(head, held, answer);
+            answer_of(answer)
+        }
+        Stored::Charged(owed) => {
+            let unit = record_in(head, place, ring, order);
+            let r = calls::store_charged(unit, mem, address, width, value, owed);
+            put_back(head, place, ring, order, r)
+        }
+    }
 }
 
 // Stores the low bytes of a value; the paths whose shadow part read the word around them are dropped: 3, 15, 4, 11.
 #[no_mangle]
 pub extern "C" fn cangrieb_store(
-    head: &mut [u64; 16],
-    place: &[u64; 64],
+    head: &mut [u64; 20],
+    place: &mut [u64; 64],
+    ring: &mut [u64; 64],
+    order: &mut [u64; 64],
     mem: &mut [u64],
     address: u64,
     width: u64,
     value: u64,
 ) -> FlatAnswer
-    ensures { λ r. ⌜ yields (flat (now (head .exit)) (now (place .entry)) r) (now (mem .exit)) ≡ leftOf (storeCall (recordIn (now (head .entry)) (now (place .entry))) (now (mem .entry)) address width value) ⌝ }
+    ensures { λ r. ⌜ yields (flat (now (head .exit)) (now (place .exit)) (now (ring .exit)) (now (order .exit)) r) (now (mem .exit)) ≡ leftOf (storeCall (recordIn (now (head .entry)) (now (place .entry)) (now (ring .entry)) (now (order .entry))) (now (mem .entry)) address width value) ⌝ }
 {
     let h = head_in(head);
-    let s = calls::store_at(h, place, mem, address, width, value);
-    let answer = s.answer;
-    let held = s.held;
-    put_held(head, held);
-    answer_of(answer)
+    if h.tally.on == 0 {
+        let s = calls::store_at(h, place, ring, order, mem, address, width, value);
+        let answer = s.answer;
+        let held = s.held;
+        put_held(head, held);
+        return answer_of(answer);
+    }
+    // The call stands twice so that it stays a call: made part of this function it would give each store its 18 KiB of stack. A number
+    // above 1 is no choice, and is refused with 3.
+    if h.tally.on == 1 {
+        let on = store_on(head, place, ring, order, mem, address, width, value);
+        return on;
+    }
+    let other = store_on(head, place, ring, order, mem, address, width, value);
+    other
 }
 
 // A device stores at a guest-physical address: 3, 15, 4, 11.
 #[no_mangle]
-pub extern "C" fn cangrieb_device_store(
-    head: &mut [u64; 16],
-    place: &[u64; 64],
+pub extern "C" fn cangrieb_device_store<'a>(
+    head: &mut [u64; 20],
+    place: &'a [u64; 64],
+    ring: &'a [u64; 64],
+    order: &'a [u64; 64],
     mem: &mut [u64],
     address: u64,
     width: u64,
     value: u64,
 ) -> FlatAnswer
-    ensures { λ r. ⌜ yields (flat (now (head .exit)) (now (place .entry)) r) (now (mem .exit)) ≡ leftOf (deviceCall (recordIn (now (head .entry)) (now (place .entry))) (now (mem .entry)) address width value) ⌝ }
+    ensures { λ r. ⌜ yields (flat (now (head .exit)) (now (place .entry)) (now (ring .entry)) (now (order .entry)) r) (now (mem .exit)) ≡ leftOf (deviceCall (recordIn (now (head .entry)) (now (place .entry)) (now (ring .entry)) (now (order .entry))) (now (mem .entry)) address width value) ⌝ }
 {
     let h = head_in(head);
-    let s = calls::device_store_at(h, place, mem, address, width, value);
+    let s = calls::device_store_at(h, place, ring, order, mem, address, width, value);
     let answer = s.answer;
     let held = s.held;
     put_held(head, held);
@@ -302,16 +418,18 @@ pub extern "C" fn cangrieb_device_store(
 
 // Another root; all held paths are dropped: 3, 8.
 #[no_mangle]
-pub extern "C" fn cangrieb_root(
-    head: &mut [u64; 16],
-    place: &[u64; 64],
+pub extern "C" fn cangrieb_root<'a>(
+    head: &mut [u64; 20],
+    place: &'a [u64; 64],
+    ring: &'a [u64; 64],
+    order: &'a [u64; 64],
     mem: &[u64],
     guest: u64,
 ) -> FlatAnswer
-    ensures { λ r. ⌜ yields (flat (now (head .exit)) (now (place .entry)) r) (now (mem .entry)) ≡ leftOf (rootCall (recordIn (now (head .entry)) (now (place .entry))) (now (mem .entry)) guest) ⌝ }
+    ensures { λ r. ⌜ yields (flat (now (head .exit)) (now (place .entry)) (now (ring .entry)) (now (order .entry)) r) (now (mem .entry)) ≡ leftOf (rootCall (recordIn (now (head .entry)) (now (place .entry)) (now (ring .entry)) (now (order .entry))) (now (mem .entry)) guest) ⌝ }
 {
     let h = head_in(head);
-    let t = calls::root_at(h, place, mem, guest);
+    let t = calls::root_at(h, place, ring, order, mem, guest);
     let answer = t.answer;
     let next = t.head;
     *head = head_words(next);
@@ -320,18 +438,20 @@ pub extern "C" fn cangrieb_root(
 
 // Maps a guest frame to a host frame, or maps it anew: 3, 8, 9, 10, 11.
 #[no_mangle]
-pub extern "C" fn cangrieb_map(
-    head: &mut [u64; 16],
-    place: &[u64; 64],
+pub extern "C" fn cangrieb_map<'a>(
+    head: &mut [u64; 20],
+    place: &'a [u64; 64],
+    ring: &'a [u64; 64],
+    order: &'a [u64; 64],
     mem: &mut [u64],
     guest: u64,
     frame: u64,
     writable: bool,
 ) -> FlatAnswer
-    ensures { λ r. ⌜ yields (flat (now (head .exit)) (now (place .entry)) r) (now (mem .exit)) ≡ leftOf (mapCall (recordIn (now (head .entry)) (now (place .entry))) (now (mem .entry)) guest frame writable) ⌝ }
+    ensures { λ r. ⌜ yields (flat (now (head .exit)) (now (place .entry)) (now (ring .entry)) (now (order .entry)) r) (now (mem .exit)) ≡ leftOf (mapCall (recordIn (now (head .entry)) (now (place .entry)) (now (ring .entry)) (now (order .entry))) (now (mem .entry)) guest frame writable) ⌝ }
 {
     let h = head_in(head);
-    let t = calls::map_at(h, place, mem, guest, frame, writable);
+    let t = calls::map_at(h, place, ring, order, mem, guest, frame, writable);
     let answer = t.answer;
     let next = t.head;
     *head = head_words(next);
@@ -340,16 +460,18 @@ pub extern "C" fn cangrieb_map(
 
 // Unmaps a guest frame: 3, 8, 12, 11.
 #[no_mangle]
-pub extern "C" fn cangrieb_unmap(
-    head: &mut [u64; 16],
-    place: &[u64; 64],
+pub extern "C" fn cangrieb_unmap<'a>(
+    head: &mut [u64; 20],
+    place: &'a [u64; 64],
+    ring: &'a [u64; 64],
+    order: &'a [u64; 64],
     mem: &mut [u64],
     guest: u64,
 ) -> FlatAnswer
-    ensures { λ r. ⌜ yields (flat (now (head .exit)) (now (place .entry)) r) (now (mem .exit)) ≡ leftOf (unmapCall (recordIn (now (head .entry)) (now (place .entry))) (now (mem .entry)) guest) ⌝ }
+    ensures { λ r. ⌜ yields (flat (now (head .exit)) (now (place .entry)) (now (ring .entry)) (now (order .entry)) r) (now (mem .exit)) ≡ leftOf (unmapCall (recordIn (now (head .entry)) (now (place .entry)) (now (ring .entry)) (now (order .entry))) (now (mem .entry)) guest) ⌝ }
 {
     let h = head_in(head);
-    let t = calls::unmap_at(h, place, mem, guest);
+    let t = calls::unmap_at(h, place, ring, order, mem, guest);
     let answer = t.answer;
     let next = t.head;
     *head = head_words(next);
@@ -359,57 +481,128 @@ pub extern "C" fn cangrieb_unmap(
 // Sets a mark: 3, 4, 5, 6, 7, 11.
 #[no_mangle]
 pub extern "C" fn cangrieb_set_mark(
-    head: &mut [u64; 16],
+    head: &mut [u64; 20],
     place: &mut [u64; 64],
+    ring: &mut [u64; 64],
+    order: &mut [u64; 64],
     mem: &mut [u64],
     address: u64,
     level: u64,
 ) -> FlatAnswer
-    ensures { λ r. ⌜ yields (flat (now (head .exit)) (now (place .exit)) r) (now (mem .exit)) ≡ leftOf (setMarkCall (recordIn (now (head .entry)) (now (place .entry))) (now (mem .entry)) address level) ⌝ }
+    ensures { λ r. ⌜ yields (flat (now (head .exit)) (now (place .exit)) (now (ring .exit)) (now (order .exit)) r) (now (mem .exit)) ≡ leftOf (setMarkCall (recordIn (now (head .entry)) (now (place .entry)) (now (ring .entry)) (now (order .entry))) (now (mem .entry)) address level) ⌝ }
 {
-    let r = unit::set_mark(record_in(head, place), mem, address, level);
-    let answer = r.answer;
-    put_back(head, place, r.unit);
-    answer_of(answer)
+    let r = unit::set_mark(record_in(head, place, ring, order), mem, address, level);
+    put_back(head, place, ring, order, r)
 }
 
 // Clears a mark: 3, 4, 5, 6, 11.
 #[no_mangle]
 pub extern "C" fn cangrieb_clear_mark(
-    head: &mut [u64; 16],
+    head: &mut [u64; 20],
     place: &mut [u64; 64],
+    ring: &mut [u64; 64],
+    order: &mut [u64; 64],
     mem: &mut [u64],
     address: u64,
     level: u64,
 ) -> FlatAnswer
-    ensures { λ r. ⌜ yields (flat (now (head .exit)) (now (place .exit)) r) (now (mem .exit)) ≡ leftOf (clearMarkCall (recordIn (now (head .entry)) (now (place .entry))) (now (mem .entry)) address level) ⌝ }
+    ensures { λ r. ⌜ yields (flat (now (head .exit)) (now (place .exit)) (now (ring .exit)) (now (order .exit)) r) (now (mem .exit)) ≡ leftOf (clearMarkCall (recordIn (now (head .entry)) (now (place .entry)) (now (ring .entry)) (now (order .entry))) (now (mem .entry)) address level) ⌝ }
 {
-    let r = unit::clear_mark(record_in(head, place), mem, address, level);
-    let answer = r.answer;
-    put_back(head, place, r.unit);
-    answer_of(answer)
+    let r = unit::clear_mark(record_in(head, place, ring, order), mem, address, level);
+    put_back(head, place, ring, order, r)
 }
 
 // What loading these addresses one after the other would cost: 3, 16, 14, 11. Record and memory are lent to be read.
 #[no_mangle]
-pub extern "C" fn cangrieb_forecast(
-    head: &[u64; 16],
-    place: &[u64; 64],
+pub extern "C" fn cangrieb_forecast<'a>(
+    head: &[u64; 20],
+    place: &'a [u64; 64],
+    ring: &'a [u64; 64],
+    order: &'a [u64; 64],
     mem: &[u64],
     addresses: &[u64],
 ) -> FlatAnswer
-    ensures { λ r. ⌜ r ≡ answerOf (forecastCall (recordIn (now (head .entry)) (now (place .entry))) (now (mem .entry)) (now (addresses .entry)) .result .answer) ⌝ }
+    ensures { λ r. ⌜ r ≡ answerOf (forecastCall (recordIn (now (head .entry)) (now (place .entry)) (now (ring .entry)) (now (order .entry))) (now (mem .entry)) (now (addresses .entry)) .result .answer) ⌝ }
 {
-    answer_of(calls::forecast_at(head_in(head), place, mem, addresses))
+    answer_of(calls::forecast_at(head_in(head), place, ring, order, mem, addresses))
 }
 
-// ---- the record's own method
+// ---- the record's own methods
 
 // The depth of an address, and how many marks were read for it. It judges neither the record nor the address, and is no call of a run.
 #[no_mangle]
-pub extern "C" fn cangrieb_depth(head: &[u64; 16], place: &[u64; 64], address: u64) -> Lookup
-    ensures { λ r. ⌜ r ≡ lookupAt (recordIn (now (head .entry)) (now (place .entry))) address ⌝ }
+pub extern "C" fn cangrieb_depth(head: &[u64; 20], place: &[u64; 64], address: u64) -> Lookup
+    ensures { λ r. ⌜ r ≡ lookupOf (headIn (now (head .entry))) (now (place .entry)) address ⌝ }
 {
     let h = head_in(head);
     depth::lookup(place, h.set, h.layout.levels, GuestVirtual(address))
+}
+
+fn no_mark() -> FlatMark
+    ensures { λ r. ⌜ r ≡ noMark ⌝ }
+{
+    FlatMark {
+        kind: 0,
+        level: 0,
+        prefix: 0,
+        charges: 0,
+    }
+}
+
+// Whose mark stands at a place.
+fn kind_at(order: &[u64; 64], count: u64, at: u64) -> u64
+    ensures { λ r. ⌜ r ≡ kindAt count (now (order .entry)) at ⌝ }
+{
+    if 64 < count {
+        return 1;
+    }
+    if choice::automatic_at(order, count, at) {
+        2
+    } else {
+        1
+    }
+}
+
+// The charges of a mark, by its key.
+fn charges_of(ring: &[u64; 64], t: Tally, levels: u64, key: u64) -> u64
+    ensures { λ r. ⌜ r ≡ chargesAt levels (now (ring .entry)) t key ⌝ }
+{
+    if key % 8 != 1 {
+        return 0;
+    }
+    if t.on == 0 {
+        return 0;
+    }
+    if levels >= 6 {
+        return 0;
+    }
+    choice::charges(ring, t, levels, key / 8)
+}
+
+// What stands at a place of the marks: nothing, a mark of the operator's, or an automatic one. It judges no record, and is no call of a run.
+#[no_mangle]
+pub extern "C" fn cangrieb_mark<'a>(
+    head: &[u64; 20],
+    place: &'a [u64; 64],
+    ring: &'a [u64; 64],
+    order: &'a [u64; 64],
+    at: u64,
+) -> FlatMark
+    ensures { λ r. ⌜ r ≡ markIn (recordIn (now (head .entry)) (now (place .entry)) (now (ring .entry)) (now (order .entry))) at ⌝ }
+{
+    let h = head_in(head);
+    let tally = h.tally;
+    if at >= 64 {
+        return no_mark();
+    }
+    if (h.set >> at) % 2 != 1 {
+        return no_mark();
+    }
+    let key = place[at as usize];
+    FlatMark {
+        kind: kind_at(order, tally.count, at),
+        level: key % 8,
+        prefix: key / 8,
+        charges: charges_of(ring, tally, h.layout.levels, key),
+    }
 }

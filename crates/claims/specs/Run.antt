@@ -37,9 +37,9 @@ unfoldable pub tablesRun : List Call → Record → List ℕ → ℕ
 tablesRun [] r m = r .pools .shadow .used
 tablesRun (x ∷ xs) r m = max (r .pools .shadow .used) (tablesRun xs (callOf x r m .result .unit) (callOf x r m .memory))
 
--- after an opening, with its choice of bits, and a list of calls
-abbrev pub runOf : List ℕ → ℕ → ℕ → Bool → List Call → After Reply
-runOf m h s bits xs = let e : After Reply = openCall m h s bits in unitAfter xs (e .result .unit) (e .memory) e
+-- after an opening, with its choice of bits and the automatic one, and a list of calls
+abbrev pub runOf : List ℕ → ℕ → ℕ → Bool → Bool → List Call → After Reply
+runOf m h s bits on xs = let e : After Reply = openCall m h s bits on in unitAfter xs (e .result .unit) (e .memory) e
 
 -- the specification's run as it is compared: each line with the machine's guest area after it
 abbrev pub machineRun : List (Line × State) → List (Line × List ℕ)

@@ -8,7 +8,7 @@ ghost use Rattle.words.specs.After.{yields};
 ghost use Rattle.words.specs.Words.{wordIn};
 ghost use Rattle.layout.specs.Layout.{LayoutFits, config};
 ghost use Rattle.shadow.specs.Watch.{watchedOf};
-ghost use Rattle.translate.specs.Translate.{HeldFits, translation};
+ghost use Rattle.translate.specs.Translate.{HeldFits, translation, translateOf};
 ghost use Rattle.request.specs.Access.{Inside, ReachesFrame, setBy, bitsOf, settledOf, droppedOf, bytesIn, pathHeldOf, loadBy, loadOf, finishBy, writtenBy, storeBy, storeFrom, storeOf, deviceOf};
 use entry::GuestPhysical;
 use entry::GuestVirtual;
@@ -32,7 +32,7 @@ pub struct Served {
 // ---- the bytes
 
 // The word of its page around an address.
-fn word_of(address: u64) -> u64
+pub fn word_of(address: u64) -> u64
     ensures { λ r. ⌜ (r ≡ wordOf address) × (r < 512) ⌝ }
 {
     address % 4096 / 8
@@ -68,7 +68,7 @@ fn with_bytes(mem: &[u64], page: HostPhysical, address: u64, width: u64, value: 
 }
 
 // The bytes of a page at that address get the low bytes of the value.
-fn put_bytes(mem: &mut [u64], page: HostPhysical, address: u64, width: u64, value: u64)
+pub fn put_bytes(mem: &mut [u64], page: HostPhysical, address: u64, width: u64, value: u64)
     requires { ⌜ (page .0 < frameLimit) × (Inside address width) ⌝ }
     ensures { λ r. ⌜ now (mem .exit) ≡ bytesIn (now (mem .entry)) (page .0) address width value ⌝ }
 {
@@ -105,7 +105,7 @@ fn drop_watched(
 }
 
 // The same of any page: one that is not watched has no such word.
-fn drop_readers(
+pub fn drop_readers(
     mem: &mut [u64],
     layout: Layout,
     pool: Pool,
@@ -146,6 +146,23 @@ fn set_own(mem: &mut [u64], space: Space, root: GuestPhysical, store: bool, addr
         Walked::Faulted { fault, reads } => {}
         Walked::Damaged => {}
     }
+}
+
+// They are set if they are to be.
+pub fn settle_own(
+    mem: &mut [u64],
+    space: Space,
+    root: GuestPhysical,
+    address: GuestVirtual,
+    sets: bool,
+)
+    requires { ⌜ LayoutFits (space .layout) ⌝ }
+    ensures { λ r. ⌜ now (mem .exit) ≡ settledOf (config (space .layout)) (space .top) (root .0) true (address .0) sets (now (mem .entry)) ⌝ }
+{
+    if !sets {
+        return;
+    }
+    set_own(mem, space, root, true, address);
 }
 
 // They are set if they are to be and the request came to its word.
@@ -412,7 +429,7 @@ fn stored(
 }
 
 // The same of one that may have bits to set: after the drops, which may meet damage, and before its bytes.
-fn stored_by_bits(
+pub fn stored_by_bits(
     mem: &mut [u64],
     space: Space,
     root: GuestPhysical,
@@ -509,6 +526,38 @@ pub fn store(
     }
     let t = translate::unserved(mem, space, root, held, request);
     stored_by_bits(mem, space, root, held, t, address, width, value)
+}
+
+// A load's or a store's translation, by the path held for it or without one.
+pub fn reached(
+    mem: &mut [u64],
+    space: Space,
+    root: GuestPhysical,
+    held: Held,
+    request: Request,
+) -> Translated
+    requires { ⌜ (LayoutFits (space .layout)) × (HeldFits (config (space .layout)) held) ⌝ }
+    ensures { λ r. ⌜ yields r (now (mem .exit)) ≡ translateOf (config (space .layout)) (space .top) (now (mem .entry)) held (root .0) (request .store) (request .address .0) (request .depth) ⌝ }
+{
+    if request.depth <= space.layout.levels {
+        match path_held(
+            mem,
+            space.layout,
+            held,
+            request.store,
+            request.address,
+            request.depth,
+        ) {
+            HostWalk::Found { page, writable } => {
+                return translate::through(mem, space, root, held, request, page, writable);
+            }
+            HostWalk::Absent { reads } => {}
+            HostWalk::Damaged => {
+                return translate::damaged(held);
+            }
+        }
+    }
+    translate::unserved(mem, space, root, held, request)
 }
 
 // A device's store at a guest-physical address: its host walk, then the bytes as for a store; no bits: 11.

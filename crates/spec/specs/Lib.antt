@@ -8,6 +8,7 @@ pub mod Plain
 pub mod Machine
 pub mod Bits
 pub mod Book
+pub mod Choice
 pub mod Search
 pub mod Call
 pub mod Count
@@ -19,3 +20,4 @@ pub mod Quiet
 pub mod Computing
 pub mod Guest
 pub mod GuestBits
+pub mod GuestChoice

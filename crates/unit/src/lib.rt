@@ -2,32 +2,23 @@
 // parts.
 ghost use mathlib.Core.Path.{_≡_};
 ghost use mathlib.Core.Bool.{cond};
-ghost use Prim.Native.Nat.{_<_};
+ghost use Prim.Native.Nat.{_<_, _≤_};
 ghost use Rattle.words.specs.After.{yields};
-ghost use Rattle.marks.specs.Table.{keys, setRefusal, clearRefusal, number};
-ghost use Rattle.record.specs.Record.{withMarks};
-ghost use Rattle.calls.specs.Calls.{Promises, Sound, withHeld, servedReply, turnReply, answerOf, openCall, loadCall, storeCall, deviceCall, rootCall, mapCall, unmapCall, heldAfter, markedOf, marksAfter, markCall, setMarkCall, clearMarkCall, forecastCall};
+ghost use Rattle.marks.specs.Table.{number};
+ghost use Rattle.choice.specs.Refusal.{setRefusal, clearRefusal};
+ghost use Rattle.automatic.specs.Moves.{Ready};
+ghost use Rattle.calls.specs.Calls.{Promises, servedReply, windowedReply, movedReply, turnReply, answerOf, openCall, loadCall, storeCall, deviceCall, rootCall, mapCall, unmapCall, markMoves, markCall, setMarkCall, clearMarkCall, forecastCall};
+use automatic::Moved;
 use calls::Reply;
+use calls::Stored;
 use calls::Turn;
+use choice::Tally;
 use entry::GuestVirtual;
-use entry::HostPhysical;
-use marks::Marks;
 use record::Record;
 use request::Served;
 use spec::Answer;
-use translate::Held;
 
 // ---- replies
-
-// A refusal: its number, with the record given.
-fn refused(unit: Record, number: u64) -> Reply
-    ensures { λ r. ⌜ r ≡ record { unit = unit; answer = Answer.Refused number } ⌝ }
-{
-    Reply {
-        unit: unit,
-        answer: Answer::Refused(number),
-    }
-}
 
 // The reply of a call that was served.
 fn served(unit: Record, s: Served) -> Reply
@@ -38,6 +29,33 @@ fn served(unit: Record, s: Served) -> Reply
     Reply {
         unit: unit.with_head(calls::with_held(unit.head(), held)),
         answer: answer,
+    }
+}
+
+// The reply of a load or a store that was served, and charged to nobody: it is in the window.
+fn windowed(unit: Record, s: Served) -> Reply
+    ensures { λ r. ⌜ r ≡ windowedReply unit s ⌝ }
+{
+    let held = s.held;
+    let answer = s.answer;
+    let tally = calls::tally_after(unit.guest.choice.tally, answer);
+    Reply {
+        unit: unit.with_head(calls::with_held(unit.head(), held).with_tally(tally)),
+        answer: answer,
+    }
+}
+
+// The reply of a call that moved marks.
+fn moved(unit: Record, m: Moved) -> Reply
+    ensures { λ r. ⌜ r ≡ movedReply unit m ⌝ }
+{
+    let next = m.unit;
+    if !m.ok {
+        return calls::refused(unit, 11);
+    }
+    Reply {
+        unit: next,
+        answer: Answer::Ok,
     }
 }
 
@@ -66,11 +84,11 @@ fn answer_of(refusal: u64) -> Answer
     }
 }
 
-// Opens the memory, with or without accessed and dirty bits: 1, 2.
-pub fn open(mem: &mut [u64], hosts: u64, shadows: u64, bits: bool) -> Reply
-    ensures { λ r. ⌜ Promises r (now (mem .exit)) (openCall (now (mem .entry)) hosts shadows bits) ⌝ }
+// Opens the memory, with or without accessed and dirty bits, and the automatic choice of marks: 1, 2.
+pub fn open(mem: &mut [u64], hosts: u64, shadows: u64, bits: bool, choice: bool) -> Reply
+    ensures { λ r. ⌜ Promises r (now (mem .exit)) (openCall (now (mem .entry)) hosts shadows bits choice) ⌝ }
 {
-    let opened = opening::open(mem, hosts, shadows, bits);
+    let opened = opening::open(mem, hosts, shadows, bits, choice);
     let unit = opened.unit;
     Reply {
         unit: unit,
@@ -81,22 +99,47 @@ pub fn open(mem: &mut [u64], hosts: u64, shadows: u64, bits: bool) -> Reply
 pub fn load(unit: Record, mem: &mut [u64], address: u64, width: u64) -> Reply
     ensures { λ r. ⌜ Promises r (now (mem .exit)) (loadCall unit (now (mem .entry)) address width) ⌝ }
 {
-    let s = calls::load_at(unit.head(), &unit.guest.marks.place, mem, address, width);
-    served(unit, s)
+    let s = calls::load_at(
+        unit.head(),
+        &unit.guest.marks.place,
+        &unit.guest.choice.ring,
+        &unit.guest.choice.order,
+        mem,
+        address,
+        width,
+    );
+    windowed(unit, s)
 }
 
 pub fn store(unit: Record, mem: &mut [u64], address: u64, width: u64, value: u64) -> Reply
     ensures { λ r. ⌜ Promises r (now (mem .exit)) (storeCall unit (now (mem .entry)) address width value) ⌝ }
 {
-    let s = calls::store_at(
+    if unit.guest.choice.tally.on == 0 {
+        let s = calls::store_at(
+            unit.head(),
+            &unit.guest.marks.place,
+            &unit.guest.choice.ring,
+            &unit.guest.choice.order,
+            mem,
+            address,
+            width,
+            value,
+        );
+        return served(unit, s);
+    }
+    match calls::store_on(
         unit.head(),
         &unit.guest.marks.place,
+        &unit.guest.choice.ring,
+        &unit.guest.choice.order,
         mem,
         address,
         width,
         value,
-    );
-    served(unit, s)
+    ) {
+        Stored::Served(s) => windowed(unit, s),
+        Stored::Charged(owed) => calls::store_charged(unit, mem, address, width, value, owed),
+    }
 }
 
 pub fn device_store(unit: Record, mem: &mut [u64], address: u64, width: u64, value: u64) -> Reply
@@ -105,6 +148,8 @@ pub fn device_store(unit: Record, mem: &mut [u64], address: u64, width: u64, val
     let s = calls::device_store_at(
         unit.head(),
         &unit.guest.marks.place,
+        &unit.guest.choice.ring,
+        &unit.guest.choice.order,
         mem,
         address,
         width,
@@ -116,7 +161,14 @@ pub fn device_store(unit: Record, mem: &mut [u64], address: u64, width: u64, val
 pub fn load_root(unit: Record, mem: &mut [u64], guest: u64) -> Reply
     ensures { λ r. ⌜ Promises r (now (mem .exit)) (rootCall unit (now (mem .entry)) guest) ⌝ }
 {
-    let t = calls::root_at(unit.head(), &unit.guest.marks.place, mem, guest);
+    let t = calls::root_at(
+        unit.head(),
+        &unit.guest.marks.place,
+        &unit.guest.choice.ring,
+        &unit.guest.choice.order,
+        mem,
+        guest,
+    );
     turned(unit, t)
 }
 
@@ -126,6 +178,8 @@ pub fn map(unit: Record, mem: &mut [u64], guest: u64, frame: u64, writable: bool
     let t = calls::map_at(
         unit.head(),
         &unit.guest.marks.place,
+        &unit.guest.choice.ring,
+        &unit.guest.choice.order,
         mem,
         guest,
         frame,
@@ -137,7 +191,14 @@ pub fn map(unit: Record, mem: &mut [u64], guest: u64, frame: u64, writable: bool
 pub fn unmap(unit: Record, mem: &mut [u64], guest: u64) -> Reply
     ensures { λ r. ⌜ Promises r (now (mem .exit)) (unmapCall unit (now (mem .entry)) guest) ⌝ }
 {
-    let t = calls::unmap_at(unit.head(), &unit.guest.marks.place, mem, guest);
+    let t = calls::unmap_at(
+        unit.head(),
+        &unit.guest.marks.place,
+        &unit.guest.choice.ring,
+        &unit.guest.choice.order,
+        mem,
+        guest,
+    );
     turned(unit, t)
 }
 
@@ -145,7 +206,14 @@ pub fn unmap(unit: Record, mem: &mut [u64], guest: u64) -> Reply
 pub fn forecast(unit: Record, mem: &[u64], addresses: &[u64]) -> Reply
     ensures { λ r. ⌜ Promises r (now (mem .entry)) (forecastCall unit (now (mem .entry)) (now (addresses .entry))) ⌝ }
 {
-    let answer = calls::forecast_at(unit.head(), &unit.guest.marks.place, mem, addresses);
+    let answer = calls::forecast_at(
+        unit.head(),
+        &unit.guest.marks.place,
+        &unit.guest.choice.ring,
+        &unit.guest.choice.order,
+        mem,
+        addresses,
+    );
     Reply {
         unit: unit,
         answer: answer,
@@ -154,86 +222,36 @@ pub fn forecast(unit: Record, mem: &[u64], addresses: &[u64]) -> Reply
 
 // ---- marks
 
-// The frame held in the record after a mark of that level: it goes where the mark keeps no index.
-fn held_after(levels: u64, level: u64, held: HostPhysical) -> HostPhysical
-    ensures { λ r. ⌜ r ≡ heldAfter levels level held ⌝ }
-{
-    if level < levels {
-        held
-    } else {
-        HostPhysical(0)
-    }
-}
-
-// The record with these marks and these paths held.
-fn with_marks(unit: Record, marks: Marks, held: Held) -> Record
-    ensures { λ r. ⌜ r ≡ withHeld (withMarks unit marks) held ⌝ }
-{
-    let next = unit.with_marks(marks);
-    next.with_head(calls::with_held(next.head(), held))
-}
-
-// The record gets these marks, and the paths that begin with the prefix of the mark of that level are dropped. The mark keeps
-// as many indexes as tables stand above one of its level.
-fn marked(unit: Record, mem: &mut [u64], address: GuestVirtual, level: u64, marks: Marks) -> Reply
-    requires { ⌜ (Sound unit) × (level < 8) ⌝ }
-    ensures { λ r. ⌜ yields r (now (mem .exit)) ≡ markedOf unit (now (mem .entry)) (address .0) level marks ⌝ }
-{
-    let l = unit.layout;
-    let kept = drops::links(l.levels, level);
-    let left = drops::drop_prefix(
-        mem,
-        l,
-        unit.pools.shadow,
-        address.page() >> (9 * level),
-        kept,
-    );
-    let pool = left.pool;
-    if !left.ok {
-        return refused(unit, 11);
-    }
-    let frame = held_after(l.levels, level, unit.guest.held);
-    let next = with_marks(
-        unit,
-        marks,
-        Held {
-            pool: pool,
-            frame: frame,
-        },
-    );
-    Reply {
-        unit: next,
-        answer: Answer::Ok,
-    }
-}
-
 // Why a mark is not set, or one is not cleared: its number, or 0.
-fn mark_refusal(
-    place: &[u64; 64],
+fn mark_refusal<'a>(
+    t: Tally,
+    order: &'a [u64; 64],
+    place: &'a [u64; 64],
     set: u64,
     levels: u64,
     at: GuestVirtual,
     level: u64,
     setting: bool,
 ) -> u64
-    requires { ⌜ levels < 6 ⌝ }
-    ensures { λ r. ⌜ r ≡ number (cond setting (setRefusal levels (keys (now (place .entry)) set) (at .0) level) (clearRefusal levels (keys (now (place .entry)) set) (at .0) level)) ⌝ }
+    requires { ⌜ (levels < 6) × (t .count ≤ 64) ⌝ }
+    ensures { λ r. ⌜ r ≡ number (cond setting (setRefusal levels t (now (order .entry)) (record { set = set; place = now (place .entry) }) (at .0) level) (clearRefusal levels t (now (order .entry)) (record { set = set; place = now (place .entry) }) (at .0) level)) ⌝ }
 {
     if setting {
-        marks::set_refusal(place, set, levels, at, level)
+        choice::set_refusal(t, order, place, set, levels, at, level)
     } else {
-        marks::clear_refusal(place, set, levels, at, level)
+        choice::clear_refusal(t, order, place, set, levels, at, level)
     }
 }
 
-// The marks with that key, or without it.
-fn marks_after(marks: Marks, key: u64, setting: bool) -> Marks
-    ensures { λ r. ⌜ r ≡ marksAfter setting marks key ⌝ }
+// The mark is set, or cleared.
+fn mark_moves(unit: Record, mem: &mut [u64], at: GuestVirtual, level: u64, setting: bool) -> Moved
+    requires { ⌜ (Ready unit) × (level < 8) ⌝ }
+    ensures { λ r. ⌜ yields r (now (mem .exit)) ≡ markMoves setting unit (now (mem .entry)) (at .0) level ⌝ }
 {
     if setting {
-        marks.with_key(key)
+        automatic::set(unit, mem, at, level)
     } else {
-        marks.without_key(key)
+        automatic::clear(unit, mem, at, level)
     }
 }
 
@@ -243,20 +261,23 @@ fn mark_call(unit: Record, mem: &mut [u64], address: u64, level: u64, setting: b
 {
     let at = GuestVirtual(address);
     if !unit.fits(mem.len()) {
-        return refused(unit, 3);
+        return calls::refused(unit, 3);
     }
-    let levels = unit.layout.levels;
-    let set = unit.guest.marks.set;
-    let refusal = mark_refusal(&unit.guest.marks.place, set, levels, at, level, setting);
-    if refusal != 0 {
-        return refused(unit, refusal);
-    }
-    let marks = marks_after(
-        unit.guest.marks,
-        marks::key_of(unit.layout.levels, level, at),
+    let refusal = mark_refusal(
+        unit.guest.choice.tally,
+        &unit.guest.choice.order,
+        &unit.guest.marks.place,
+        unit.guest.marks.set,
+        unit.layout.levels,
+        at,
+        level,
         setting,
     );
-    marked(unit, mem, at, level, marks)
+    if refusal != 0 {
+        return calls::refused(unit, refusal);
+    }
+    let m = mark_moves(unit, mem, at, level, setting);
+    moved(unit, m)
 }
 
 // Sets a mark: 3, 4, 5, 6, 7, 11.

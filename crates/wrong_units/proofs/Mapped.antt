@@ -110,7 +110,7 @@ enters : (bits : Bool) → grantedBy bits (enteredOn memory) ≡ ended (openedBy
 unfolding noneOf withTop link headerOf firstOf
 enters bits = ap (grantedBy bits) (enter-clear area noneOf memory 0 ready no-top)
 
-pub opens : (bits : Bool) → openCall memory 4 4 bits ≡ ended (openedBy bits) answer.Ok openedWords
+pub opens : (bits : Bool) → openCall memory 4 4 bits false ≡ ended (openedBy bits) answer.Ok openedWords
 opens bits = granted-call memory 4 4 bits (grants bits) ∙ first-is bits ∙ ap (λ m. grantedBy bits (enteredOn m)) clears ∙ enters bits
 
 -- ---- guest frame 0 is mapped to host frame 8: there are host tables of all four levels then

@@ -70,7 +70,7 @@ as-ours-demand-3 f k m h s bits xs g =
     let c = configBy (length m) h s bits in
     let o = grantedOf m h s bits in
     ap (λ (e : After Reply). runBy (unitBy f) xs (e .result .unit, e .memory)) (granted-call m h s bits g)
-    ∙ same-run f k xs (opened c m) (o .result) (o .memory) (sym (opened-config m h s bits)) (opened-inv m h s bits g) tt
+    ∙ same-run f k xs (opened c false m) (o .result) (o .memory) (sym (opened-config m h s bits false)) (opened-inv m h s bits false g) tt
     ∙ ap (λ (e : After Reply). unitRun xs (e .result .unit) (e .memory)) (sym (granted-call m h s bits g))
     ∙ demand-3 m h s bits xs g
 
@@ -94,7 +94,7 @@ run-is (x ∷ xs) r m =
 pub cangrieb-demand-2 : Demand-2 callOf
 unfolding Demand-2
 cangrieb-demand-2 m h s bits xs g a w v =
-    let o = openCall m h s bits in
+    let o = openCall m h s bits false in
     subst Walks (sym (after-is xs (o .result .unit) (o .memory) o refl refl)) (demand-2 m h s bits xs g a w v)
   where
     Walks : Record × List ℕ → Type 0
@@ -103,7 +103,7 @@ cangrieb-demand-2 m h s bits xs g a w v =
 pub cangrieb-words-counted : WordsCounted callOf
 unfolding WordsCounted callOf
 cangrieb-words-counted m h s bits xs g a w k =
-    let o = openCall m h s bits in
+    let o = openCall m h s bits false in
     subst Same (sym (after-is xs (o .result .unit) (o .memory) o refl refl))
     (λ z n l c t. ap line (run-counted-load m h s bits xs g a w k z n l c t .says))
   where
@@ -114,7 +114,7 @@ cangrieb-words-counted m h s bits xs g a w k =
 pub cangrieb-lookups : Lookups lookupAt
 unfolding Lookups
 cangrieb-lookups m h s bits xs g a =
-    let o = openCall m h s bits in
+    let o = openCall m h s bits false in
     subst Looks (sym (after-is xs (o .result .unit) (o .memory) o refl refl)) (run-lookup m h s bits xs g a)
   where
     Looks : Record × List ℕ → Type 0
@@ -123,7 +123,7 @@ cangrieb-lookups m h s bits xs g a =
 pub cangrieb-quiet-day : QuietDay cangrieb
 unfolding QuietDay
 cangrieb-quiet-day m h s xs ys g q =
-    let o = openCall m h s false in
+    let o = openCall m h s false false in
     let u = unitAfter xs (o .result .unit) (o .memory) o in
     ap (λ e. allPaid exitsPaid (runBy cangrieb ys e)) (after-is xs (o .result .unit) (o .memory) o refl refl)
     ∙ ap (allPaid exitsPaid) (run-is ys (u .result .unit) (u .memory)) ∙ quiet-day m h s xs ys g q

@@ -49,7 +49,7 @@ pub demand-last : (u : MemoryUnit) → Demand-3 u → (m : List ℕ) (h s : ℕ)
     → (u .call x (afterBy u xs (u .opens m h s bits))) .0 ≡ (step x (specified m h s bits xs)) .0
 unfolding Demand-3
 demand-last u d m h s bits xs x g =
-    sym (run-last u xs x (u .opens m h s bits) ok) ∙ ap (lastOf ok) (d m h s bits (xs ++ (x ∷ [])) g) ∙ step-last xs x (opened (configBy (length m) h s bits) m) ok
+    sym (run-last u xs x (u .opens m h s bits) ok) ∙ ap (lastOf ok) (d m h s bits (xs ++ (x ∷ [])) g) ∙ step-last xs x (opened (configBy (length m) h s bits) false m) ok
 
 -- ---- two lines that differ
 

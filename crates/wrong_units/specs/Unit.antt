@@ -45,13 +45,13 @@ afterBy u (x ∷ xs) s = afterBy u xs ((u .call x s) .1)
 
 -- the specification's state after an opening and a list of calls
 abbrev pub specified : List ℕ → ℕ → ℕ → Bool → List Call → State
-specified m h s bits xs = after xs (opened (configBy (length m) h s bits) m)
+specified m h s bits xs = after xs (opened (configBy (length m) h s bits) false m)
 
 -- demand 3: after every granted opening, on any memory, each line and the guest words after it are those of machine and book
 unfoldable pub Demand-3 : MemoryUnit → Type 0
 Demand-3 u =
     (m : List ℕ) (h s : ℕ) (bits : Bool) (xs : List Call) → refusalOf (length m) h s bits ≡ 0
-    → runBy u xs (u .opens m h s bits) ≡ machineRun (run xs (opened (configBy (length m) h s bits) m))
+    → runBy u xs (u .opens m h s bits) ≡ machineRun (run xs (opened (configBy (length m) h s bits) false m))
 
 -- a quiet stretch (document 02, 5): with bits off, after any run its exits add up to the figure
 unfoldable pub QuietDay : MemoryUnit → Type 0
@@ -73,7 +73,7 @@ told e = (line (e .result .answer), (e .result .unit, e .memory))
 abbrev pub unitBy : Calls → MemoryUnit
 unitBy f = record {
   Inner = Record × List ℕ;
-  opens = λ m h s bits. (told (openCall m h s bits)) .1;
+  opens = λ m h s bits. (told (openCall m h s bits false)) .1;
   call = λ x s. told (f x (s .0) (s .1));
   area = λ s. guestArea (s .0) (s .1);
 }

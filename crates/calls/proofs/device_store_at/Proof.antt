@@ -18,7 +18,7 @@ returns c =
     let args = c .before .before .before .before .before .args in
     let held-in = c .before .before .before .held-in in
     let request-refusal = c .before .before .request-refusal in
-    let r = recordBy (args .head) (args .place .now) in
+    let r = recordBy (args .head) (args .place .now) (args .ring .now) (args .order .now) in
     rw (c .refused .ensures, held-in .ensures) (turned-away r (args .mem .now) (args .width) (addressOk true (configOf r) (args .address) (args .width)) _ _ (request-refusal .ensures) (c .before .if1 .taken))
 
 device-store-requires : tie.Need-device-store-requires
@@ -26,7 +26,7 @@ device-store-requires c κs =
     let args = c .before .before .before .before .before .before .args in
     let held-in = c .before .before .before .before .held-in in
     let request-refusal = c .before .before .before .request-refusal in
-    let r = recordBy (args .head) (args .place .now) in
+    let r = recordBy (args .head) (args .place .now) (args .ring .now) (args .order .now) in
     let t = all-taken (fitsOf r (length (args .mem .now))) (widthFits (args .width)) (addressOk true (configOf r) (args .address) (args .width)) (sym (c .before .before .if1 .left) ∙ request-refusal .ensures) in
     let s = fits-sound r _ (t .0) in
     rw (c .space-in .ensures, held-in .ensures) (s .0, s .1, fits-inside (deviceFits (configOf r) (args .address)) (args .address) (args .width) (t .1) (t .2))
@@ -40,7 +40,7 @@ returns-2 c =
     let if1 = c .before .before .before .before .before .if1 in
     let space-in = c .before .before .before .space-in in
     let device-store = c .before .before .device-store in
-    let r = recordBy (args .head) (args .place .now) in
+    let r = recordBy (args .head) (args .place .now) (args .ring .now) (args .order .now) in
     ap (servedBy r) (rw (held-in .ensures, space-in .ensures) at (device-store .ensures))
     ∙ taken r (args .mem .now) (args .width) (addressOk true (configOf r) (args .address) (args .width)) _ (sym (if1 .left) ∙ request-refusal .ensures)
 

@@ -18,7 +18,7 @@ unfolding forecastCall
 returns c =
     let args = c .before .before .before .before .args in
     let fits2 = c .before .fits2 in
-    broken (recordBy (args .head) (args .place .now)) (args .mem .now) _ (sym (fits2 .ensures) ∙ not-true (fits2 .result) (c .if1 .taken))
+    broken (recordBy (args .head) (args .place .now) (args .ring .now) (args .order .now)) (args .mem .now) _ (sym (fits2 .ensures) ∙ not-true (fits2 .result) (c .if1 .taken))
 
 returns-2 : tie.Need-returns-2
 unfolding forecastCall
@@ -26,7 +26,7 @@ returns-2 c =
     let args = c .before .before .before .before .before .before .args in
     let fits2 = c .before .before .before .fits2 in
     let if1 = c .before .before .if1 in
-    let r = recordBy (args .head) (args .place .now) in
+    let r = recordBy (args .head) (args .place .now) (args .ring .now) (args .order .now) in
     let fits : fitsOf r (length (args .mem .now)) ≡ true = sym (fits2 .ensures) ∙ not-false (fits2 .result) (if1 .left) in
     failed r (args .mem .now) _ _ _ fits (ap not (chosen-on _ (c .if2 .taken)))
 
@@ -37,7 +37,7 @@ returns-3 c =
     let fits2 = c .before .before .before .before .fits2 in
     let if1 = c .before .before .before .if1 in
     let if2 = c .before .if2 in
-    let r = recordBy (args .head) (args .place .now) in
+    let r = recordBy (args .head) (args .place .now) (args .ring .now) (args .order .now) in
     let fits : fitsOf r (length (args .mem .now)) ≡ true = sym (fits2 .ensures) ∙ not-false (fits2 .result) (if1 .left) in
     rw (lt-leb _ _ (c .if3 .taken)) (passed r (args .mem .now) _ _ _ fits (ap not (chosen-off _ (if2 .left))))
 
@@ -48,7 +48,7 @@ forecast-requires c κs =
     let if1 = c .before .before .before .before .before .if1 in
     let if3 = c .before .before .if3 in
     let space-in = c .before .space-in in
-    let r = recordBy (args .head) (args .place .now) in
+    let r = recordBy (args .head) (args .place .now) (args .ring .now) (args .order .now) in
     let fits : fitsOf r (length (args .mem .now)) ≡ true = sym (fits2 .ensures) ∙ not-false (fits2 .result) (if1 .left) in
     rw (space-in .ensures, c .held-in .ensures) (fits-sound r _ fits .0, fits-held r _ fits, fits-used r _ fits, omega (arith, if3 .left))
 
@@ -62,7 +62,7 @@ returns-4 c =
     let if3 = c .before .before .before .if3 in
     let space-in = c .before .before .space-in in
     let held-in = c .before .held-in in
-    let r = recordBy (args .head) (args .place .now) in
+    let r = recordBy (args .head) (args .place .now) (args .ring .now) (args .order .now) in
     let fits : fitsOf r (length (args .mem .now)) ≡ true = sym (fits2 .ensures) ∙ not-false (fits2 .result) (if1 .left) in
     let told = rw (held-in .ensures, space-in .ensures) at (c .forecast .ensures) in
     rw (told, le-leb _ _ (if3 .left)) (passed r (args .mem .now) _ _ _ fits (ap not (chosen-off _ (if2 .left))))

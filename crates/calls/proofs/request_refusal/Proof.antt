@@ -15,13 +15,13 @@ returns : tie.Need-returns
 returns c =
     let args = c .before .before .args in
     let fits2 = c .before .fits2 in
-    let ok = addressOk (args .device) (configOf (recordBy (args .head) (args .place .now))) (args .address) (args .width) in
+    let ok = addressOk (args .device) (configOf (recordBy (args .head) (args .place .now) (args .ring .now) (args .order .now))) (args .address) (args .width) in
     says-3 _ (widthFits (args .width)) ok (sym (fits2 .ensures) ∙ not-true (fits2 .result) (c .if1 .taken))
 
 returns-2 : tie.Need-returns-2
 returns-2 c =
     let args = c .before .before .before .before .args in
-    let ok = addressOk (args .device) (configOf (recordBy (args .head) (args .place .now))) (args .address) (args .width) in
+    let ok = addressOk (args .device) (configOf (recordBy (args .head) (args .place .now) (args .ring .now) (args .order .now))) (args .address) (args .width) in
     let fits2 = c .before .before .before .fits2 in
     let width-fits = c .before .width-fits in
     says-15 _ _ ok (sym (fits2 .ensures) ∙ not-false (fits2 .result) (c .before .before .if1 .left)) (sym (width-fits .ensures) ∙ not-true (width-fits .result) (c .if2 .taken))
@@ -32,7 +32,7 @@ address-ok-requires c κs =
     let fits2 = c .before .before .before .fits2 in
     let width-fits = c .before .width-fits in
     let wide = sym (width-fits .ensures) ∙ not-false (width-fits .result) (c .if2 .left) in
-    (fits-levels (recordBy (args .head) (args .place .now)) _ (sym (fits2 .ensures) ∙ not-false (fits2 .result) (c .before .before .if1 .left)), subst T (sym wide) tt)
+    (fits-levels (recordBy (args .head) (args .place .now) (args .ring .now) (args .order .now)) _ (sym (fits2 .ensures) ∙ not-false (fits2 .result) (c .before .before .if1 .left)), subst T (sym wide) tt)
 
 returns-3 : tie.Need-returns-3
 returns-3 c =

@@ -1,12 +1,13 @@
 -- The number says which test failed; where none did, the record has its layout and what it holds in range, and its marks give the depth.
 use mathlib.Core.Path.{sym, ap, _∙_}
-use mathlib.Core.Bool.{false}
 use lib.ListN.{length}
 use Rattle.spec.specs.Bytes.{widthFits}
 use Rattle.spec.specs.Refusal.{addressFits}
+use mathlib.Core.Bool.{true, false}
 use Rattle.record.specs.Record.{recordBy, configOf, headTables, fitsOf}
 use Rattle.calls.proofs.Laws.{turned-away, taken, all-taken}
 use Rattle.calls.proofs.Ranges.{fits-sound, fits-held, fits-inside}
+use Rattle.calls.proofs.Stores.{off-call}
 use Rattle.calls.specs.Calls.{addressOk, headHeld, servedBy, storeCall}
 use borrow.Author.Needs.{needs}
 use Rattle.calls.proofs.store_at.Statement.{statement}
@@ -20,7 +21,7 @@ returns c =
     let request-refusal = c .before .before .request-refusal in
     let if1 = c .before .if1 in
     let refused = c .refused in
-    rw (refused .ensures, held-in .ensures) (turned-away (recordBy (args .head) (args .place .now)) (args .mem .now) (args .width) (addressOk false (configOf (recordBy (args .head) (args .place .now))) (args .address) (args .width)) _ _ (request-refusal .ensures) (if1 .taken))
+    rw (refused .ensures, held-in .ensures) (turned-away (recordBy (args .head) (args .place .now) (args .ring .now) (args .order .now)) (args .mem .now) (args .width) (addressOk false (configOf (recordBy (args .head) (args .place .now) (args .ring .now) (args .order .now))) (args .address) (args .width)) _ _ (request-refusal .ensures) (if1 .taken))
 
 store-requires : tie.Need-store-requires
 store-requires c κs =
@@ -29,13 +30,14 @@ store-requires c κs =
     let request-refusal = c .before .before .before .before .request-refusal in
     let if1 = c .before .before .before .if1 in
     let space-in = c .space-in in
-    let r = recordBy (args .head) (args .place .now) in
+    let r = recordBy (args .head) (args .place .now) (args .ring .now) (args .order .now) in
     let t = all-taken (fitsOf r (length (args .mem .now))) (widthFits (args .width)) (addressOk false (configOf r) (args .address) (args .width)) (sym (if1 .left) ∙ request-refusal .ensures) in
     rw (space-in .ensures, held-in .ensures) (fits-sound r _ (t .0) .0, fits-held r _ (t .0), fits-inside (addressFits (configOf r) (args .address)) (args .address) (args .width) (t .1) (t .2))
 
 returns-2 : tie.Need-returns-2
-unfolding storeCall headHeld headTables
+unfolding storeCall
 returns-2 c =
+    let pre = c .before .before .before .before .before .before .before .before .before .before .pre in
     let args = c .before .before .before .before .before .before .before .before .before .before .args in
     let held-in = c .before .before .before .before .before .before .before .before .held-in in
     let request-refusal = c .before .before .before .before .before .before .before .request-refusal in
@@ -43,8 +45,9 @@ returns-2 c =
     let depth = c .before .before .before .before .before .depth in
     let space-in = c .before .before .before .space-in in
     let store = c .before .before .store in
-    ap (servedBy (recordBy (args .head) (args .place .now))) (rw (depth .ensures, held-in .ensures, space-in .ensures) at (store .ensures))
-    ∙ taken (recordBy (args .head) (args .place .now)) (args .mem .now) (args .width) (addressOk false (configOf (recordBy (args .head) (args .place .now))) (args .address) (args .width)) _ (sym (if1 .left) ∙ request-refusal .ensures)
+    let mem = c .before .mem in
+    ap (servedBy (recordBy (args .head) (args .place .now) (args .ring .now) (args .order .now))) (rw (depth .ensures, held-in .ensures, space-in .ensures) at (store .ensures)) ∙ off-call (recordBy (args .head) (args .place .now) (args .ring .now) (args .order .now)) pre (args .mem .now) (args .address) (args .width) (args .value)
+    ∙ taken (recordBy (args .head) (args .place .now) (args .ring .now) (args .order .now)) (args .mem .now) (args .width) (addressOk false (configOf (recordBy (args .head) (args .place .now) (args .ring .now) (args .order .now))) (args .address) (args .width)) _ (sym (if1 .left) ∙ request-refusal .ensures)
 
 pub store-at-spec : {M : Type 1} → statement M
 store-at-spec =

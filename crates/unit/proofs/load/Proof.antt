@@ -1,4 +1,4 @@
--- The call in parts gets the record's own head and places; what it holds then goes back into the record. The line follows.
+-- The call in parts gets the record's own head and arrays; what it leaves goes back into the record. The line follows.
 use Rattle.calls.proofs.Laws.{promised}
 use borrow.Author.Needs.{needs}
 use Rattle.unit.proofs.load.Statement.{statement}
@@ -6,10 +6,17 @@ use Rattle.unit.proofs.load.Tie as tie
 
 returns : tie.Need-returns
 returns c =
-    let head = c .before .before .before .before .before .before .before .head in
+    let head = c .before .before .before .before .before .before .before .before .before .head in
     let load-at = c .before .before .before .load-at in
-    let served = c .served in
-    promised (rw (served .ensures) (rw (head .ensures) at (load-at .ensures)))
+    let windowed = c .windowed in
+    promised (rw (windowed .ensures) (rw (head .ensures) at (load-at .ensures)))
 
 pub load-spec : {M : Type 1} → statement M
-load-spec = tie.close (tie.spec (λ c κs. search needs) (λ c κs. search needs) (λ c κs. search needs) (λ c. search needs) returns)
+load-spec =
+    tie.close
+    (tie.spec
+    (λ c κs. search needs)
+    (λ c κs. search needs)
+    (λ c κs. search needs)
+    (λ c. search needs)
+    returns)

@@ -1,4 +1,4 @@
--- The call in parts on the record's own head and places; its head replaces the old one, and the line follows.
+-- The call in parts gets the record's own head and arrays; what it leaves goes back into the record. The line follows.
 use Rattle.calls.proofs.Laws.{promised}
 use borrow.Author.Needs.{needs}
 use Rattle.unit.proofs.unmap.Statement.{statement}
@@ -6,10 +6,17 @@ use Rattle.unit.proofs.unmap.Tie as tie
 
 returns : tie.Need-returns
 returns c =
-    let head = c .before .before .before .before .before .before .before .head in
+    let head = c .before .before .before .before .before .before .before .before .before .head in
     let unmap-at = c .before .before .before .unmap-at in
     let turned = c .turned in
     promised (rw (turned .ensures) (rw (head .ensures) at (unmap-at .ensures)))
 
 pub unmap-spec : {M : Type 1} → statement M
-unmap-spec = tie.close (tie.spec (λ c κs. search needs) (λ c κs. search needs) (λ c κs. search needs) (λ c. search needs) returns)
+unmap-spec =
+    tie.close
+    (tie.spec
+    (λ c κs. search needs)
+    (λ c κs. search needs)
+    (λ c κs. search needs)
+    (λ c. search needs)
+    returns)
