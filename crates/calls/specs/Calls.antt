@@ -23,7 +23,7 @@ use Rattle.host.specs.declared.Change.{Change}
 use Rattle.layout.specs.declared.HostWalk.{HostWalk}
 use Rattle.layout.specs.declared.HostWalk.the-variants as host
 use Rattle.host.specs.declared.Space.{Space}
-use Rattle.layout.specs.Layout.{LayoutFits}
+use Rattle.layout.specs.Layout.{LayoutFits, config}
 use Rattle.host.specs.Walk.{hostWalkOf}
 use Rattle.host.specs.Map.{mapOf, unmapOf}
 use Rattle.marks.specs.Table.{keys, lookupIn, number}
@@ -39,12 +39,12 @@ use Rattle.charge.specs.declared.Charge.the-variants as charge
 use Rattle.charge.specs.Charge.{chargedOf}
 use Rattle.automatic.specs.declared.Moved.{Moved}
 use Rattle.automatic.specs.Moves as automatic
-use Rattle.automatic.specs.Moves.{setOf, clearedOf}
+use Rattle.automatic.specs.Moves.{Move, setOf, clearedOf}
 use Rattle.walk.specs.declared.Walked.{Walked}
 use Rattle.walk.specs.declared.Walked.the-variants as walked
 use Rattle.record.specs.declared.Head.{Head}
 use Rattle.record.specs.declared.Record.{Record}
-use Rattle.record.specs.Record.{configOf, guestFrame, headOf, headRoot, headTables, headTally, withHead, fitsOf}
+use Rattle.record.specs.Record.{configOf, guestFrame, recordBy, headOf, headRoot, headTables, headTally, withHead, fitsOf}
 use Rattle.record.specs.Open.{openOf}
 use Rattle.translate.specs.declared.Held.{Held}
 use Rattle.request.specs.declared.Served.{Served}
@@ -52,13 +52,12 @@ use Rattle.translate.specs.declared.Translated.{Translated}
 use Rattle.translate.specs.Translate.{holding, translateOf}
 use Rattle.request.specs.declared.Put.{Put}
 use Rattle.request.specs.Access as access
-use Rattle.request.specs.Access.{Inside, settledOf, droppedOf, bytesIn, loadOf, storeFrom, deviceOf}
+use Rattle.request.specs.Access.{settledOf, droppedOf, bytesIn, loadOf, storeFrom, deviceOf}
 use Rattle.forecast.specs.Forecast.{forecastOf}
 use Rattle.calls.specs.declared.Reply.{Reply}
 use Rattle.calls.specs.declared.Turn.{Turn}
 use Rattle.calls.specs.declared.Owed.{Owed}
-use Rattle.calls.specs.declared.Stored.{Stored}
-use Rattle.calls.specs.declared.Stored.the-variants as stored
+use Rattle.calls.specs.declared.Remapped.{Remapped}
 
 -- ---- parts of a record
 
@@ -119,6 +118,20 @@ servedReply r s = record { unit = withHeld r (s .held); answer = s .answer }
 abbrev pub turnReply : Record → Turn → Reply
 turnReply r t = record { unit = withHead r (t .head); answer = t .answer }
 
+-- by the head that a call left, and the arrays
+abbrev pub turnIn : List ℕ → List ℕ → List ℕ → Turn → Reply
+turnIn place ring order t = record { unit = recordBy (t .head) place ring order; answer = t .answer }
+
+-- with the tables that a map or an unmap left
+abbrev pub headRemapped : Head → Remapped → Head
+headRemapped h x = headTables h (record { host = x .host; shadow = x .held .pool }) (x .held .frame)
+
+abbrev pub remapReply : Record → Remapped → Reply
+remapReply r x = record { unit = withHead r (headRemapped (headOf r) x); answer = x .answer }
+
+abbrev pub unmovedBy : Head → ℕ → Remapped
+unmovedBy h n = record { host = h .pools .host; held = heldIn h; answer = answer.Refused n }
+
 -- the tally of the automatic choice after a load or a store: it is in the window, unless it is refused
 abbrev pub tallyAfter : Answer → Tally → Tally
 tallyAfter answer.Ok t = requestedOf t
@@ -132,8 +145,11 @@ tallyAfter (answer.Figures r e n) t = requestedOf t
 abbrev pub headWindow : Head → Held → Tally → Head
 headWindow h x t = headTally (headHeld h x) t
 
+abbrev pub windowedTurn : Head → Served → Turn
+windowedTurn h s = record { head = headWindow h (s .held) (tallyAfter (s .answer) (h .tally)); answer = s .answer }
+
 abbrev pub windowedReply : Record → Served → Reply
-windowedReply r s = record { unit = withHead r (headWindow (headOf r) (s .held) (tallyAfter (s .answer) (r .guest .choice .tally))); answer = s .answer }
+windowedReply r s = turnReply r (windowedTurn (headOf r) s)
 
 -- a load or a store that was served, and charged to nobody
 abbrev pub windowedBy : Record → After Served → After Reply
@@ -205,7 +221,7 @@ unfoldable pub chargeAt : Record → Held → List ℕ → ℕ → ℕ → Charg
 chargeAt r h m t i = cond (eqb (r .guest .choice .tally .on) 0) charge.Nobody (chargedIn (configOf r) h m t i)
 
 -- after the charge of a store and the marks that it moved: its bits, then its bytes in host frame t. n references, e exits
-abbrev pub finishedBy : Record → ℕ → ℕ → ℕ → ℕ → ℕ → ℕ → (List ℕ → List ℕ) → After Moved → After Reply
+abbrev pub finishedBy : Record → ℕ → ℕ → ℕ → ℕ → ℕ → ℕ → (List ℕ → List ℕ) → After Move → After Reply
 finishedBy r a w v t n e set x =
     cond (x .result .ok) (ended (x .result .unit) (answer.Done n e) (bytesIn (set (x .memory)) t a w v)) (refused r 11 (x .memory))
 
@@ -221,9 +237,6 @@ unfoldable pub storeChargedOf : Record → List ℕ → ℕ → ℕ → ℕ → 
 storeChargedOf r m a w v x =
     paidBy r a w v (x .page .0) (x .reads) (x .exits) (settledOf (configOf r) (hostTop r) (rootOf r) true a (x .sets)) (x .held) (x .prefix)
     (droppedOf (configOf r) m (x .held .pool) (x .page .0) (wordOf a))
-
-abbrev pub servedPart : After Served → After Stored
-servedPart s = yields (stored.Served (s .result)) (s .memory)
 
 -- what is left to do of a store that came to a page, after n references, and is charged to p
 abbrev pub owing : Translated → HostPhysical → ℕ → ℕ → Owed
@@ -250,34 +263,17 @@ storeCall r m a w v =
 
 -- ---- a store in parts, with the choice on
 
--- so far, by what its translation came to: h, what was held when it came
-abbrev pub leftBy : Config → ℕ → ℕ → Held → ℕ → ℕ → ℕ → After Translated → HostPhysical → ℕ → Charge → After Stored
-leftBy c ht g h a w v o t n charge.Nobody = servedPart (storeFrom c ht g h a w v o)
-leftBy c ht g h a w v o t n (charge.To p) = yields (stored.Charged (owing (o .result) t n p)) (o .memory)
-leftBy c ht g h a w v o t n charge.Damaged = servedPart (access.refused h 11 (o .memory))
+-- the ranges of what is left to do of a store that is charged
+abbrev pub OwedFits : Config → Owed → Type 0
+OwedFits c x = (x .held .pool .fresh ≤ c .shadows) × (x .page .0 < frameLimit) × (x .exits ≤ 65536) × (x .prefix < 2 ^ (9 * (c .levels - 1)))
 
-abbrev pub partBy : Config → ℕ → ℕ → Held → ℕ → ℕ → ℕ → After Translated → Walked → After Stored
-partBy c ht g h a w v o (walked.Arrived t y n) = leftBy c ht g h a w v o t n (chargedIn c (o .result .held) (o .memory) (t .0) (wordOf a))
-partBy c ht g h a w v o (walked.Faulted x n) = servedPart (storeFrom c ht g h a w v o)
-partBy c ht g h a w v o walked.Damaged = servedPart (storeFrom c ht g h a w v o)
-
-unfoldable pub storedFrom : Config → ℕ → ℕ → Held → ℕ → ℕ → ℕ → After Translated → After Stored
-storedFrom c ht g h a w v o = partBy c ht g h a w v o (o .result .walked)
-
--- the ranges of what is left to do
-abbrev pub OwedFits : Config → Stored → Type 0
-OwedFits c (stored.Served s) = Unit {0}
-OwedFits c (stored.Charged x) = (x .held .pool .fresh ≤ c .shadows) × (x .page .0 < frameLimit) × (x .exits ≤ 65536) × (x .prefix < 2 ^ (9 * (c .levels - 1)))
-
--- and of the record and the address that it is done with
-abbrev pub OwedIn : Record → ℕ → ℕ → Stored → Type 0
-OwedIn r a w (stored.Served s) = Unit {0}
-OwedIn r a w (stored.Charged x) = automatic.Ready r × Inside a w × OwedFits (configOf r) (stored.Charged x)
-
--- what it left
-abbrev pub storedLeft : Record → ℕ → ℕ → ℕ → Stored → List ℕ → After Reply
-storedLeft r a w v (stored.Served s) m = windowedBy r (yields s m)
-storedLeft r a w v (stored.Charged x) m = storeChargedOf r m a w v x
+-- after the charge and the marks that it moved, with the head that they left
+abbrev pub settledTurn : Head → ℕ → ℕ → ℕ → Owed → ℕ → After Moved → After Turn
+settledTurn h a w v x e o =
+    let set : List ℕ → List ℕ = settledOf (config (h .layout)) (h .pools .host .top) (h .root .0) true a (x .sets) in
+    cond (o .result .ok)
+    (yields (record { head = o .result .head; answer = answer.Done (x .reads) e }) (bytesIn (set (o .memory)) (x .page .0) a w v))
+    (yields (record { head = h; answer = answer.Refused 11 }) (o .memory))
 
 unfoldable pub deviceCall : Record → List ℕ → ℕ → ℕ → ℕ → After Reply
 deviceCall r m a w v = placed r m w (addressOk true (configOf r) a w) (servedBy r (deviceOf (configOf r) (hostTop r) m (heldOf r) a w v))
@@ -330,13 +326,13 @@ markRefusal b r a n =
     number (cond b (setRefusal (r .layout .levels) (r .guest .choice .tally) (r .guest .choice .order) (r .guest .marks) a n)
     (clearRefusal (r .layout .levels) (r .guest .choice .tally) (r .guest .choice .order) (r .guest .marks) a n))
 
-abbrev pub movedReply : Record → Moved → Reply
+abbrev pub movedReply : Record → Move → Reply
 movedReply r x = cond (x .ok) (record { unit = x .unit; answer = answer.Ok }) (record { unit = r; answer = answer.Refused 11 })
 
-abbrev pub movedBy : Record → After Moved → After Reply
+abbrev pub movedBy : Record → After Move → After Reply
 movedBy r x = yields (movedReply r (x .result)) (x .memory)
 
-abbrev pub markMoves : Bool → Record → List ℕ → ℕ → ℕ → After Moved
+abbrev pub markMoves : Bool → Record → List ℕ → ℕ → ℕ → After Move
 markMoves b r m a n = cond b (setOf r m a n) (clearedOf r m a n)
 
 abbrev pub markCall : Bool → Record → List ℕ → ℕ → ℕ → After Reply

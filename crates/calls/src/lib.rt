@@ -1,21 +1,21 @@
-// The calls that change no mark, on a record in parts: its head by value and the places of its marks lent, so that a request copies no
-// array. Each tests the record first (3); what comes back is what the call can change.
+// The calls on a record in parts: its head by value and its arrays lent, so that no call copies an array. Each is told whether the record
+// breaks no rule (3); what comes back is what the call can change of the head.
 ghost use mathlib.Core.Path.{_≡_};
-ghost use Prim.Native.Nat.{_<_, _≤_};
+ghost use Prim.Native.Nat.{ℕ, _<_, _≤_};
+ghost use mathlib.Core.List.{List};
+ghost use lib.ListN.{length};
 ghost use lib.Dec.{T};
 ghost use Rattle.spec.specs.Bytes.{widthFits};
 ghost use Rattle.words.specs.After.{yields};
 ghost use Rattle.entry.specs.Levels.{ofLevels};
-ghost use Rattle.marks.specs.Table.{number};
-ghost use Rattle.record.specs.Record.{recordBy, configOf, fitsOf};
+ghost use Rattle.record.specs.Record.{recordBy, fitsOf};
 ghost use Rattle.layout.specs.Layout.{LayoutFits, config};
 ghost use Rattle.spec.specs.Entry.{frameLimit};
-ghost use Rattle.request.specs.Access.{Inside, ReachesFrame, settledOf};
+ghost use Rattle.request.specs.Access.{Inside, ReachesFrame};
 ghost use mathlib.Core.Bool.{true};
-ghost use Rattle.automatic.specs.Moves.{Ready};
+ghost use Rattle.automatic.specs.Moves.{Ready, movedIn, keptBy};
 ghost use mathlib.Core.Logic.{_≢_};
-ghost use Rattle.calls.specs.Calls.{refusalBy, addressOk, Sound, nothing, headHeld, headHost, heldIn, spaceIn, servedReply, windowedReply, tallyAfter, turnReply, loadCall, chargedIn, OwedFits, OwedIn, storedFrom, storedLeft, hostTop, rootOf, finishedBy, paidBy, storeChargedOf, storeCall, deviceCall, rootCall, unmappedOf, changedBy, mapCall, unmapCall, ended, forecastCall};
-ghost use Rattle.calls.specs.declared.Stored.the-variants as stored;
+ghost use Rattle.calls.specs.Calls.{refusalBy, addressOk, Sound, nothing, headHeld, headHost, heldIn, spaceIn, servedReply, windowedReply, windowedTurn, tallyAfter, turnReply, turnIn, loadCall, chargedIn, OwedFits, settledTurn, storedBy, storeChargedOf, storeCall, deviceCall, rootCall, unmappedOf, changedBy, mapCall, unmapCall, ended, forecastCall, markRefusal, markMoves, markCall};
 use automatic::Moved;
 use charge::Charge;
 use choice::Tally;
@@ -30,7 +30,6 @@ use pool::Pool;
 use record::Head;
 use record::Pools;
 use record::Record;
-use request::Put;
 use request::Served;
 use spec::Answer;
 use translate::Held;
@@ -54,15 +53,16 @@ pub struct Owed {
     pub prefix: u64,
 }
 
-// A store with the automatic choice on: served, and charged to nobody, or not served yet.
-pub enum Stored {
-    Served(Served),
-    Charged(Owed),
-}
-
 // What a call in parts hands back that may change more than what is held.
 pub struct Turn {
     pub head: Head,
+    pub answer: Answer,
+}
+
+// What a map or an unmap hands back: the host tables, what is held, and the answer.
+pub struct Remapped {
+    pub host: Pool,
+    pub held: Held,
     pub answer: Answer,
 }
 
@@ -132,16 +132,6 @@ fn held_none() -> Held
     }
 }
 
-// A refusal: its number, with the record given.
-pub fn refused(unit: Record, number: u64) -> Reply
-    ensures { λ r. ⌜ r ≡ record { unit = unit; answer = Answer.Refused number } ⌝ }
-{
-    Reply {
-        unit: unit,
-        answer: Answer::Refused(number),
-    }
-}
-
 // A refusal: its number, with the head given.
 fn refused_in(head: Head, number: u64) -> Turn
     ensures { λ r. ⌜ r ≡ record { head = head; answer = Answer.Refused number } ⌝ }
@@ -169,26 +159,18 @@ fn address_ok(levels: u64, device: bool, address: u64, width: u64) -> bool
     }
 }
 
-// Why a load or a store, or a device's, is refused before it is served: 3, 15, 4, or 0.
-fn request_refusal<'a>(
-    head: Head,
-    place: &'a [u64; 64],
-    ring: &'a [u64; 64],
-    order: &'a [u64; 64],
-    len: usize,
-    device: bool,
-    address: u64,
-    width: u64,
-) -> u64
-    ensures { λ r. ⌜ r ≡ refusalBy (fitsOf (recordBy head (now (place .entry)) (now (ring .entry)) (now (order .entry))) len) (widthFits width) (addressOk device (configOf (recordBy head (now (place .entry)) (now (ring .entry)) (now (order .entry)))) address width) ⌝ }
+// Why a load or a store, or a device's, is refused before it is served: 3, 15, 4, or 0. fits: the record breaks no rule.
+fn request_refusal(fits: bool, levels: u64, device: bool, address: u64, width: u64) -> u64
+    requires { ⌜ fits ≡ true → levels < 6 ⌝ }
+    ensures { λ r. ⌜ r ≡ refusalBy fits (widthFits width) (addressOk device (ofLevels levels) address width) ⌝ }
 {
-    if !head.fits(place, ring, order, len) {
+    if !fits {
         return 3;
     }
     if !entry::width_fits(width) {
         return 15;
     }
-    if !address_ok(head.layout.levels, device, address, width) {
+    if !address_ok(levels, device, address, width) {
         return 4;
     }
     0
@@ -197,6 +179,7 @@ fn request_refusal<'a>(
 // Loads so many bytes: 3, 15, 4, 11.
 pub fn load_at<'a>(
     head: Head,
+    fits: bool,
     place: &'a [u64; 64],
     ring: &'a [u64; 64],
     order: &'a [u64; 64],
@@ -204,10 +187,11 @@ pub fn load_at<'a>(
     address: u64,
     width: u64,
 ) -> Served
+    requires { ⌜ fits ≡ fitsOf (recordBy head (now place) (now ring) (now order)) (length (now mem)) ⌝ }
     ensures { λ r. ⌜ yields (windowedReply (recordBy head (now (place .entry)) (now (ring .entry)) (now (order .entry))) r) (now (mem .exit)) ≡ loadCall (recordBy head (now (place .entry)) (now (ring .entry)) (now (order .entry))) (now (mem .entry)) address width ⌝ }
 {
     let held = held_in(head);
-    let refusal = request_refusal(head, place, ring, order, mem.len(), false, address, width);
+    let refusal = request_refusal(fits, head.layout.levels, false, address, width);
     if refusal != 0 {
         return request::refused(held, refusal);
     }
@@ -246,6 +230,7 @@ pub fn tally_after(tally: Tally, answer: Answer) -> Tally
 // 15, 4, 11.
 pub fn store_at<'a>(
     head: Head,
+    fits: bool,
     place: &'a [u64; 64],
     ring: &'a [u64; 64],
     order: &'a [u64; 64],
@@ -254,11 +239,11 @@ pub fn store_at<'a>(
     width: u64,
     value: u64,
 ) -> Served
-    requires { ⌜ head .tally .on ≡ 0 ⌝ }
+    requires { ⌜ (fits ≡ fitsOf (recordBy head (now place) (now ring) (now order)) (length (now mem))) × (head .tally .on ≡ 0) ⌝ }
     ensures { λ r. ⌜ yields (servedReply (recordBy head (now (place .entry)) (now (ring .entry)) (now (order .entry))) r) (now (mem .exit)) ≡ storeCall (recordBy head (now (place .entry)) (now (ring .entry)) (now (order .entry))) (now (mem .entry)) address width value ⌝ }
 {
     let held = held_in(head);
-    let refusal = request_refusal(head, place, ring, order, mem.len(), false, address, width);
+    let refusal = request_refusal(fits, head.layout.levels, false, address, width);
     if refusal != 0 {
         return request::refused(held, refusal);
     }
@@ -280,19 +265,105 @@ fn charge_at(mem: &[u64], layout: Layout, held: Held, page: HostPhysical, word: 
     charge::charged(mem, layout, held.pool.fresh, page, word)
 }
 
-// A store that was translated: charged to a prefix, or served.
-fn store_from(
+// What a call leaves that was served and is charged to nobody: it is in the window.
+fn windowed(head: Head, s: Served) -> Turn
+    ensures { λ r. ⌜ r ≡ windowedTurn head s ⌝ }
+{
+    let held = s.held;
+    let answer = s.answer;
+    Turn {
+        head: with_held(head, held).with_tally(tally_after(head.tally, answer)),
+        answer: answer,
+    }
+}
+
+// The last of a store that is charged, after its drops and the marks that it moved: its bits and its bytes.
+fn store_settled(
+    head: Head,
+    moved: Moved,
     mem: &mut [u64],
-    space: Space,
-    root: GuestPhysical,
-    before: Held,
+    address: u64,
+    width: u64,
+    value: u64,
+    owed: Owed,
+    exits: u64,
+) -> Turn
+    requires { ⌜ (LayoutFits (head .layout)) × (owed .page .0 < frameLimit) × (Inside address width) ⌝ }
+    ensures { λ r. ⌜ yields r (now (mem .exit)) ≡ settledTurn head address width value owed exits (yields moved (now (mem .entry))) ⌝ }
+{
+    let page = owed.page;
+    let next = moved.head;
+    if !moved.ok {
+        return refused_in(head, 11);
+    }
+    request::settle_own(
+        mem,
+        space_in(head),
+        head.root,
+        GuestVirtual(address),
+        owed.sets,
+    );
+    request::put_bytes(mem, page, address, width, value);
+    Turn {
+        head: next,
+        answer: Answer::Done {
+            references: owed.reads,
+            exits: exits,
+        },
+    }
+}
+
+// A store that is charged, from where it came to its page: its own drops, the charge with the marks that it moves, its bits, its
+// bytes: 11. No guest word is changed before the last drop.
+fn store_charged(
+    head: Head,
+    place: &mut [u64; 64],
+    ring: &mut [u64; 64],
+    order: &mut [u64; 64],
+    mem: &mut [u64],
+    address: u64,
+    width: u64,
+    value: u64,
+    owed: Owed,
+) -> Turn
+    requires { ⌜ (Ready (recordBy head (now place) (now ring) (now order))) × (Inside address width) × (OwedFits (config (head .layout)) owed) ⌝ }
+    ensures { λ r. ⌜ yields (turnIn (now (place .exit)) (now (ring .exit)) (now (order .exit)) r) (now (mem .exit)) ≡ storeChargedOf (recordBy head (now (place .entry)) (now (ring .entry)) (now (order .entry))) (now (mem .entry)) address width value owed ⌝ }
+{
+    let held = owed.held;
+    let pool = held.pool;
+    let page = owed.page;
+    let put = request::drop_readers(mem, head.layout, pool, page, address);
+    let left = put.pool;
+    if !put.ok {
+        return refused_in(head, 11);
+    }
+    let frame = held.frame;
+    let moved = automatic::charge(
+        automatic::with_shadow(head, left, frame),
+        place,
+        ring,
+        order,
+        mem,
+        owed.prefix,
+    );
+    let exits = owed.exits + put.exits;
+    store_settled(head, moved, mem, address, width, value, owed, exits)
+}
+
+// A store that was translated, by what it is charged to.
+fn store_from(
+    head: Head,
+    place: &mut [u64; 64],
+    ring: &mut [u64; 64],
+    order: &mut [u64; 64],
+    mem: &mut [u64],
     t: Translated,
     address: GuestVirtual,
     width: u64,
     value: u64,
-) -> Stored
-    requires { ⌜ (LayoutFits (space .layout)) × (t .held .pool .fresh ≤ space .layout .shadows) × (ReachesFrame (t .walked)) × (Inside (address .0) width) × (t .exits ≤ 65536) ⌝ }
-    ensures { λ r. ⌜ (yields r (now (mem .exit)) ≡ storedFrom (config (space .layout)) (space .top) (root .0) before (address .0) width value (yields t (now (mem .entry)))) × (OwedFits (config (space .layout)) r) ⌝ }
+) -> Turn
+    requires { ⌜ (Ready (recordBy head (now place) (now ring) (now order))) × (head .tally .on ≢ 0) × (t .held .pool .fresh ≤ head .layout .shadows) × (ReachesFrame (t .walked)) × (Inside (address .0) width) × (t .exits ≤ 65536) ⌝ }
+    ensures { λ r. ⌜ yields (turnIn (now (place .exit)) (now (ring .exit)) (now (order .exit)) r) (now (mem .exit)) ≡ storedBy (recordBy head (now (place .entry)) (now (ring .entry)) (now (order .entry))) (address .0) width value (yields t (now (mem .entry))) (t .walked) ⌝ }
 {
     let walked = t.walked;
     let held = t.held;
@@ -301,155 +372,82 @@ fn store_from(
             page,
             writable,
             reads,
-        } => match charge_at(mem, space.layout, held, page, request::word_of(address.0)) {
-            Charge::Nobody => Stored::Served(request::stored_by_bits(
+        } => match charge_at(mem, head.layout, held, page, request::word_of(address.0)) {
+            Charge::Nobody => windowed(
+                head,
+                request::stored_by_bits(
+                    mem,
+                    space_in(head),
+                    head.root,
+                    held_in(head),
+                    t,
+                    address,
+                    width,
+                    value,
+                ),
+            ),
+            Charge::To(prefix) => store_charged(
+                head,
+                place,
+                ring,
+                order,
                 mem,
-                space,
-                root,
-                before,
-                t,
-                address,
+                address.0,
                 width,
                 value,
-            )),
-            Charge::To(prefix) => Stored::Charged(Owed {
-                held: held,
-                page: page,
-                reads: reads,
-                exits: t.exits,
-                sets: t.sets,
-                prefix: prefix,
-            }),
-            Charge::Damaged => Stored::Served(request::refused(before, 11)),
+                Owed {
+                    held: held,
+                    page: page,
+                    reads: reads,
+                    exits: t.exits,
+                    sets: t.sets,
+                    prefix: prefix,
+                },
+            ),
+            Charge::Damaged => refused_in(head, 11),
         },
-        Walked::Faulted { fault, reads } => Stored::Served(request::stored_by_bits(
-            mem,
-            space,
-            root,
-            before,
-            t,
-            address,
-            width,
-            value,
-        )),
-        Walked::Damaged => Stored::Served(request::refused(before, 11)),
+        Walked::Faulted { fault, reads } => windowed(
+            head,
+            Served {
+                held: held,
+                answer: Answer::Faulted {
+                    fault: fault,
+                    references: reads,
+                    exits: t.exits,
+                },
+            },
+        ),
+        Walked::Damaged => refused_in(head, 11),
     }
 }
 
-// A store with the automatic choice on, up to where it is charged: 3, 15, 4, 11.
-pub fn store_on<'a>(
+// A store with the automatic choice on: 3, 15, 4, 11.
+pub fn store_on(
     head: Head,
-    place: &'a [u64; 64],
-    ring: &'a [u64; 64],
-    order: &'a [u64; 64],
+    fits: bool,
+    place: &mut [u64; 64],
+    ring: &mut [u64; 64],
+    order: &mut [u64; 64],
     mem: &mut [u64],
     address: u64,
     width: u64,
     value: u64,
-) -> Stored
-    requires { ⌜ head .tally .on ≢ 0 ⌝ }
-    ensures { λ r. ⌜ (storedLeft (recordBy head (now (place .entry)) (now (ring .entry)) (now (order .entry))) address width value r (now (mem .exit)) ≡ storeCall (recordBy head (now (place .entry)) (now (ring .entry)) (now (order .entry))) (now (mem .entry)) address width value) × (OwedIn (recordBy head (now (place .entry)) (now (ring .entry)) (now (order .entry))) address width r) ⌝ }
+) -> Turn
+    requires { ⌜ (fits ≡ fitsOf (recordBy head (now place) (now ring) (now order)) (length (now mem))) × (head .tally .on ≢ 0) ⌝ }
+    ensures { λ r. ⌜ yields (turnIn (now (place .exit)) (now (ring .exit)) (now (order .exit)) r) (now (mem .exit)) ≡ storeCall (recordBy head (now (place .entry)) (now (ring .entry)) (now (order .entry))) (now (mem .entry)) address width value ⌝ }
 {
-    let held = held_in(head);
-    let refusal = request_refusal(head, place, ring, order, mem.len(), false, address, width);
+    let refusal = request_refusal(fits, head.layout.levels, false, address, width);
     if refusal != 0 {
-        return Stored::Served(request::refused(held, refusal));
+        return refused_in(head, refusal);
     }
     let at = GuestVirtual(address);
-    let d = depth::depth(place, head.set, head.layout.levels, at);
     let request = Request {
         store: true,
         address: at,
-        depth: d,
+        depth: depth::depth(place, head.set, head.layout.levels, at),
     };
-    let t = request::reached(mem, space_in(head), head.root, held, request);
-    store_from(mem, space_in(head), head.root, held, t, at, width, value)
-}
-
-// The last of a store that is charged, after the marks that it moved: its bits and its bytes.
-fn charged_written(
-    unit: Record,
-    moved: Moved,
-    mem: &mut [u64],
-    address: u64,
-    width: u64,
-    value: u64,
-    owed: Owed,
-    exits: u64,
-) -> Reply
-    requires { ⌜ (LayoutFits (unit .layout)) × (owed .page .0 < frameLimit) × (Inside address width) ⌝ }
-    ensures { λ r. ⌜ yields r (now (mem .exit)) ≡ finishedBy unit address width value (owed .page .0) (owed .reads) exits (settledOf (configOf unit) (hostTop unit) (rootOf unit) true address (owed .sets)) (yields moved (now (mem .entry))) ⌝ }
-{
-    let layout = unit.layout;
-    let root = unit.guest.root;
-    let top = unit.pools.host.top;
-    let page = owed.page;
-    let after = moved.unit;
-    if !moved.ok {
-        return refused(unit, 11);
-    }
-    request::settle_own(
-        mem,
-        Space {
-            layout: layout,
-            top: top,
-        },
-        root,
-        GuestVirtual(address),
-        owed.sets,
-    );
-    request::put_bytes(mem, page, address, width, value);
-    Reply {
-        unit: after,
-        answer: Answer::Done {
-            references: owed.reads,
-            exits: exits,
-        },
-    }
-}
-
-// A store that is charged, after its own drops, which left that: the charge with the marks that it moves, then the rest.
-fn charged_paid(
-    unit: Record,
-    put: Put,
-    mem: &mut [u64],
-    address: u64,
-    width: u64,
-    value: u64,
-    owed: Owed,
-) -> Reply
-    requires { ⌜ (Ready unit) × (Inside address width) × (OwedFits (configOf unit) (stored.Charged owed)) × (put .pool .fresh ≤ unit .layout .shadows) × (put .exits ≤ 1) ⌝ }
-    ensures { λ r. ⌜ yields r (now (mem .exit)) ≡ paidBy unit address width value (owed .page .0) (owed .reads) (owed .exits) (settledOf (configOf unit) (hostTop unit) (rootOf unit) true address (owed .sets)) (owed .held) (owed .prefix) (yields put (now (mem .entry))) ⌝ }
-{
-    let pool = put.pool;
-    let held = owed.held;
-    let frame = held.frame;
-    if !put.ok {
-        return refused(unit, 11);
-    }
-    let next = automatic::with_shadow(unit, pool, frame);
-    let moved = automatic::charge(next, mem, owed.prefix);
-    let exits = owed.exits + put.exits;
-    charged_written(unit, moved, mem, address, width, value, owed, exits)
-}
-
-// The rest of a store that is charged: its own drops, the charge, its bits, its bytes: 11.
-pub fn store_charged(
-    unit: Record,
-    mem: &mut [u64],
-    address: u64,
-    width: u64,
-    value: u64,
-    owed: Owed,
-) -> Reply
-    requires { ⌜ (Ready unit) × (Inside address width) × (OwedFits (configOf unit) (stored.Charged owed)) ⌝ }
-    ensures { λ r. ⌜ yields r (now (mem .exit)) ≡ storeChargedOf unit (now (mem .entry)) address width value owed ⌝ }
-{
-    let held = owed.held;
-    let pool = held.pool;
-    let page = owed.page;
-    let put = request::drop_readers(mem, unit.layout, pool, page, address);
-    charged_paid(unit, put, mem, address, width, value, owed)
+    let t = request::reached(mem, space_in(head), head.root, held_in(head), request);
+    store_from(head, place, ring, order, mem, t, at, width, value)
 }
 
 // ---- device stores
@@ -457,6 +455,7 @@ pub fn store_charged(
 // A device stores at a guest-physical address, and drops as a store does: 3, 15, 4, 11.
 pub fn device_store_at<'a>(
     head: Head,
+    fits: bool,
     place: &'a [u64; 64],
     ring: &'a [u64; 64],
     order: &'a [u64; 64],
@@ -465,10 +464,11 @@ pub fn device_store_at<'a>(
     width: u64,
     value: u64,
 ) -> Served
+    requires { ⌜ fits ≡ fitsOf (recordBy head (now place) (now ring) (now order)) (length (now mem)) ⌝ }
     ensures { λ r. ⌜ yields (servedReply (recordBy head (now (place .entry)) (now (ring .entry)) (now (order .entry))) r) (now (mem .exit)) ≡ deviceCall (recordBy head (now (place .entry)) (now (ring .entry)) (now (order .entry))) (now (mem .entry)) address width value ⌝ }
 {
     let held = held_in(head);
-    let refusal = request_refusal(head, place, ring, order, mem.len(), true, address, width);
+    let refusal = request_refusal(fits, head.layout.levels, true, address, width);
     if refusal != 0 {
         return request::refused(held, refusal);
     }
@@ -480,15 +480,17 @@ pub fn device_store_at<'a>(
 // What loading these addresses one after the other would cost: 3, 16, 14, 11. Nothing is changed, so that record and memory are only lent.
 pub fn forecast_at<'a>(
     head: Head,
+    fits: bool,
     place: &'a [u64; 64],
     ring: &'a [u64; 64],
     order: &'a [u64; 64],
     mem: &[u64],
     addresses: &[u64],
 ) -> Answer
+    requires { ⌜ fits ≡ fitsOf (recordBy head (now place) (now ring) (now order)) (length (now mem)) ⌝ }
     ensures { λ r. ⌜ ended (recordBy head (now (place .entry)) (now (ring .entry)) (now (order .entry))) r (now (mem .entry)) ≡ forecastCall (recordBy head (now (place .entry)) (now (ring .entry)) (now (order .entry))) (now (mem .entry)) (now (addresses .entry)) ⌝ }
 {
-    if !head.fits(place, ring, order, mem.len()) {
+    if !fits {
         return Answer::Refused(3);
     }
     if head.layout.bits != 0 {
@@ -513,17 +515,19 @@ pub fn forecast_at<'a>(
 // Another root; all held paths are dropped, and the window is emptied: 3, 8.
 pub fn root_at<'a>(
     head: Head,
+    fits: bool,
     place: &'a [u64; 64],
     ring: &'a [u64; 64],
     order: &'a [u64; 64],
     mem: &[u64],
     guest: u64,
 ) -> Turn
+    requires { ⌜ fits ≡ fitsOf (recordBy head (now place) (now ring) (now order)) (length (now mem)) ⌝ }
     ensures { λ r. ⌜ yields (turnReply (recordBy head (now (place .entry)) (now (ring .entry)) (now (order .entry))) r) (now (mem .entry)) ≡ rootCall (recordBy head (now (place .entry)) (now (ring .entry)) (now (order .entry))) (now (mem .entry)) guest ⌝ }
 {
     let root = GuestPhysical(guest);
     let tally = head.tally;
-    if !head.fits(place, ring, order, mem.len()) {
+    if !fits {
         return refused_in(head, 3);
     }
     if !layout::frame_fits(head.layout, root) {
@@ -537,6 +541,18 @@ pub fn root_at<'a>(
     }
 }
 
+// A refusal: its number, with the tables as they were.
+fn unmoved(head: Head, number: u64) -> Remapped
+    ensures { λ r. ⌜ r ≡ unmovedBy head number ⌝ }
+{
+    let host = head.pools.host;
+    Remapped {
+        host: host,
+        held: held_in(head),
+        answer: Answer::Refused(number),
+    }
+}
+
 // After a change of the mapping of a guest frame that left this pool of the host tables: the held paths that used it are dropped.
 fn remapped<'a>(
     head: Head,
@@ -546,14 +562,14 @@ fn remapped<'a>(
     host: Pool,
     mem: &mut [u64],
     guest: GuestPhysical,
-) -> Turn
+) -> Remapped
     requires { ⌜ Sound (recordBy head (now place) (now ring) (now order)) ⌝ }
-    ensures { λ r. ⌜ yields (turnReply (recordBy head (now (place .entry)) (now (ring .entry)) (now (order .entry))) r) (now (mem .exit)) ≡ unmappedOf (recordBy head (now (place .entry)) (now (ring .entry)) (now (order .entry))) host (now (mem .entry)) (guest .0) ⌝ }
+    ensures { λ r. ⌜ yields (remapReply (recordBy head (now (place .entry)) (now (ring .entry)) (now (order .entry))) r) (now (mem .exit)) ≡ unmappedOf (recordBy head (now (place .entry)) (now (ring .entry)) (now (order .entry))) host (now (mem .entry)) (guest .0) ⌝ }
 {
-    let next = with_host(head, host);
     if guest.0 == head.root.0 {
-        return Turn {
-            head: with_held(next, held_none()),
+        return Remapped {
+            host: host,
+            held: held_none(),
             answer: Answer::Ok,
         };
     }
@@ -561,16 +577,14 @@ fn remapped<'a>(
     let pool = left.pool;
     let frame = head.held;
     if !left.ok {
-        return refused_in(head, 11);
+        return unmoved(head, 11);
     }
-    Turn {
-        head: with_held(
-            next,
-            Held {
-                pool: pool,
-                frame: frame,
-            },
-        ),
+    Remapped {
+        host: host,
+        held: Held {
+            pool: pool,
+            frame: frame,
+        },
         answer: Answer::Ok,
     }
 }
@@ -585,27 +599,29 @@ fn changed<'a>(
     mem: &mut [u64],
     guest: GuestPhysical,
     was: HostWalk,
-) -> Turn
+) -> Remapped
     requires { ⌜ Sound (recordBy head (now place) (now ring) (now order)) ⌝ }
-    ensures { λ r. ⌜ yields (turnReply (recordBy head (now (place .entry)) (now (ring .entry)) (now (order .entry))) r) (now (mem .exit)) ≡ changedBy (recordBy head (now (place .entry)) (now (ring .entry)) (now (order .entry))) (guest .0) was (yields change (now (mem .entry))) ⌝ }
+    ensures { λ r. ⌜ yields (remapReply (recordBy head (now (place .entry)) (now (ring .entry)) (now (order .entry))) r) (now (mem .exit)) ≡ changedBy (recordBy head (now (place .entry)) (now (ring .entry)) (now (order .entry))) (guest .0) was (yields change (now (mem .entry))) ⌝ }
 {
     let host = change.pool;
     if change.refusal != 0 {
-        return refused_in(head, change.refusal);
+        return unmoved(head, change.refusal);
     }
     match was {
         HostWalk::Found { page, writable } => remapped(head, place, ring, order, host, mem, guest),
-        HostWalk::Absent { reads } => Turn {
-            head: with_host(head, host),
+        HostWalk::Absent { reads } => Remapped {
+            host: host,
+            held: held_in(head),
             answer: Answer::Ok,
         },
-        HostWalk::Damaged => refused_in(head, 11),
+        HostWalk::Damaged => unmoved(head, 11),
     }
 }
 
 // Maps a guest frame to a host frame, or maps it anew: 3, 8, 9, 10, 11.
 pub fn map_at<'a>(
     head: Head,
+    fits: bool,
     place: &'a [u64; 64],
     ring: &'a [u64; 64],
     order: &'a [u64; 64],
@@ -613,12 +629,13 @@ pub fn map_at<'a>(
     number: u64,
     frame: u64,
     writable: bool,
-) -> Turn
-    ensures { λ r. ⌜ yields (turnReply (recordBy head (now (place .entry)) (now (ring .entry)) (now (order .entry))) r) (now (mem .exit)) ≡ mapCall (recordBy head (now (place .entry)) (now (ring .entry)) (now (order .entry))) (now (mem .entry)) number frame writable ⌝ }
+) -> Remapped
+    requires { ⌜ fits ≡ fitsOf (recordBy head (now place) (now ring) (now order)) (length (now mem)) ⌝ }
+    ensures { λ r. ⌜ yields (remapReply (recordBy head (now (place .entry)) (now (ring .entry)) (now (order .entry))) r) (now (mem .exit)) ≡ mapCall (recordBy head (now (place .entry)) (now (ring .entry)) (now (order .entry))) (now (mem .entry)) number frame writable ⌝ }
 {
     let guest = GuestPhysical(number);
-    if !head.fits(place, ring, order, mem.len()) {
-        return refused_in(head, 3);
+    if !fits {
+        return unmoved(head, 3);
     }
     let was = host::host_walk(mem, space_in(head), guest);
     let change = host::map(
@@ -635,19 +652,97 @@ pub fn map_at<'a>(
 // Unmaps a guest frame: 3, 8, 12, 11.
 pub fn unmap_at<'a>(
     head: Head,
+    fits: bool,
     place: &'a [u64; 64],
     ring: &'a [u64; 64],
     order: &'a [u64; 64],
     mem: &mut [u64],
     number: u64,
-) -> Turn
-    ensures { λ r. ⌜ yields (turnReply (recordBy head (now (place .entry)) (now (ring .entry)) (now (order .entry))) r) (now (mem .exit)) ≡ unmapCall (recordBy head (now (place .entry)) (now (ring .entry)) (now (order .entry))) (now (mem .entry)) number ⌝ }
+) -> Remapped
+    requires { ⌜ fits ≡ fitsOf (recordBy head (now place) (now ring) (now order)) (length (now mem)) ⌝ }
+    ensures { λ r. ⌜ yields (remapReply (recordBy head (now (place .entry)) (now (ring .entry)) (now (order .entry))) r) (now (mem .exit)) ≡ unmapCall (recordBy head (now (place .entry)) (now (ring .entry)) (now (order .entry))) (now (mem .entry)) number ⌝ }
 {
     let guest = GuestPhysical(number);
-    if !head.fits(place, ring, order, mem.len()) {
-        return refused_in(head, 3);
+    if !fits {
+        return unmoved(head, 3);
     }
     let was = host::host_walk(mem, space_in(head), guest);
     let change = host::unmap(mem, head.layout, head.pools.host, guest);
     changed(head, place, ring, order, change, mem, guest, was)
+}
+
+// ---- marks
+
+// Why a mark is not set, or one is not cleared: its number, or 0.
+fn mark_refusal<'a>(
+    head: Head,
+    place: &'a [u64; 64],
+    order: &'a [u64; 64],
+    at: GuestVirtual,
+    level: u64,
+    setting: bool,
+) -> u64
+    requires { ⌜ (head .layout .levels < 6) × (head .tally .count ≤ 64) ⌝ }
+    ensures { λ r. ⌜ (ring : List ℕ) → r ≡ markRefusal setting (recordBy head (now (place .entry)) ring (now (order .entry))) (at .0) level ⌝ }
+{
+    if setting {
+        choice::set_refusal(head.tally, order, place, head.set, head.layout.levels, at, level)
+    } else {
+        choice::clear_refusal(head.tally, order, place, head.set, head.layout.levels, at, level)
+    }
+}
+
+// The mark is set, or cleared.
+fn mark_moves(
+    head: Head,
+    place: &mut [u64; 64],
+    ring: &[u64; 64],
+    order: &mut [u64; 64],
+    mem: &mut [u64],
+    at: GuestVirtual,
+    level: u64,
+    setting: bool,
+) -> Moved
+    requires { ⌜ (Ready (recordBy head (now place) (now ring) (now order))) × (level < 8) ⌝ }
+    ensures { λ r. ⌜ yields (movedIn (now (place .exit)) (now (ring .entry)) (now (order .exit)) r) (now (mem .exit)) ≡ keptBy (recordBy head (now (place .entry)) (now (ring .entry)) (now (order .entry))) (markMoves setting (recordBy head (now (place .entry)) (now (ring .entry)) (now (order .entry))) (now (mem .entry)) (at .0) level) ⌝ }
+{
+    if setting {
+        automatic::set(head, place, ring, order, mem, at, level)
+    } else {
+        automatic::clear(head, place, ring, order, mem, at, level)
+    }
+}
+
+// Sets a mark, or clears one: 3, 4, 5, 6, 7, 11.
+pub fn mark_at(
+    head: Head,
+    fits: bool,
+    place: &mut [u64; 64],
+    ring: &[u64; 64],
+    order: &mut [u64; 64],
+    mem: &mut [u64],
+    address: u64,
+    level: u64,
+    setting: bool,
+) -> Turn
+    requires { ⌜ fits ≡ fitsOf (recordBy head (now place) (now ring) (now order)) (length (now mem)) ⌝ }
+    ensures { λ r. ⌜ yields (turnIn (now (place .exit)) (now (ring .entry)) (now (order .exit)) r) (now (mem .exit)) ≡ markCall setting (recordBy head (now (place .entry)) (now (ring .entry)) (now (order .entry))) (now (mem .entry)) address level ⌝ }
+{
+    if !fits {
+        return refused_in(head, 3);
+    }
+    let at = GuestVirtual(address);
+    let refusal = mark_refusal(head, place, order, at, level, setting);
+    if refusal != 0 {
+        return refused_in(head, refusal);
+    }
+    let moved = mark_moves(head, place, ring, order, mem, at, level, setting);
+    let next = moved.head;
+    if !moved.ok {
+        return refused_in(head, 11);
+    }
+    Turn {
+        head: next,
+        answer: Answer::Ok,
+    }
 }

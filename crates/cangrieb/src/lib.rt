@@ -7,19 +7,8 @@ ghost use Rattle.words.specs.After.{yields};
 ghost use Rattle.calls.specs.Calls.{headHeld, openCall, loadCall, storeCall, deviceCall, rootCall, mapCall, unmapCall, setMarkCall, clearMarkCall, forecastCall};
 ghost use Rattle.cangrieb.specs.Flat.{headIn, headWords, headCharged, windowIn, recordIn, answerOf, flat, replyOf, leftOf, lookupOf, noMark, kindAt, chargesAt, markIn};
 use calls::Reply;
-use calls::Stored;
-use choice::Choice;
 use choice::Tally;
-use entry::GuestPhysical;
 use entry::GuestVirtual;
-use entry::HostPhysical;
-use layout::Layout;
-use marks::Marks;
-use pool::Pool;
-use record::Guest;
-use record::Head;
-use record::Pools;
-use record::Record;
 use spec::Answer;
 use spec::Lookup;
 use translate::Held;
@@ -47,108 +36,6 @@ pub struct FlatMark {
 }
 
 // ---- the record in numbers
-
-// The head that 20 words say.
-fn head_in(w: &[u64; 20]) -> Head
-    ensures { λ r. ⌜ r ≡ headIn (now (w .entry)) ⌝ }
-{
-    Head {
-        layout: Layout {
-            levels: w[0],
-            hosts: w[1],
-            shadows: w[2],
-            frames: w[3],
-            bits: w[4],
-        },
-        pools: Pools {
-            host: Pool {
-                fresh: w[5],
-                free: w[6],
-                used: w[7],
-                top: w[8],
-            },
-            shadow: Pool {
-                fresh: w[9],
-                free: w[10],
-                used: w[11],
-                top: w[12],
-            },
-        },
-        root: GuestPhysical(w[13]),
-        held: HostPhysical(w[14]),
-        set: w[15],
-        tally: Tally {
-            on: w[16],
-            charged: w[17],
-            at: w[18],
-            count: w[19],
-        },
-    }
-}
-
-// And back.
-fn head_words(h: Head) -> [u64; 20]
-    ensures { λ r. ⌜ r ≡ headWords h ⌝ }
-{
-    let l = h.layout;
-    let host = h.pools.host;
-    let shadow = h.pools.shadow;
-    let tally = h.tally;
-    [
-        l.levels,
-        l.hosts,
-        l.shadows,
-        l.frames,
-        l.bits,
-        host.fresh,
-        host.free,
-        host.used,
-        host.top,
-        shadow.fresh,
-        shadow.free,
-        shadow.used,
-        shadow.top,
-        h.root.0,
-        h.held.0,
-        h.set,
-        tally.on,
-        tally.charged,
-        tally.at,
-        tally.count,
-    ]
-}
-
-// The whole record, for a call that changes the marks.
-fn record_in(head: &[u64; 20], place: &[u64; 64], ring: &[u64; 64], order: &[u64; 64]) -> Record
-    ensures { λ r. ⌜ r ≡ recordIn (now (head .entry)) (now (place .entry)) (now (ring .entry)) (now (order .entry)) ⌝ }
-{
-    let h = head_in(head);
-    let layout = h.layout;
-    let pools = h.pools;
-    let root = h.root;
-    let held = h.held;
-    let tally = h.tally;
-    let places = *place;
-    let charged = *ring;
-    let automatic = *order;
-    Record {
-        layout: layout,
-        pools: pools,
-        guest: Guest {
-            root: root,
-            held: held,
-            marks: Marks {
-                set: h.set,
-                place: places,
-            },
-            choice: Choice {
-                tally: tally,
-                ring: charged,
-                order: automatic,
-            },
-        },
-    }
-}
 
 // The words of a head.
 fn words_in(head: &[u64; 20]) -> [u64; 20]
@@ -184,7 +71,7 @@ fn put_charged(head: &mut [u64; 20], charged: u64)
 fn put_window(head: &mut [u64; 20], held: Held, answer: Answer)
     ensures { λ _. ⌜ now (head .exit) ≡ headWords (windowIn (headIn (now (head .entry))) held answer) ⌝ }
 {
-    let tally = head_in(head).tally;
+    let tally = record::head_in(head).tally;
     put_held(head, held);
     if tally.on == 0 {
         return;
@@ -268,7 +155,7 @@ fn answer_of(a: Answer) -> FlatAnswer
     }
 }
 
-// The record of a reply takes the place of the one lent.
+// The record of an opening takes the place of what is lent.
 fn put_back(
     head: &mut [u64; 20],
     place: &mut [u64; 64],
@@ -286,7 +173,7 @@ fn put_back(
     *ring = charged;
     let automatic = unit.guest.choice.order;
     *order = automatic;
-    *head = head_words(unit.head());
+    *head = record::head_words(unit.head());
     answer_of(answer)
 }
 
@@ -324,42 +211,13 @@ pub extern "C" fn cangrieb_load<'a>(
 ) -> FlatAnswer
     ensures { λ r. ⌜ yields (flat (now (head .exit)) (now (place .entry)) (now (ring .entry)) (now (order .entry)) r) (now (mem .exit)) ≡ leftOf (loadCall (recordIn (now (head .entry)) (now (place .entry)) (now (ring .entry)) (now (order .entry))) (now (mem .entry)) address width) ⌝ }
 {
-    let h = head_in(head);
-    let s = calls::load_at(h, place, ring, order, mem, address, width);
+    let fits = record::fits(head, place, ring, order, mem.len());
+    let h = record::head_in(head);
+    let s = calls::load_at(h, fits, place, ring, order, mem, address, width);
     let answer = s.answer;
     let held = s.held;
     put_window(head, held, answer);
     answer_of(answer)
-}
-
-// A store with the automatic choice on: served on the parts that are lent; where it is charged, the rest by the whole record.
-fn store_on(
-    head: &mut [u64; 20],
-    place: &mut [u64; 64],
-    ring: &mut [u64; 64],
-    order: &mut [u64; 64],
-    mem: &mut [u64],
-    address: u64,
-    width: u64,
-    value: u64,
-) -> FlatAnswer
-    requires { ⌜ headIn (now head) .tally .on ≢ 0 ⌝ }
-    ensures { λ r. ⌜ yields (flat (now (head .exit)) (now (place .exit)) (now (ring .exit)) (now (order .exit)) r) (now (mem .exit)) ≡ leftOf (storeCall (recordIn (now (head .entry)) (now (place .entry)) (now (ring .entry)) (now (order .entry))) (now (mem .entry)) address width value) ⌝ }
-{
-    let h = head_in(head);
-    match calls::store_on(h, place, ring, order, mem, address, width, value) {
-        Stored::Served(s) => {
-            let answer = s.answer;
-            let held = s.held;
-            put_window(head, held, answer);
-            answer_of(answer)
-        }
-        Stored::Charged(owed) => {
-            let unit = record_in(head, place, ring, order);
-            let r = calls::store_charged(unit, mem, address, width, value, owed);
-            put_back(head, place, ring, order, r)
-        }
-    }
 }
 
 // Stores the low bytes of a value; the paths whose shadow part read the word around them are dropped: 3, 15, 4, 11.
@@ -376,22 +234,30 @@ pub extern "C" fn cangrieb_store(
 ) -> FlatAnswer
     ensures { λ r. ⌜ yields (flat (now (head .exit)) (now (place .exit)) (now (ring .exit)) (now (order .exit)) r) (now (mem .exit)) ≡ leftOf (storeCall (recordIn (now (head .entry)) (now (place .entry)) (now (ring .entry)) (now (order .entry))) (now (mem .entry)) address width value) ⌝ }
 {
-    let h = head_in(head);
+    let fits = record::fits(head, place, ring, order, mem.len());
+    let h = record::head_in(head);
     if h.tally.on == 0 {
-        let s = calls::store_at(h, place, ring, order, mem, address, width, value);
+        let s = calls::store_at(h, fits, place, ring, order, mem, address, width, value);
         let answer = s.answer;
         let held = s.held;
         put_held(head, held);
         return answer_of(answer);
     }
-    // The call stands twice so that it stays a call: made part of this function it would give each store its 18 KiB of stack. A number
-    // above 1 is no choice, and is refused with 3.
-    if h.tally.on == 1 {
-        let on = store_on(head, place, ring, order, mem, address, width, value);
-        return on;
-    }
-    let other = store_on(head, place, ring, order, mem, address, width, value);
-    other
+    let t = calls::store_on(
+        h,
+        fits,
+        place,
+        ring,
+        order,
+        mem,
+        address,
+        width,
+        value,
+    );
+    let answer = t.answer;
+    let next = t.head;
+    *head = record::head_words(next);
+    answer_of(answer)
 }
 
 // A device stores at a guest-physical address: 3, 15, 4, 11.
@@ -408,8 +274,9 @@ pub extern "C" fn cangrieb_device_store<'a>(
 ) -> FlatAnswer
     ensures { λ r. ⌜ yields (flat (now (head .exit)) (now (place .entry)) (now (ring .entry)) (now (order .entry)) r) (now (mem .exit)) ≡ leftOf (deviceCall (recordIn (now (head .entry)) (now (place .entry)) (now (ring .entry)) (now (order .entry))) (now (mem .entry)) address width value) ⌝ }
 {
-    let h = head_in(head);
-    let s = calls::device_store_at(h, place, ring, order, mem, address, width, value);
+    let fits = record::fits(head, place, ring, order, mem.len());
+    let h = record::head_in(head);
+    let s = calls::device_store_at(h, fits, place, ring, order, mem, address, width, value);
     let answer = s.answer;
     let held = s.held;
     put_held(head, held);
@@ -428,11 +295,12 @@ pub extern "C" fn cangrieb_root<'a>(
 ) -> FlatAnswer
     ensures { λ r. ⌜ yields (flat (now (head .exit)) (now (place .entry)) (now (ring .entry)) (now (order .entry)) r) (now (mem .entry)) ≡ leftOf (rootCall (recordIn (now (head .entry)) (now (place .entry)) (now (ring .entry)) (now (order .entry))) (now (mem .entry)) guest) ⌝ }
 {
-    let h = head_in(head);
-    let t = calls::root_at(h, place, ring, order, mem, guest);
+    let fits = record::fits(head, place, ring, order, mem.len());
+    let h = record::head_in(head);
+    let t = calls::root_at(h, fits, place, ring, order, mem, guest);
     let answer = t.answer;
     let next = t.head;
-    *head = head_words(next);
+    *head = record::head_words(next);
     answer_of(answer)
 }
 
@@ -450,11 +318,12 @@ pub extern "C" fn cangrieb_map<'a>(
 ) -> FlatAnswer
     ensures { λ r. ⌜ yields (flat (now (head .exit)) (now (place .entry)) (now (ring .entry)) (now (order .entry)) r) (now (mem .exit)) ≡ leftOf (mapCall (recordIn (now (head .entry)) (now (place .entry)) (now (ring .entry)) (now (order .entry))) (now (mem .entry)) guest frame writable) ⌝ }
 {
-    let h = head_in(head);
-    let t = calls::map_at(h, place, ring, order, mem, guest, frame, writable);
+    let fits = record::fits(head, place, ring, order, mem.len());
+    let h = record::head_in(head);
+    let t = calls::map_at(h, fits, place, ring, order, mem, guest, frame, writable);
     let answer = t.answer;
     let next = t.head;
-    *head = head_words(next);
+    *head = record::head_words(next);
     answer_of(answer)
 }
 
@@ -470,11 +339,12 @@ pub extern "C" fn cangrieb_unmap<'a>(
 ) -> FlatAnswer
     ensures { λ r. ⌜ yields (flat (now (head .exit)) (now (place .entry)) (now (ring .entry)) (now (order .entry)) r) (now (mem .exit)) ≡ leftOf (unmapCall (recordIn (now (head .entry)) (now (place .entry)) (now (ring .entry)) (now (order .entry))) (now (mem .entry)) guest) ⌝ }
 {
-    let h = head_in(head);
-    let t = calls::unmap_at(h, place, ring, order, mem, guest);
+    let fits = record::fits(head, place, ring, order, mem.len());
+    let h = record::head_in(head);
+    let t = calls::unmap_at(h, fits, place, ring, order, mem, guest);
     let answer = t.answer;
     let next = t.head;
-    *head = head_words(next);
+    *head = record::head_words(next);
     answer_of(answer)
 }
 
@@ -491,8 +361,13 @@ pub extern "C" fn cangrieb_set_mark(
 ) -> FlatAnswer
     ensures { λ r. ⌜ yields (flat (now (head .exit)) (now (place .exit)) (now (ring .exit)) (now (order .exit)) r) (now (mem .exit)) ≡ leftOf (setMarkCall (recordIn (now (head .entry)) (now (place .entry)) (now (ring .entry)) (now (order .entry))) (now (mem .entry)) address level) ⌝ }
 {
-    let r = unit::set_mark(record_in(head, place, ring, order), mem, address, level);
-    put_back(head, place, ring, order, r)
+    let fits = record::fits(head, place, ring, order, mem.len());
+    let h = record::head_in(head);
+    let t = calls::mark_at(h, fits, place, ring, order, mem, address, level, true);
+    let answer = t.answer;
+    let next = t.head;
+    *head = record::head_words(next);
+    answer_of(answer)
 }
 
 // Clears a mark: 3, 4, 5, 6, 11.
@@ -508,8 +383,13 @@ pub extern "C" fn cangrieb_clear_mark(
 ) -> FlatAnswer
     ensures { λ r. ⌜ yields (flat (now (head .exit)) (now (place .exit)) (now (ring .exit)) (now (order .exit)) r) (now (mem .exit)) ≡ leftOf (clearMarkCall (recordIn (now (head .entry)) (now (place .entry)) (now (ring .entry)) (now (order .entry))) (now (mem .entry)) address level) ⌝ }
 {
-    let r = unit::clear_mark(record_in(head, place, ring, order), mem, address, level);
-    put_back(head, place, ring, order, r)
+    let fits = record::fits(head, place, ring, order, mem.len());
+    let h = record::head_in(head);
+    let t = calls::mark_at(h, fits, place, ring, order, mem, address, level, false);
+    let answer = t.answer;
+    let next = t.head;
+    *head = record::head_words(next);
+    answer_of(answer)
 }
 
 // What loading these addresses one after the other would cost: 3, 16, 14, 11. Record and memory are lent to be read.
@@ -524,7 +404,9 @@ pub extern "C" fn cangrieb_forecast<'a>(
 ) -> FlatAnswer
     ensures { λ r. ⌜ r ≡ answerOf (forecastCall (recordIn (now (head .entry)) (now (place .entry)) (now (ring .entry)) (now (order .entry))) (now (mem .entry)) (now (addresses .entry)) .result .answer) ⌝ }
 {
-    answer_of(calls::forecast_at(head_in(head), place, ring, order, mem, addresses))
+    let fits = record::fits(head, place, ring, order, mem.len());
+    let h = record::head_in(head);
+    answer_of(calls::forecast_at(h, fits, place, ring, order, mem, addresses))
 }
 
 // ---- the record's own methods
@@ -534,7 +416,7 @@ pub extern "C" fn cangrieb_forecast<'a>(
 pub extern "C" fn cangrieb_depth(head: &[u64; 20], place: &[u64; 64], address: u64) -> Lookup
     ensures { λ r. ⌜ r ≡ lookupOf (headIn (now (head .entry))) (now (place .entry)) address ⌝ }
 {
-    let h = head_in(head);
+    let h = record::head_in(head);
     depth::lookup(place, h.set, h.layout.levels, GuestVirtual(address))
 }
 
@@ -590,7 +472,7 @@ pub extern "C" fn cangrieb_mark<'a>(
 ) -> FlatMark
     ensures { λ r. ⌜ r ≡ markIn (recordIn (now (head .entry)) (now (place .entry)) (now (ring .entry)) (now (order .entry))) at ⌝ }
 {
-    let h = head_in(head);
+    let h = record::head_in(head);
     let tally = h.tally;
     if at >= 64 {
         return no_mark();

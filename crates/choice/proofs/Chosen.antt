@@ -40,7 +40,7 @@ use Rattle.marks.proofs.Order.{SameMembers, members-any, members-length}
 use Rattle.marks.proofs.Book.{keysOf, marks-count, Sorted, sorted-fits, its-mark, set-book}
 use Rattle.choice.specs.declared.Tally.{Tally}
 use Rattle.choice.specs.declared.Choice.{Choice}
-use Rattle.choice.specs.Window.{room, shifted, requestedOf, emptiedOf, chargedOf, withCharged, unroll, prefixIn, chargesOf}
+use Rattle.choice.specs.Window.{room, shifted, requestedOf, emptiedOf, tallyCharged, chargedOf, withCharged, unroll, prefixIn, chargesOf}
 use Rattle.choice.specs.Order.{orderFits, automaticAt, prefixAt, leavesBefore, leavingOf, placeBy, withOrder, ordered, withoutOf, withOf, movedOf}
 use Rattle.choice.specs.Refusal.{ownedIn, roomIn, setTests, setRefusal, clearTests, clearRefusal}
 use Rattle.choice.proofs.Ring.{keep-reverse, map-reverse, map-take, map-set, map-unroll, keep-map}
@@ -112,7 +112,7 @@ module _ (c : Config) (x : Choice) (t : Marks) (b : Book) (h : Chosen c x t b) w
 
   -- one that is charged to a prefix
   pub chosen-charged : (p : ℕ) → Chosen c (chargedOf x p) t (entered (some (indexes (c .levels - 1) p)) b)
-  unfolding chargedOf prefixes
+  unfolding chargedOf tallyCharged prefixes
   chosen-charged p =
       chosen-window _ _ (set (x .ring) (x .tally .at % room) p) _ (rw (map-set (indexes (c .levels - 1)) (x .ring) (x .tally .at % room) p)
       (shows-charge (x .tally .charged) (x .tally .at) prefixes (b .window) (h .window) (indexes (c .levels - 1) p)))

@@ -11,16 +11,15 @@ use borrow.Author.Tests.{eq-eqb, ne-eqb, ltb-true, eqb-true}
 use lib.Dec.{eqb, ltb}
 use lib.Count.{ones}
 use lib.ListN.{length, take, drop, set, getD, length-append, length-reverse, length-take, length-drop, length-map, drop-of-length-le}
-use lib.Seq.{slice, slice-cons, take-suc, take-all, take-append-le, drop-cons, append-snoc, set-at, getD-at, length-take-le}
+use lib.Seq.{slice, slice-cons, take-suc, take-all, take-append-le, drop-cons, append-snoc, set-at, getD-at, getD-drop, getD-append-add, length-take-le}
 use Rattle.spec.specs.Prefix.{keep}
 use Rattle.spec.specs.Choice.{firstOf}
 use Rattle.spec_laws.proofs.Lists.{and-first, and-second}
 use Rattle.bits.specs.Bit.{bit}
 use Rattle.marks.specs.Table.{placeOf}
 use Rattle.choice.specs.declared.Tally.{Tally}
-use Rattle.choice.specs.declared.Choice.{Choice}
 use Rattle.choice.specs.Window.{room, unroll, prefixIn, chargesOf}
-use Rattle.choice.specs.Order.{entryFits, leavesBefore, leavingOf, withOrder, withoutOf, movedOf}
+use Rattle.choice.specs.Order.{entryFits, leavesBefore, leavingOf, but, fronted, relocated}
 
 -- ---- the first words of an array, and one more of them
 
@@ -149,19 +148,24 @@ keep-append {A} f (x ∷ xs) ys = go (f x) (keep-append f xs ys)
     go true h = ap (λ (l : List A). x ∷ l) h
     go false h = h
 
--- those words, how many they are, and the array with them in front
-abbrev but : ℕ → List ℕ → ℕ → List ℕ
-but p xs i = keep (λ j. not (eqb p j)) (take i xs)
-
+-- how many they are, and the array with them in front
 unfoldable pub packedTo : ℕ → List ℕ → ℕ → ℕ
 packedTo p xs i = length (but p xs i)
 
 unfoldable pub packed : ℕ → List ℕ → ℕ → List ℕ
-packed p xs i = but p xs i ++ drop (packedTo p xs i) xs
+packed p xs i = fronted (but p xs i) xs
 
 pub packed-none : (p : ℕ) (xs : List ℕ) → (packedTo p xs 0 ≡ 0) × (packed p xs 0 ≡ xs)
 unfolding packed packedTo
 packed-none p xs = (refl, refl)
+
+-- the words from there on are as they were
+pub packed-word : (p : ℕ) (xs : List ℕ) (i : ℕ) → packedTo p xs i ≤ i → getD (packed p xs i) i 0 ≡ getD xs i 0
+unfolding packed packedTo
+packed-word p xs i k =
+    let n = length (but p xs i) in
+    let e : n + (i - n) ≡ i = omega arith in
+    rw e at (getD-append-add (but p xs i) (drop n xs) (i - n) 0 ∙ getD-drop n xs (i - n) 0)
 
 -- the word at i is p
 pub packed-skip : (p : ℕ) (xs : List ℕ) (i : ℕ) → i < length xs → getD xs i 0 ≡ p
@@ -183,9 +187,9 @@ packed-put p xs i l k n =
     let here = set-at ks (getD xs (length ks) 0) (drop (suc (length ks)) xs) x (length ks) refl in
     (rw (more, one) (omega arith), rw (more, one, drop-cons xs (length ks) 0 (omega arith), here, append-snoc))
 
-pub without-packed : (x : Choice) (p : ℕ) → withoutOf x p ≡ withOrder x (packedTo p (x .order) (x .tally .count)) (packed p (x .order) (x .tally .count))
-unfolding withoutOf packed packedTo
-without-packed x p = refl
+pub packed-is : (p : ℕ) (xs : List ℕ) (i : ℕ) → (packedTo p xs i ≡ length (but p xs i)) × (packed p xs i ≡ fronted (but p xs i) xs)
+unfolding packed packedTo
+packed-is p xs i = (refl, refl)
 
 -- ---- the array with the first i words taken to others by g
 
@@ -220,7 +224,6 @@ module _ (g : ℕ → ℕ) (xs : List ℕ) (i : ℕ) (l : i < length xs) where
 abbrev pub again : List ℕ → List ℕ → ℕ → ℕ → ℕ
 again old place used i = placeOf place used (getD old (i % room) 0)
 
-pub moved-mapped : (x : Choice) (old place : List ℕ) (used : ℕ)
-    → movedOf x old place used ≡ withOrder x (x .tally .count) (mapped (again old place used) (x .order) (x .tally .count))
-unfolding movedOf mapped
-moved-mapped x old place used = refl
+pub mapped-is : (n : ℕ) (order old place : List ℕ) (used : ℕ) → mapped (again old place used) order n ≡ relocated n order old place used
+unfolding mapped
+mapped-is n order old place used = refl

@@ -59,23 +59,43 @@ placeBy (some i) = i
 
 -- ---- with one more, one less, and in another table
 
+abbrev pub withCount : Tally → ℕ → Tally
+withCount t n = record { on = t .on; charged = t .charged; at = t .at; count = n }
+
 abbrev pub withOrder : Choice → ℕ → List ℕ → Choice
-withOrder x n is = record { tally = record { on = x .tally .on; charged = x .tally .charged; at = x .tally .at; count = n }; ring = x .ring; order = is }
+withOrder x n is = record { tally = withCount (x .tally) n; ring = x .ring; order = is }
+
+-- an array with these words in front
+abbrev pub fronted : List ℕ → List ℕ → List ℕ
+fronted is order = is ++ drop (length is) order
 
 -- these are the first words of the array now
 abbrev pub ordered : Choice → List ℕ → Choice
-ordered x is = withOrder x (length is) (is ++ drop (length is) (x .order))
+ordered x is = withOrder x (length is) (fronted is (x .order))
+
+-- the places but i, of the first n of an array
+abbrev pub but : ℕ → List ℕ → ℕ → List ℕ
+but i order n = keep (λ j. not (eqb i j)) (take n order)
 
 -- the mark at the place i is automatic no longer
 unfoldable pub withoutOf : Choice → ℕ → Choice
-withoutOf x i = ordered x (keep (λ j. not (eqb i j)) (take (x .tally .count) (x .order)))
+withoutOf x i = ordered x (but i (x .order) (x .tally .count))
 
 -- the mark at the place i is automatic, the last one set
 unfoldable pub withOf : Choice → ℕ → Choice
 withOf x i = cond (ltb (x .tally .count) room) (withOrder x (suc (x .tally .count)) (set (x .order) (x .tally .count) i)) x
 
+-- how many there are then, and their order
+abbrev pub countWith : ℕ → ℕ
+countWith n = cond (ltb n room) (suc n) n
+
+abbrev pub orderWith : ℕ → List ℕ → ℕ → List ℕ
+orderWith n order i = cond (ltb n room) (set order n i) order
+
+-- the first n places of an array by their keys in the old places, in another table
+abbrev pub relocated : ℕ → List ℕ → List ℕ → List ℕ → ℕ → List ℕ
+relocated n order old place set = map (λ i. placeOf place set (getD old (i % room) 0)) (take n order) ++ drop n order
+
 -- the marks were put into another table: each is found by its key in the old places
 unfoldable pub movedOf : Choice → List ℕ → List ℕ → ℕ → Choice
-movedOf x old place set =
-    withOrder x (x .tally .count)
-    (map (λ i. placeOf place set (getD old (i % room) 0)) (take (x .tally .count) (x .order)) ++ drop (x .tally .count) (x .order))
+movedOf x old place set = withOrder x (x .tally .count) (relocated (x .tally .count) (x .order) old place set)

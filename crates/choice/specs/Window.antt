@@ -30,13 +30,12 @@ requestedOf t = cond (eqb (t .on) 0) t (withCharged t (shifted false (t .charged
 unfoldable pub emptiedOf : Tally → Tally
 emptiedOf t = withCharged t 0
 
--- a request that is charged to the prefix p
+-- a request that is charged to the prefix p, which goes into the ring
+unfoldable pub tallyCharged : Tally → Tally
+tallyCharged t = record { on = t .on; charged = shifted true (t .charged); at = (t .at + 1) % room; count = t .count }
+
 unfoldable pub chargedOf : Choice → ℕ → Choice
-chargedOf x p = record {
-  tally = record { on = x .tally .on; charged = shifted true (x .tally .charged); at = (x .tally .at + 1) % room; count = x .tally .count };
-  ring = set (x .ring) (x .tally .at % room) p;
-  order = x .order;
-}
+chargedOf x p = record { tally = tallyCharged (x .tally); ring = set (x .ring) (x .tally .at % room) p; order = x .order }
 
 -- the words of a ring, the newest first; at: the place of the next one
 unfoldable pub unroll : {A : Type 0} → ℕ → List A → List A

@@ -1,11 +1,11 @@
 // What the automatic choice keeps: the window of the last requests, and which marks are automatic (document 02, 7). A request that is
-// charged to nobody shifts one word; the arrays change where a store is charged or a mark moves, and only then are they copied.
+// charged to nobody shifts one word; the arrays change where a store is charged or a mark moves, and are written where they stand.
 use entry::GuestVirtual;
 ghost use mathlib.Core.Path.{_≡_};
-ghost use Prim.Native.Nat.{_<_, _≤_};
-ghost use lib.ListN.{length, take};
-ghost use Rattle.choice.specs.Window.{shifted, requestedOf, emptiedOf, chargedOf, prefixIn, chargesOf};
-ghost use Rattle.choice.specs.Order.{entryFits, orderFits, choiceFits, automaticAt, prefixAt, leavesBefore, leavingOf, placeBy, withOrder, withoutOf, withOf, movedOf};
+ghost use Prim.Native.Nat.{_<_, _≤_, _%_};
+ghost use lib.ListN.{length, take, set, getD};
+ghost use Rattle.choice.specs.Window.{room, shifted, requestedOf, emptiedOf, tallyCharged, prefixIn, chargesOf};
+ghost use Rattle.choice.specs.Order.{entryFits, orderFits, choiceFits, automaticAt, prefixAt, leavesBefore, leavingOf, placeBy, withCount, but, fronted, countWith, orderWith, relocated};
 ghost use Rattle.choice.specs.Refusal.{ownedIn, roomIn, setRefusal, clearRefusal};
 ghost use Rattle.marks.specs.Table.{number};
 
@@ -83,6 +83,23 @@ impl Tally {
         if self.on != 0 {
             self.charged = shift(self.charged, false);
         }
+        self
+    }
+
+    // After one that is charged to a prefix, which is written into the ring.
+    pub fn charged(mut self) -> Tally
+        ensures { λ r. ⌜ r ≡ tallyCharged self ⌝ }
+    {
+        self.charged = shift(self.charged, true);
+        self.at = (self.at % 64 + 1) % 64;
+        self
+    }
+
+    // With so many automatic marks.
+    pub fn with_count(mut self, count: u64) -> Tally
+        ensures { λ r. ⌜ r ≡ withCount self count ⌝ }
+    {
+        self.count = count;
         self
     }
 
@@ -303,92 +320,64 @@ pub fn clear_refusal(
     6
 }
 
-impl Choice {
-    // After a request that is charged to a prefix.
-    pub fn charged(self, prefix: u64) -> Choice
-        ensures { λ r. ⌜ r ≡ chargedOf self prefix ⌝ }
-    {
-        let t = self.tally;
-        let order = self.order;
-        let mut ring = self.ring;
-        ring[(t.at % 64) as usize] = prefix;
-        Choice {
-            tally: Tally {
-                on: t.on,
-                charged: shift(t.charged, true),
-                at: (t.at % 64 + 1) % 64,
-                count: t.count,
-            },
-            ring: ring,
-            order: order,
-        }
-    }
+// ---- the arrays after a charge and after a move, written where they stand
 
-    // With so many automatic marks in that order.
-    fn with_order(self, count: u64, order: [u64; 64]) -> Choice
-        ensures { λ r. ⌜ r ≡ withOrder self count order ⌝ }
-    {
-        let t = self.tally;
-        let ring = self.ring;
-        Choice {
-            tally: Tally {
-                on: t.on,
-                charged: t.charged,
-                at: t.at,
-                count: count,
-            },
-            ring: ring,
-            order: order,
-        }
-    }
+// The word of the ring that the next charge is written over.
+pub fn next_word(ring: &[u64; 64], t: Tally) -> u64
+    ensures { λ r. ⌜ r ≡ getD (now (ring .entry)) (t .at % room) 0 ⌝ }
+{
+    ring[(t.at % 64) as usize]
+}
 
-    // The mark at a place is automatic no longer.
-    pub fn without(self, place: u64) -> Choice
-        requires { ⌜ self .tally .count ≤ 64 ⌝ }
-        ensures { λ r. ⌜ r ≡ withoutOf self place ⌝ }
-    {
-        let end = self.tally.count as usize;
-        let mut order = self.order;
-        let mut kept: usize = 0;
-        let mut i: usize = 0;
-        while i < end {
-            let at = self.order[i];
-            if at != place {
-                order[kept] = at;
-                kept += 1;
-            }
-            i += 1;
-        }
-        self.with_order(kept as u64, order)
-    }
+// Writes that word.
+pub fn put_word(ring: &mut [u64; 64], t: Tally, word: u64)
+    ensures { λ _. ⌜ now (ring .exit) ≡ set (now (ring .entry)) (t .at % room) word ⌝ }
+{
+    ring[(t.at % 64) as usize] = word;
+}
 
-    // The mark at a place is automatic, the last one set.
-    pub fn with(self, place: u64) -> Choice
-        ensures { λ r. ⌜ r ≡ withOf self place ⌝ }
-    {
-        let count = self.tally.count;
-        if count >= 64 {
-            return self;
+// The mark at a place is automatic no longer: how many are.
+pub fn without(order: &mut [u64; 64], count: u64, place: u64) -> u64
+    requires { ⌜ count ≤ 64 ⌝ }
+    ensures { λ r. ⌜ (r ≡ length (but place (now (order .entry)) count)) × (now (order .exit) ≡ fronted (but place (now (order .entry)) count) (now (order .entry))) ⌝ }
+{
+    whole(order);
+    let end = count as usize;
+    let mut kept: usize = 0;
+    let mut i: usize = 0;
+    while i < end {
+        let at = order[i];
+        if at != place {
+            order[kept] = at;
+            kept += 1;
         }
-        let mut order = self.order;
-        order[count as usize] = place;
-        self.with_order(count + 1, order)
+        i += 1;
     }
+    kept as u64
+}
 
-    // The marks were put into another table: each automatic one is looked up by its key in the old places.
-    pub fn moved(self, old: &[u64; 64], place: &[u64; 64], set: u64) -> Choice
-        requires { ⌜ self .tally .count ≤ 64 ⌝ }
-        ensures { λ r. ⌜ r ≡ movedOf self (now (old .entry)) (now (place .entry)) set ⌝ }
-    {
-        let count = self.tally.count;
-        let end = count as usize;
-        let mut order = self.order;
-        let mut i: usize = 0;
-        while i < end {
-            let key = old[(order[i] % 64) as usize];
-            order[i] = marks::place_of(place, set, key) as u64;
-            i += 1;
-        }
-        self.with_order(count, order)
+// The mark at a place is automatic, the last one set: how many are.
+pub fn with(order: &mut [u64; 64], count: u64, place: u64) -> u64
+    ensures { λ r. ⌜ (r ≡ countWith count) × (now (order .exit) ≡ orderWith count (now (order .entry)) place) ⌝ }
+{
+    if count >= 64 {
+        return count;
+    }
+    order[count as usize] = place;
+    count + 1
+}
+
+// The marks were put into another table: each automatic one is looked up by its key in the old places.
+pub fn moved<'a>(order: &mut [u64; 64], count: u64, old: &'a [u64; 64], place: &'a [u64; 64], set: u64)
+    requires { ⌜ count ≤ 64 ⌝ }
+    ensures { λ _. ⌜ now (order .exit) ≡ relocated count (now (order .entry)) (now (old .entry)) (now (place .entry)) set ⌝ }
+{
+    whole(order);
+    let end = count as usize;
+    let mut i: usize = 0;
+    while i < end {
+        let key = old[(order[i] % 64) as usize];
+        order[i] = marks::place_of(place, set, key) as u64;
+        i += 1;
     }
 }

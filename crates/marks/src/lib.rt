@@ -244,15 +244,15 @@ impl Marks {
             place: place,
         }
     }
+}
 
-    // The table without the key; the other marks keep their places.
-    pub fn without_key(mut self, key: u64) -> Marks
-        ensures { λ r. ⌜ r ≡ withoutKey self key ⌝ }
-    {
-        let i = place_of(&self.place, self.set, key);
-        if i < 64 {
-            self.set = self.set - bits::power(i as u64);
-        }
-        self
+// The places set in the table without the key; the other marks keep theirs.
+pub fn without(place: &[u64; 64], set: u64, key: u64) -> u64
+    ensures { λ r. ⌜ record { set = r; place = now (place .entry) } ≡ withoutKey (record { set = set; place = now (place .entry) }) key ⌝ }
+{
+    let i = place_of(place, set, key);
+    if i < 64 {
+        return set - bits::power(i as u64);
     }
+    set
 }

@@ -138,6 +138,9 @@ headRoot h g = record { layout = h .layout; pools = h .pools; root = guestFrame 
 unfoldable pub headTables : Head → Pools → HostPhysical → Head
 headTables h p f = record { layout = h .layout; pools = p; root = h .root; held = f; set = h .set; tally = h .tally }
 
+unfoldable pub headMarks : Head → ℕ → Tally → Head
+headMarks h n t = record { layout = h .layout; pools = h .pools; root = h .root; held = h .held; set = n; tally = t }
+
 unfoldable pub headTally : Head → Tally → Head
 headTally h t = record { layout = h .layout; pools = h .pools; root = h .root; held = h .held; set = h .set; tally = t }
 

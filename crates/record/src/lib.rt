@@ -12,7 +12,8 @@ ghost use mathlib.Core.Path.{_≡_};
 ghost use Rattle.spec.specs.Refusal.{wordsFit, areasFit, topFits};
 ghost use Rattle.layout.specs.Layout.{LayoutFits, config};
 ghost use Rattle.marks.specs.Table.{lookupIn};
-ghost use Rattle.record.specs.Record.{layoutOf, heldTop, isTable, poolFits, choicesFit, sizesFit, tablesFit, recordBy, headOf, fitsOf, zeros, headRoot, headTables, headTally, choiceOf, withHead, withMarks};
+ghost use Rattle.record.specs.Words.{headIn, headWords};
+ghost use Rattle.record.specs.Record.{layoutOf, heldTop, isTable, poolFits, choicesFit, sizesFit, tablesFit, recordBy, headOf, fitsOf, zeros, headRoot, headTables, headMarks, headTally, choiceOf, withHead, withMarks};
 
 // Levels of the guest's tables and of the host's that an opening chooses.
 pub const LEVELS: u64 = 4;
@@ -166,36 +167,135 @@ fn tables_fit(l: Layout, held: HostPhysical, pools: Pools) -> bool
     pool_fits(l.hosts, l.shadows, pools.shadow)
 }
 
-impl Head {
-    // Does the record, with these arrays, break no rule on a memory of that length?
-    pub fn fits<'a>(
-        self,
-        place: &'a [u64; 64],
-        ring: &'a [u64; 64],
-        order: &'a [u64; 64],
-        len: usize,
-    ) -> bool
-        ensures { λ r. ⌜ r ≡ fitsOf (recordBy self (now (place .entry)) (now (ring .entry)) (now (order .entry))) len ⌝ }
-    {
-        let l = self.layout;
-        if !choices_fit(l) {
-            return false;
-        }
-        if !sizes_fit(l, len) {
-            return false;
-        }
-        if !layout::frame_fits(l, self.root) {
-            return false;
-        }
-        if !marks::fits(place, self.set, l.levels) {
-            return false;
-        }
-        if !choice::fits(self.tally, order, place, self.set) {
-            return false;
-        }
-        tables_fit(l, self.held, self.pools)
-    }
+// ---- the head in 20 words, as it is lent
 
+fn layout_in(w: &[u64; 20]) -> Layout
+    ensures { λ r. ⌜ r ≡ headIn (now (w .entry)) .layout ⌝ }
+{
+    Layout {
+        levels: w[0],
+        hosts: w[1],
+        shadows: w[2],
+        frames: w[3],
+        bits: w[4],
+    }
+}
+
+fn pools_in(w: &[u64; 20]) -> Pools
+    ensures { λ r. ⌜ r ≡ headIn (now (w .entry)) .pools ⌝ }
+{
+    Pools {
+        host: Pool {
+            fresh: w[5],
+            free: w[6],
+            used: w[7],
+            top: w[8],
+        },
+        shadow: Pool {
+            fresh: w[9],
+            free: w[10],
+            used: w[11],
+            top: w[12],
+        },
+    }
+}
+
+fn tally_in(w: &[u64; 20]) -> Tally
+    ensures { λ r. ⌜ r ≡ headIn (now (w .entry)) .tally ⌝ }
+{
+    Tally {
+        on: w[16],
+        charged: w[17],
+        at: w[18],
+        count: w[19],
+    }
+}
+
+// The places of marks that are set.
+fn set_in(w: &[u64; 20]) -> u64
+    ensures { λ r. ⌜ r ≡ headIn (now (w .entry)) .set ⌝ }
+{
+    w[15]
+}
+
+// The head that the words say.
+pub fn head_in(w: &[u64; 20]) -> Head
+    ensures { λ r. ⌜ r ≡ headIn (now (w .entry)) ⌝ }
+{
+    Head {
+        layout: layout_in(w),
+        pools: pools_in(w),
+        root: GuestPhysical(w[13]),
+        held: HostPhysical(w[14]),
+        set: set_in(w),
+        tally: tally_in(w),
+    }
+}
+
+// And back.
+pub fn head_words(h: Head) -> [u64; 20]
+    ensures { λ r. ⌜ r ≡ headWords h ⌝ }
+{
+    let l = h.layout;
+    let host = h.pools.host;
+    let shadow = h.pools.shadow;
+    let tally = h.tally;
+    [
+        l.levels,
+        l.hosts,
+        l.shadows,
+        l.frames,
+        l.bits,
+        host.fresh,
+        host.free,
+        host.used,
+        host.top,
+        shadow.fresh,
+        shadow.free,
+        shadow.used,
+        shadow.top,
+        h.root.0,
+        h.held.0,
+        h.set,
+        tally.on,
+        tally.charged,
+        tally.at,
+        tally.count,
+    ]
+}
+
+// Does the record that these words and arrays are break no rule on a memory of that length? The words are read where they stand, each
+// when its turn comes, so that a call pays for no copy of them.
+pub fn fits<'a>(
+    w: &'a [u64; 20],
+    place: &'a [u64; 64],
+    ring: &'a [u64; 64],
+    order: &'a [u64; 64],
+    len: usize,
+) -> bool
+    ensures { λ r. ⌜ r ≡ fitsOf (recordBy (headIn (now (w .entry))) (now (place .entry)) (now (ring .entry)) (now (order .entry))) len ⌝ }
+{
+    let set = set_in(w);
+    let l = layout_in(w);
+    if !choices_fit(l) {
+        return false;
+    }
+    if !sizes_fit(l, len) {
+        return false;
+    }
+    if !layout::frame_fits(l, GuestPhysical(w[13])) {
+        return false;
+    }
+    if !marks::fits(place, set, l.levels) {
+        return false;
+    }
+    if !choice::fits(tally_in(w), order, place, set) {
+        return false;
+    }
+    tables_fit(l, HostPhysical(w[14]), pools_in(w))
+}
+
+impl Head {
     // With another root.
     pub fn with_root(mut self, root: GuestPhysical) -> Head
         ensures { λ r. ⌜ r ≡ headRoot self (root .0) ⌝ }
@@ -210,6 +310,15 @@ impl Head {
     {
         self.pools = pools;
         self.held = held;
+        self
+    }
+
+    // With other places of marks set, and another tally of the automatic choice.
+    pub fn with_marks(mut self, set: u64, tally: Tally) -> Head
+        ensures { λ r. ⌜ r ≡ headMarks self set tally ⌝ }
+    {
+        self.set = set;
+        self.tally = tally;
         self
     }
 
@@ -290,7 +399,9 @@ impl Record {
     pub fn fits(self, len: usize) -> bool
         ensures { λ r. ⌜ r ≡ fitsOf self len ⌝ }
     {
-        self.head().fits(
+        let words = head_words(self.head());
+        fits(
+            &words,
             &self.guest.marks.place,
             &self.guest.choice.ring,
             &self.guest.choice.order,

@@ -271,7 +271,71 @@ fn loaded(
     }
 }
 
-// A load: 11.
+// A load that no held path serves.
+fn load_unserved(
+    mem: &mut [u64],
+    space: Space,
+    root: GuestPhysical,
+    held: Held,
+    address: GuestVirtual,
+    width: u64,
+    depth: u64,
+) -> Served
+    requires { ⌜ (LayoutFits (space .layout)) × (HeldFits (config (space .layout)) held) × (Inside (address .0) width) × (Unserved (config (space .layout)) (space .top) (now mem) held (root .0) false (address .0) depth) ⌝ }
+    ensures { λ r. ⌜ yields r (now (mem .exit)) ≡ loadOf (config (space .layout)) (space .top) (now (mem .entry)) held (root .0) (address .0) width depth ⌝ }
+{
+    let request = Request {
+        store: false,
+        address: address,
+        depth: depth,
+    };
+    let t = translate::unserved(mem, space, root, held, request);
+    let end = t.walked;
+    let after = t.held;
+    settle(mem, space, root, false, address, end, t.sets);
+    loaded(mem, held, after, end, t.exits, address.0, width)
+}
+
+// A load whose held path leads to a page, or to a guest table in that frame.
+fn load_through(
+    mem: &mut [u64],
+    space: Space,
+    root: GuestPhysical,
+    held: Held,
+    address: GuestVirtual,
+    width: u64,
+    depth: u64,
+    page: HostPhysical,
+    writable: bool,
+) -> Served
+    requires { ⌜ (LayoutFits (space .layout)) × (HeldFits (config (space .layout)) held) × (Inside (address .0) width) × (depth ≤ space .layout .levels) × (pathHeldOf (config (space .layout)) (now mem) held false (address .0) depth ≡ host.Found page writable) ⌝ }
+    ensures { λ r. ⌜ yields r (now (mem .exit)) ≡ loadOf (config (space .layout)) (space .top) (now (mem .entry)) held (root .0) (address .0) width depth ⌝ }
+{
+    let request = Request {
+        store: false,
+        address: address,
+        depth: depth,
+    };
+    if translate::bitless(space.layout, depth) {
+        let walked = translate::direct(mem, space, request, page, writable);
+        let exits = translate::exit_of(walked);
+        return loaded(mem, held, held, walked, exits, address.0, width);
+    }
+    // As translate::through, but that nothing is handed on by way of memory: most loads with bits lack none.
+    let trail = translate::direct_trail(mem, space, request, page, writable);
+    let walked = trail.walked;
+    if !translate::lacking(mem, space.layout, request, walked, &trail.tables) {
+        let exits = translate::exit_of(walked);
+        return loaded(mem, held, held, walked, exits, address.0, width);
+    }
+    let t = translate::judged(mem, space, root, held, request, walked);
+    let end = t.walked;
+    let after = t.held;
+    settle(mem, space, root, false, address, end, t.sets);
+    loaded(mem, held, after, end, t.exits, address.0, width)
+}
+
+// A load: 11. Most are of depth 0 and held: they are told here, with nothing handed on.
 pub fn load(
     mem: &mut [u64],
     space: Space,
@@ -284,31 +348,30 @@ pub fn load(
     requires { ⌜ (LayoutFits (space .layout)) × (HeldFits (config (space .layout)) held) × (Inside (address .0) width) ⌝ }
     ensures { λ r. ⌜ yields r (now (mem .exit)) ≡ loadOf (config (space .layout)) (space .top) (now (mem .entry)) held (root .0) (address .0) width depth ⌝ }
 {
-    let request = Request {
-        store: false,
-        address: address,
-        depth: depth,
-    };
     if depth <= space.layout.levels {
         match path_held(mem, space.layout, held, false, address, depth) {
             HostWalk::Found { page, writable } => {
-                if translate::bitless(space.layout, depth) {
-                    let walked = translate::direct(mem, space, request, page, writable);
-                    let exits = translate::exit_of(walked);
-                    return loaded(mem, held, held, walked, exits, address.0, width);
+                if depth == 0 {
+                    return Served {
+                        held: held,
+                        answer: Answer::Value {
+                            word: read_bytes(mem, page, address.0, width),
+                            references: space.layout.levels,
+                            exits: 0,
+                        },
+                    };
                 }
-                // As translate::through, but that nothing is handed on by way of memory: most loads with bits lack none.
-                let trail = translate::direct_trail(mem, space, request, page, writable);
-                let walked = trail.walked;
-                if !translate::lacking(mem, space.layout, request, walked, &trail.tables) {
-                    let exits = translate::exit_of(walked);
-                    return loaded(mem, held, held, walked, exits, address.0, width);
-                }
-                let t = translate::judged(mem, space, root, held, request, walked);
-                let end = t.walked;
-                let after = t.held;
-                settle(mem, space, root, false, address, end, t.sets);
-                return loaded(mem, held, after, end, t.exits, address.0, width);
+                return load_through(
+                    mem,
+                    space,
+                    root,
+                    held,
+                    address,
+                    width,
+                    depth,
+                    page,
+                    writable,
+                );
             }
             HostWalk::Absent { reads } => {}
             HostWalk::Damaged => {
@@ -316,11 +379,7 @@ pub fn load(
             }
         }
     }
-    let t = translate::unserved(mem, space, root, held, request);
-    let end = t.walked;
-    let after = t.held;
-    settle(mem, space, root, false, address, end, t.sets);
-    loaded(mem, held, after, end, t.exits, address.0, width)
+    load_unserved(mem, space, root, held, address, width, depth)
 }
 
 // The bytes of a granted store are written, and what it says; put: what its drops left.

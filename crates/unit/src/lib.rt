@@ -1,19 +1,11 @@
-// The unit's ten calls by value: record and memory in, record and answer out. Those that change no mark are a line over the call in
-// parts.
+// The unit's ten calls by value: record and memory in, record and answer out. Each is a line or two over the call in parts.
 ghost use mathlib.Core.Path.{_≡_};
-ghost use mathlib.Core.Bool.{cond};
-ghost use Prim.Native.Nat.{_<_, _≤_};
 ghost use Rattle.words.specs.After.{yields};
-ghost use Rattle.marks.specs.Table.{number};
-ghost use Rattle.choice.specs.Refusal.{setRefusal, clearRefusal};
-ghost use Rattle.automatic.specs.Moves.{Ready};
-ghost use Rattle.calls.specs.Calls.{Promises, servedReply, windowedReply, movedReply, turnReply, answerOf, openCall, loadCall, storeCall, deviceCall, rootCall, mapCall, unmapCall, markMoves, markCall, setMarkCall, clearMarkCall, forecastCall};
-use automatic::Moved;
+ghost use Rattle.calls.specs.Calls.{Promises, servedReply, windowedReply, turnReply, turnIn, answerOf, openCall, loadCall, storeCall, deviceCall, rootCall, mapCall, unmapCall, markCall, setMarkCall, clearMarkCall, forecastCall};
 use calls::Reply;
-use calls::Stored;
 use calls::Turn;
-use choice::Tally;
-use entry::GuestVirtual;
+use choice::Choice;
+use marks::Marks;
 use record::Record;
 use request::Served;
 use spec::Answer;
@@ -45,20 +37,6 @@ fn windowed(unit: Record, s: Served) -> Reply
     }
 }
 
-// The reply of a call that moved marks.
-fn moved(unit: Record, m: Moved) -> Reply
-    ensures { λ r. ⌜ r ≡ movedReply unit m ⌝ }
-{
-    let next = m.unit;
-    if !m.ok {
-        return calls::refused(unit, 11);
-    }
-    Reply {
-        unit: next,
-        answer: Answer::Ok,
-    }
-}
-
 // The reply of a call that may have changed the whole head.
 fn turned(unit: Record, turn: Turn) -> Reply
     ensures { λ r. ⌜ r ≡ turnReply unit turn ⌝ }
@@ -67,6 +45,34 @@ fn turned(unit: Record, turn: Turn) -> Reply
     let answer = turn.answer;
     Reply {
         unit: unit.with_head(head),
+        answer: answer,
+    }
+}
+
+// The reply of a call that may have changed the whole record; its arrays are these now.
+fn replaced(
+    unit: Record,
+    turn: Turn,
+    place: [u64; 64],
+    ring: [u64; 64],
+    order: [u64; 64],
+) -> Reply
+    ensures { λ r. ⌜ r ≡ turnIn place ring order turn ⌝ }
+{
+    let head = turn.head;
+    let answer = turn.answer;
+    let tally = head.tally;
+    let marks = Marks {
+        set: head.set,
+        place: place,
+    };
+    let choice = Choice {
+        tally: tally,
+        ring: ring,
+        order: order,
+    };
+    Reply {
+        unit: unit.with_marks(marks, choice).with_head(head),
         answer: answer,
     }
 }
@@ -101,6 +107,7 @@ pub fn load(unit: Record, mem: &mut [u64], address: u64, width: u64) -> Reply
 {
     let s = calls::load_at(
         unit.head(),
+        unit.fits(mem.len()),
         &unit.guest.marks.place,
         &unit.guest.choice.ring,
         &unit.guest.choice.order,
@@ -117,6 +124,7 @@ pub fn store(unit: Record, mem: &mut [u64], address: u64, width: u64, value: u64
     if unit.guest.choice.tally.on == 0 {
         let s = calls::store_at(
             unit.head(),
+        unit.fits(mem.len()),
             &unit.guest.marks.place,
             &unit.guest.choice.ring,
             &unit.guest.choice.order,
@@ -127,19 +135,21 @@ pub fn store(unit: Record, mem: &mut [u64], address: u64, width: u64, value: u64
         );
         return served(unit, s);
     }
-    match calls::store_on(
+    let mut place = unit.guest.marks.place;
+    let mut ring = unit.guest.choice.ring;
+    let mut order = unit.guest.choice.order;
+    let turn = calls::store_on(
         unit.head(),
-        &unit.guest.marks.place,
-        &unit.guest.choice.ring,
-        &unit.guest.choice.order,
+        unit.fits(mem.len()),
+        &mut place,
+        &mut ring,
+        &mut order,
         mem,
         address,
         width,
         value,
-    ) {
-        Stored::Served(s) => windowed(unit, s),
-        Stored::Charged(owed) => calls::store_charged(unit, mem, address, width, value, owed),
-    }
+    );
+    replaced(unit, turn, place, ring, order)
 }
 
 pub fn device_store(unit: Record, mem: &mut [u64], address: u64, width: u64, value: u64) -> Reply
@@ -147,6 +157,7 @@ pub fn device_store(unit: Record, mem: &mut [u64], address: u64, width: u64, val
 {
     let s = calls::device_store_at(
         unit.head(),
+        unit.fits(mem.len()),
         &unit.guest.marks.place,
         &unit.guest.choice.ring,
         &unit.guest.choice.order,
@@ -163,6 +174,7 @@ pub fn load_root(unit: Record, mem: &mut [u64], guest: u64) -> Reply
 {
     let t = calls::root_at(
         unit.head(),
+        unit.fits(mem.len()),
         &unit.guest.marks.place,
         &unit.guest.choice.ring,
         &unit.guest.choice.order,
@@ -177,6 +189,7 @@ pub fn map(unit: Record, mem: &mut [u64], guest: u64, frame: u64, writable: bool
 {
     let t = calls::map_at(
         unit.head(),
+        unit.fits(mem.len()),
         &unit.guest.marks.place,
         &unit.guest.choice.ring,
         &unit.guest.choice.order,
@@ -193,6 +206,7 @@ pub fn unmap(unit: Record, mem: &mut [u64], guest: u64) -> Reply
 {
     let t = calls::unmap_at(
         unit.head(),
+        unit.fits(mem.len()),
         &unit.guest.marks.place,
         &unit.guest.choice.ring,
         &unit.guest.choice.order,
@@ -208,6 +222,7 @@ pub fn forecast(unit: Record, mem: &[u64], addresses: &[u64]) -> Reply
 {
     let answer = calls::forecast_at(
         unit.head(),
+        unit.fits(mem.len()),
         &unit.guest.marks.place,
         &unit.guest.choice.ring,
         &unit.guest.choice.order,
@@ -222,62 +237,25 @@ pub fn forecast(unit: Record, mem: &[u64], addresses: &[u64]) -> Reply
 
 // ---- marks
 
-// Why a mark is not set, or one is not cleared: its number, or 0.
-fn mark_refusal<'a>(
-    t: Tally,
-    order: &'a [u64; 64],
-    place: &'a [u64; 64],
-    set: u64,
-    levels: u64,
-    at: GuestVirtual,
-    level: u64,
-    setting: bool,
-) -> u64
-    requires { ⌜ (levels < 6) × (t .count ≤ 64) ⌝ }
-    ensures { λ r. ⌜ r ≡ number (cond setting (setRefusal levels t (now (order .entry)) (record { set = set; place = now (place .entry) }) (at .0) level) (clearRefusal levels t (now (order .entry)) (record { set = set; place = now (place .entry) }) (at .0) level)) ⌝ }
-{
-    if setting {
-        choice::set_refusal(t, order, place, set, levels, at, level)
-    } else {
-        choice::clear_refusal(t, order, place, set, levels, at, level)
-    }
-}
-
-// The mark is set, or cleared.
-fn mark_moves(unit: Record, mem: &mut [u64], at: GuestVirtual, level: u64, setting: bool) -> Moved
-    requires { ⌜ (Ready unit) × (level < 8) ⌝ }
-    ensures { λ r. ⌜ yields r (now (mem .exit)) ≡ markMoves setting unit (now (mem .entry)) (at .0) level ⌝ }
-{
-    if setting {
-        automatic::set(unit, mem, at, level)
-    } else {
-        automatic::clear(unit, mem, at, level)
-    }
-}
-
 // A mark is set, or one is cleared.
 fn mark_call(unit: Record, mem: &mut [u64], address: u64, level: u64, setting: bool) -> Reply
     ensures { λ r. ⌜ yields r (now (mem .exit)) ≡ markCall setting unit (now (mem .entry)) address level ⌝ }
 {
-    let at = GuestVirtual(address);
-    if !unit.fits(mem.len()) {
-        return calls::refused(unit, 3);
-    }
-    let refusal = mark_refusal(
-        unit.guest.choice.tally,
-        &unit.guest.choice.order,
-        &unit.guest.marks.place,
-        unit.guest.marks.set,
-        unit.layout.levels,
-        at,
+    let mut place = unit.guest.marks.place;
+    let ring = unit.guest.choice.ring;
+    let mut order = unit.guest.choice.order;
+    let turn = calls::mark_at(
+        unit.head(),
+        unit.fits(mem.len()),
+        &mut place,
+        &ring,
+        &mut order,
+        mem,
+        address,
         level,
         setting,
     );
-    if refusal != 0 {
-        return calls::refused(unit, refusal);
-    }
-    let m = mark_moves(unit, mem, at, level, setting);
-    moved(unit, m)
+    replaced(unit, turn, place, ring, order)
 }
 
 // Sets a mark: 3, 4, 5, 6, 7, 11.

@@ -1,36 +1,81 @@
--- The parts are those of the definition. Assumes nothing.
+-- The paths are cut, and then the key goes into the table. Assumes nothing.
+use mathlib.Core.Path.{ap, _∙_}
+use Prim.Native.Nat.{_-_}
 use native.Mathlib.Omega.{arith}
+use borrow.Author.Tests.{not-true, not-false}
+use Rattle.marks.specs.declared.Marks.{Marks}
+use Rattle.choice.specs.declared.Choice.{Choice}
+use Rattle.choice.specs.Order.{movedOf}
+use Rattle.record.specs.Record.{recordBy}
+use Rattle.automatic.specs.Moves.{above, markedOf}
+use Rattle.automatic.proofs.Parts.{marked-damaged, marked-cut}
 use borrow.Author.Needs.{needs}
 use Rattle.automatic.proofs.add.Statement.{statement}
 use Rattle.automatic.proofs.add.Tie as tie
 
-marked-requires : tie.Need-marked-requires
-marked-requires c κs =
-    let pre = c .before .before .before .before .before .before .before .before .before .before .before .before .before .pre in
-    let links = c .before .before .before .before .before .before .before .before .before .before .before .links in
-    (pre .0 .0, rw (links .ensures) (omega arith))
+links-requires : tie.Need-links-requires
+links-requires c κs = search needs
+
+page-requires : tie.Need-page-requires
+page-requires c κs = search needs
+
+mul-cut : tie.Need-mul-cut
+mul-cut c = search needs
+
+shr-cut : tie.Need-shr-cut
+shr-cut c = search needs
+
+cut-requires : tie.Need-cut-requires
+cut-requires c κs = (c .before .before .before .before .pre .0 .0, rw (c .before .links .ensures) (omega arith))
+
+same-length : tie.Need-same-length
+same-length c = search needs
 
 returns : tie.Need-returns
 returns c =
-    let links = c .before .before .before .before .before .before .before .before .before .before .before .before .before .before .links in
-    let key-of = c .before .before .before .before .before .before .before .before .before .before .before .before .before .key-of in
-    let with-key = c .before .before .before .before .before .before .before .before .before .before .before .with-key in
-    let moved = c .before .before .before .before .before .moved in
-    let page = c .before .before .before .page in
-    let marked = c .before .before .marked in
-    rw (links .ensures, page .ensures, moved .ensures, with-key .ensures, key-of .ensures) at (marked .ensures)
+    let h = c .before .before .before .before .before .before .before .before .before .args .head in
+    marked-damaged h (c .before .before .before .before .before .before .before .before .before .args .place .now) (c .before .before .before .before .before .before .before .before .before .args .ring .now) (c .before .before .before .before .before .before .before .before .before .args .order .now) (c .before .before .before .before .before .before .before .before .before .args .mem .now) (h .layout .levels - c .before .before .before .before .before .before .before .before .before .args .level) (above (c .before .before .before .before .before .before .before .before .before .args .address .0) (c .before .before .before .before .before .before .before .before .before .args .level)) _ _ _ (rw (c .before .before .before .before .before .before .links .ensures, c .before .before .before .before .before .page .ensures) at (c .before .before .before .before .cut .ensures)) (not-true (c .before .before .before .before .cut .result .ok) (c .if1 .taken))
+
+key-of-requires : tie.Need-key-of-requires
+key-of-requires c κs = search needs
+
+insert-requires : tie.Need-insert-requires
+insert-requires c κs = search needs
+
+with-marks-requires : tie.Need-with-marks-requires
+with-marks-requires c κs = search needs
+
+same-length-2 : tie.Need-same-length-2
+same-length-2 c = c .before .before .before .before .before .before .before .before .before .before .before .cut .kept .1 .0
+
+returns-2 : tie.Need-returns-2
+unfolding movedOf
+returns-2 c =
+    let h = c .before .before .before .before .before .before .before .before .before .before .before .before .before .before .before .before .args .head in
+    let place = c .before .before .before .before .before .before .before .before .before .before .before .before .before .before .before .before .args .place .now in
+    let ring = c .before .before .before .before .before .before .before .before .before .before .before .before .before .before .before .before .args .ring .now in
+    let order = c .before .before .before .before .before .before .before .before .before .before .before .before .before .before .before .before .args .order .now in
+    let k = h .layout .levels - c .before .before .before .before .before .before .before .before .before .before .before .before .before .before .before .before .args .level in
+    let p = above (c .before .before .before .before .before .before .before .before .before .before .before .before .before .before .before .before .args .address .0) (c .before .before .before .before .before .before .before .before .before .before .before .before .before .before .before .before .args .level) in
+    let y : Marks → Choice = λ t. movedOf (record { tally = h .tally; ring = ring; order = order }) place (t .place) (t .set) in
+    let u : Marks = record { set = c .before .insert .result; place = c .before .insert .last .0 } in
+    rw (c .with-marks .ensures, c .before .insert .ensures .1)
+    (marked-cut h place ring order (c .before .before .before .before .before .before .before .before .before .before .before .before .before .before .before .before .args .mem .now) k p u (y u) _ (rw (c .before .before .before .before .before .before .before .before .before .before .before .before .before .links .ensures, c .before .before .before .before .before .before .before .before .before .before .before .before .page .ensures) at (c .before .before .before .before .before .before .before .before .before .before .before .cut .ensures)) (not-false (c .before .before .before .before .before .before .before .before .before .before .before .cut .result .ok) (c .before .before .before .before .before .before .before .if1 .left))
+    ∙ ap (λ (t : Marks). markedOf (recordBy h place ring order) (c .before .before .before .before .before .before .before .before .before .before .before .before .before .before .before .before .args .mem .now) k p t (y t)) (rw (c .before .before .key-of .ensures) at (c .before .insert .ensures .0)))
 
 pub add-spec : {M : Type 1} → statement M
 add-spec =
     tie.close
     (tie.spec
-    (λ c κs. search needs)
-    (λ c κs. search needs)
-    (λ c κs. search needs)
-    (λ c κs. search needs)
-    (λ c κs. search needs)
-    (λ c. search needs)
-    (λ c. search needs)
-    marked-requires
-    (λ c. search needs)
-    returns)
+    links-requires
+    page-requires
+    mul-cut
+    shr-cut
+    cut-requires
+    same-length
+    returns
+    key-of-requires
+    insert-requires
+    with-marks-requires
+    same-length-2
+    returns-2)

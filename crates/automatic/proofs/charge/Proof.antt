@@ -1,38 +1,84 @@
--- The charge enters the window, and the rest is judged. Assumes nothing.
-use Rattle.automatic.specs.Moves.{Ready, chargedOf}
-use mathlib.Core.Path.{sym, subst}
-use Rattle.record.specs.declared.Record.{Record}
-use Rattle.record.specs.Record.{withMarks}
-use Rattle.choice.specs.declared.Choice.{Choice}
+-- The charge enters the window, and the rest is judged; where that meets damage, the word of the ring is put back. Assumes nothing.
+use mathlib.Core.Path.{_≡_, ap, _∙_}
+use Prim.Native.Nat.{_%_}
+use lib.ListN.{set}
+use lib.Seq.{set-set, set-getD}
+use borrow.Author.Tests.{not-true, not-false}
+use Rattle.words.specs.After.{After, yields}
 use Rattle.choice.specs.Window as window
+use Rattle.choice.specs.Window.{tallyCharged}
+use Rattle.record.specs.Record.{recordBy, headTally, withMarks}
+use Rattle.automatic.specs.Moves.{Move, enteredOf, judgedOf, chargedOf, movedIn, keptBy}
+use Rattle.automatic.proofs.Parts.{kept-goes, kept-back, kept-instead}
 use borrow.Author.Needs.{needs}
 use Rattle.automatic.proofs.charge.Statement.{statement}
 use Rattle.automatic.proofs.charge.Tie as tie
 
+next-word-requires : tie.Need-next-word-requires
+next-word-requires c κs = search needs
+
+put-word-requires : tie.Need-put-word-requires
+put-word-requires c κs = search needs
+
+charged-requires : tie.Need-charged-requires
+charged-requires c κs = search needs
+
+with-tally-requires : tie.Need-with-tally-requires
+with-tally-requires c κs = search needs
+
 judge-requires : tie.Need-judge-requires
-unfolding withMarks window.chargedOf
-judge-requires c κs =
-    let pre = c .before .before .before .before .before .pre in
-    let args = c .before .before .before .before .before .args in
-    let marks = c .before .before .before .marks in
-    let charged = c .before .before .charged in
-    let with-marks = c .before .with-marks in
-    (subst (λ (r : Record). Ready r) (sym (with-marks .ensures)) (subst (λ (x : Choice). Ready (withMarks (args .unit) (args .unit .guest .marks) x)) (sym (charged .ensures)) (pre .0)), pre .1)
+unfolding tallyCharged headTally
+judge-requires c κs = rw (c .before .before .before .before .with-tally .ensures, c .before .before .before .before .before .charged .ensures) (c .before .before .before .before .before .before .before .before .before .before .before .before .pre .0, c .before .before .before .before .before .before .before .before .before .before .before .before .pre .1)
+
+put-word-requires-2 : tie.Need-put-word-requires-2
+put-word-requires-2 c κs = search needs
+
+same-length : tie.Need-same-length
+same-length c = c .before .before .before .before .before .before .judge .kept .1 .1 .1 .1 .0
 
 returns : tie.Need-returns
-unfolding chargedOf
+unfolding chargedOf window.chargedOf headTally withMarks
 returns c =
-    let charged = c .before .before .before .before .before .charged in
-    let with-marks = c .before .before .before .before .with-marks in
-    let judge = c .before .before .judge in
-    rw (with-marks .ensures, charged .ensures) at (judge .ensures)
+    let h = c .before .before .before .before .before .before .before .before .before .before .before .before .before .before .before .before .before .before .before .args .head in
+    let place = c .before .before .before .before .before .before .before .before .before .before .before .before .before .before .before .before .before .before .before .args .place .now in
+    let ring = c .before .before .before .before .before .before .before .before .before .before .before .before .before .before .before .before .before .before .before .args .ring .now in
+    let order = c .before .before .before .before .before .before .before .before .before .before .before .before .before .before .before .before .before .before .before .args .order .now in
+    let r = recordBy h place ring order in
+    let q = enteredOf r (c .before .before .before .before .before .before .before .before .before .before .before .before .before .before .before .before .before .before .before .args .prefix) in
+    let x = judgedOf q (c .before .before .before .before .before .before .before .before .before .before .before .before .before .before .before .before .before .before .before .args .mem .now) (c .before .before .before .before .before .before .before .before .before .before .before .before .before .before .before .before .before .before .before .args .prefix) in
+    let y : After Move = yields (movedIn (c .before .before .before .before .before .before .judge .last .1 .0) (set (c .before .before .before .before .before .before .before .before .before .before .before .before .before .before .before .before .before .before .before .args .ring .now) (c .before .before .before .before .before .before .before .before .before .before .before .before .before .before .before .before .before .before .before .args .head .tally .at % 64) (c .before .before .before .before .before .before .before .before .before .before .before .before .before .before .before .before .before .before .before .args .prefix)) (c .before .before .before .before .before .before .judge .last .1 .1 .1 .0) (c .before .before .before .before .before .before .judge .result)) (c .before .before .before .before .before .before .judge .last .1 .1 .1 .1 .0) in
+    let told : y ≡ keptBy q x = rw (c .before .before .before .before .before .before .before .before .before .before .before .with-tally .ensures, c .before .before .before .before .before .before .before .before .before .before .before .before .charged .ensures, c .before .before .before .before .before .before .before .before .before .before .before .before .before .put-word .ensures) at (c .before .before .before .before .before .before .judge .ensures) in
+    let bad = not-true (c .before .before .before .before .before .before .judge .result .ok) (c .before .before .if1 .taken) in
+    let back = kept-back r q x y told bad in
+    let places : c .before .before .before .before .before .before .judge .last .1 .0 ≡ place = ap (λ (z : After Move). z .result .unit .guest .marks .place) back in
+    let orders : c .before .before .before .before .before .before .judge .last .1 .1 .1 .0 ≡ order = ap (λ (z : After Move). z .result .unit .guest .choice .order) back in
+    let rings : c .put-word2 .last .0 ≡ ring = c .put-word2 .ensures ∙ rw (c .before .before .before .before .before .before .before .before .before .before .before .before .before .put-word .ensures, c .before .before .before .before .before .before .before .before .before .before .before .before .before .before .before .next-word .ensures) (set-set ring (h .tally .at % 64) _ _ ∙ set-getD ring (h .tally .at % 64) 0) in
+    rw (places, orders, rings) (kept-instead r q x y told bad)
+
+same-length-2 : tie.Need-same-length-2
+same-length-2 c = search needs
+
+returns-2 : tie.Need-returns-2
+unfolding chargedOf window.chargedOf headTally withMarks
+returns-2 c =
+    let r = recordBy (c .before .before .before .before .before .before .before .before .before .before .before .before .before .before .before .before .before .args .head) (c .before .before .before .before .before .before .before .before .before .before .before .before .before .before .before .before .before .args .place .now) (c .before .before .before .before .before .before .before .before .before .before .before .before .before .before .before .before .before .args .ring .now) (c .before .before .before .before .before .before .before .before .before .before .before .before .before .before .before .before .before .args .order .now) in
+    let q = enteredOf r (c .before .before .before .before .before .before .before .before .before .before .before .before .before .before .before .before .before .args .prefix) in
+    let x = judgedOf q (c .before .before .before .before .before .before .before .before .before .before .before .before .before .before .before .before .before .args .mem .now) (c .before .before .before .before .before .before .before .before .before .before .before .before .before .before .before .before .before .args .prefix) in
+    let y : After Move = yields (movedIn (c .before .before .before .before .judge .last .1 .0) (set (c .before .before .before .before .before .before .before .before .before .before .before .before .before .before .before .before .before .args .ring .now) (c .before .before .before .before .before .before .before .before .before .before .before .before .before .before .before .before .before .args .head .tally .at % 64) (c .before .before .before .before .before .before .before .before .before .before .before .before .before .before .before .before .before .args .prefix)) (c .before .before .before .before .judge .last .1 .1 .1 .0) (c .before .before .before .before .judge .result)) (c .before .before .before .before .judge .last .1 .1 .1 .1 .0) in
+    rw (c .before .before .before .before .before .before .before .before .before .before .before .put-word .ensures)
+    (kept-goes r q x y (rw (c .before .before .before .before .before .before .before .before .before .with-tally .ensures, c .before .before .before .before .before .before .before .before .before .before .charged .ensures, c .before .before .before .before .before .before .before .before .before .before .before .put-word .ensures) at (c .before .before .before .before .judge .ensures)) (not-false (c .before .before .before .before .judge .result .ok) (c .if1 .left)))
 
 pub charge-spec : {M : Type 1} → statement M
 charge-spec =
     tie.close
     (tie.spec
-    (λ c κs. search needs)
-    (λ c κs. search needs)
+    next-word-requires
+    put-word-requires
+    charged-requires
+    with-tally-requires
     judge-requires
-    (λ c. search needs)
-    returns)
+    put-word-requires-2
+    same-length
+    returns
+    same-length-2
+    returns-2)

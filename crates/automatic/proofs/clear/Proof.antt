@@ -1,36 +1,79 @@
--- The parts are those of the definition. Assumes nothing.
+-- The paths are cut, and then the mark leaves the table. Assumes nothing.
+use mathlib.Core.Path.{ap, _∙_}
+use Prim.Native.Nat.{_-_}
 use native.Mathlib.Omega.{arith}
-use Rattle.automatic.specs.Moves.{clearedOf}
+use borrow.Author.Tests.{not-true, not-false}
+use Rattle.choice.specs.declared.Choice.{Choice}
+use Rattle.record.specs.Record.{recordBy}
+use Rattle.automatic.specs.Moves.{above, markedOf, clearedOf}
+use Rattle.automatic.proofs.Parts.{marked-damaged, marked-cut}
 use borrow.Author.Needs.{needs}
 use Rattle.automatic.proofs.clear.Statement.{statement}
 use Rattle.automatic.proofs.clear.Tie as tie
 
-marked-requires : tie.Need-marked-requires
-marked-requires c κs =
-    let pre = c .before .before .before .before .before .before .before .pre in
-    let links = c .before .before .before .before .before .links in
-    (pre .0 .0, rw (links .ensures) (omega arith))
+links-requires : tie.Need-links-requires
+links-requires c κs = search needs
+
+page-requires : tie.Need-page-requires
+page-requires c κs = search needs
+
+mul-cut : tie.Need-mul-cut
+mul-cut c = search needs
+
+shr-cut : tie.Need-shr-cut
+shr-cut c = search needs
+
+cut-requires : tie.Need-cut-requires
+cut-requires c κs = (c .before .before .before .before .pre .0 .0, rw (c .before .links .ensures) (omega arith))
+
+same-length : tie.Need-same-length
+same-length c = search needs
 
 returns : tie.Need-returns
 unfolding clearedOf
 returns c =
-    let links = c .before .before .before .before .before .before .before .before .links in
-    let key-of = c .before .before .before .before .before .before .before .key-of in
-    let without-key = c .before .before .before .before .before .before .without-key in
-    let page = c .before .before .before .page in
-    let marked = c .before .before .marked in
-    rw (links .ensures, page .ensures, without-key .ensures, key-of .ensures) at (marked .ensures)
+    let h = c .before .before .before .before .before .before .before .before .before .args .head in
+    marked-damaged h (c .before .before .before .before .before .before .before .before .before .args .place .now) (c .before .before .before .before .before .before .before .before .before .args .ring .now) (c .before .before .before .before .before .before .before .before .before .args .order .now) (c .before .before .before .before .before .before .before .before .before .args .mem .now) (h .layout .levels - c .before .before .before .before .before .before .before .before .before .args .level) (above (c .before .before .before .before .before .before .before .before .before .args .address .0) (c .before .before .before .before .before .before .before .before .before .args .level)) _ _ _ (rw (c .before .before .before .before .before .before .links .ensures, c .before .before .before .before .before .page .ensures) at (c .before .before .before .before .cut .ensures)) (not-true (c .before .before .before .before .cut .result .ok) (c .if1 .taken))
+
+key-of-requires : tie.Need-key-of-requires
+key-of-requires c κs = search needs
+
+without-requires : tie.Need-without-requires
+without-requires c κs = search needs
+
+with-marks-requires : tie.Need-with-marks-requires
+with-marks-requires c κs = search needs
+
+same-length-2 : tie.Need-same-length-2
+same-length-2 c = c .before .before .before .before .before .before .before .before .before .cut .kept .1 .0
+
+returns-2 : tie.Need-returns-2
+unfolding clearedOf
+returns-2 c =
+    let h = c .before .before .before .before .before .before .before .before .before .before .before .before .before .before .args .head in
+    let place = c .before .before .before .before .before .before .before .before .before .before .before .before .before .before .args .place .now in
+    let ring = c .before .before .before .before .before .before .before .before .before .before .before .before .before .before .args .ring .now in
+    let order = c .before .before .before .before .before .before .before .before .before .before .before .before .before .before .args .order .now in
+    let k = h .layout .levels - c .before .before .before .before .before .before .before .before .before .before .before .before .before .before .args .level in
+    let p = above (c .before .before .before .before .before .before .before .before .before .before .before .before .before .before .args .address .0) (c .before .before .before .before .before .before .before .before .before .before .before .before .before .before .args .level) in
+    let x : Choice = record { tally = h .tally; ring = ring; order = order } in
+    rw (c .with-marks .ensures)
+    (marked-cut h place ring order (c .before .before .before .before .before .before .before .before .before .before .before .before .before .before .args .mem .now) k p (record { set = c .before .without .result; place = place }) x _ (rw (c .before .before .before .before .before .before .before .before .before .before .before .links .ensures, c .before .before .before .before .before .before .before .before .before .before .page .ensures) at (c .before .before .before .before .before .before .before .before .before .cut .ensures)) (not-false (c .before .before .before .before .before .before .before .before .before .cut .result .ok) (c .before .before .before .before .before .if1 .left))
+    ∙ ap (λ t. markedOf (recordBy h place ring order) (c .before .before .before .before .before .before .before .before .before .before .before .before .before .before .args .mem .now) k p t x) (rw (c .before .before .key-of .ensures) at (c .before .without .ensures)))
 
 pub clear-spec : {M : Type 1} → statement M
 clear-spec =
     tie.close
     (tie.spec
-    (λ c κs. search needs)
-    (λ c κs. search needs)
-    (λ c κs. search needs)
-    (λ c κs. search needs)
-    (λ c. search needs)
-    (λ c. search needs)
-    marked-requires
-    (λ c. search needs)
-    returns)
+    links-requires
+    page-requires
+    mul-cut
+    shr-cut
+    cut-requires
+    same-length
+    returns
+    key-of-requires
+    without-requires
+    with-marks-requires
+    same-length-2
+    returns-2)

@@ -7,43 +7,38 @@ use borrow.Author.Needs.{needs}
 use Rattle.automatic.proofs.make_room.Statement.{statement}
 use Rattle.automatic.proofs.make_room.Tie as tie
 
+count-requires : tie.Need-count-requires
+count-requires c κs = search needs
+
 returns : tie.Need-returns
 unfolding roomMadeOf
-returns c =
-    let args = c .before .before .before .args in
-    let count = c .before .count in
-    let if1 = c .if1 in
-    rw (lt-ltb (ones (args .t1 .guest .marks .set)) 64 (omega (arith, count .ensures, if1 .taken)))
+returns c = rw (lt-ltb (ones (c .before .before .before .args .head .set)) 64 (omega (arith, c .before .count .ensures, c .if1 .taken)))
 
 returns-2 : tie.Need-returns-2
 unfolding roomMadeOf
-returns-2 c =
-    let args = c .before .before .before .before .args in
-    let count = c .before .before .count in
-    let if1 = c .before .if1 in
-    let if2 = c .if2 in
-    rw (le-ltb (ones (args .t1 .guest .marks .set)) 64 (omega (arith, count .ensures, if1 .left)), eq-eqb _ _ (if2 .taken))
+returns-2 c = rw (le-ltb (ones (c .before .before .before .before .before .args .head .set)) 64 (omega (arith, c .before .before .before .count .ensures, c .before .before .if1 .left)), eq-eqb _ _ (c .if2 .taken))
+
+leaving-requires : tie.Need-leaving-requires
+leaving-requires c κs = search needs
+
+withdraw-requires : tie.Need-withdraw-requires
+withdraw-requires c κs = search needs
+
+same-length : tie.Need-same-length
+same-length c = search needs
 
 returns-3 : tie.Need-returns-3
 unfolding roomMadeOf
-returns-3 c =
-    let args = c .before .before .before .before .before .before .before .before .before .before .before .before .before .before .args in
-    let count = c .before .before .before .before .before .before .before .before .before .before .before .before .count in
-    let if1 = c .before .before .before .before .before .before .before .before .before .before .before .if1 in
-    let if2 = c .before .before .before .before .before .before .before .before .before .before .if2 in
-    let unit = c .before .before .before .before .before .before .before .before .before .unit in
-    let leaving = c .before .before .before .before .leaving in
-    let withdraw = c .before .before .withdraw in
-    rw (le-ltb (ones (args .t1 .guest .marks .set)) 64 (omega (arith, count .ensures, if1 .left)), ne-eqb _ _ (if2 .left), ← leaving .ensures) (withdraw .ensures)
+returns-3 c = rw (le-ltb (ones (c .before .before .before .before .before .before .before .before .before .before .before .before .args .head .set)) 64 (omega (arith, c .before .before .before .before .before .before .before .before .before .before .count .ensures, c .before .before .before .before .before .before .before .before .before .if1 .left)), ne-eqb _ _ (c .before .before .before .before .before .before .before .if2 .left), ← c .before .before .before .before .before .leaving .ensures) (c .before .before .withdraw .ensures)
 
 pub make-room-spec : {M : Type 1} → statement M
 make-room-spec =
     tie.close
     (tie.spec
-    (λ c κs. search needs)
+    count-requires
     returns
     returns-2
-    (λ c κs. search needs)
-    (λ c κs. search needs)
-    (λ c. search needs)
+    leaving-requires
+    withdraw-requires
+    same-length
     returns-3)
