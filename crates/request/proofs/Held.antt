@@ -4,11 +4,14 @@ use mathlib.Core.Path.{_≡_, refl, sym, ap, ap₂, _∙_, subst}
 use Prim.Native.Nat.{ℕ, _+_, _<_, _≤_}
 use native.Mathlib.Nat.{zero-add}
 use native.Mathlib.Omega.{arith}
-use borrow.Author.Tests.{lt-ltb, le-ltb}
-use mathlib.Core.Bool.{Bool, true, false, cond}
+use borrow.Author.Tests.{lt-ltb, le-ltb, eq-eqb}
+use mathlib.Core.Bool.{Bool, true, false, not, cond}
 use mathlib.Core.List.{List}
 use Rattle.spec.specs.Config.{Config}
-use Rattle.spec.specs.Entry.{frameLimit}
+use Rattle.spec.specs.declared.Answer.the-variants as answer
+use Rattle.spec.specs.Entry.{wordOf, frameLimit}
+use Rattle.spec.specs.Bytes.{bytesAt}
+use Rattle.words.specs.Words.{wordIn}
 use Rattle.words.specs.After.{After, yields}
 use Rattle.entry.specs.declared.HostPhysical.{HostPhysical}
 use Rattle.layout.specs.declared.HostWalk.{HostWalk}
@@ -18,11 +21,11 @@ use Rattle.walk.specs.declared.Walked.{Walked}
 use Rattle.walk.specs.declared.Walked.the-variants as walked
 use Rattle.translate.specs.declared.Held.{Held}
 use Rattle.translate.specs.declared.Translated.{Translated}
-use Rattle.translate.specs.Translate.{HeldFits, translation, exitBy, directOf, servedOf, damaged, checkedOf, judgedBy, lackingOf, throughOf, unshadowedOf, servesOf, foundOf, missedOf, foundBy, translateOf, unservedOf}
+use Rattle.translate.specs.Translate.{HeldFits, translation, exitBy, directOf, servedOf, damaged, checkedOf, judgedBy, bitlessOf, lackingOf, throughOf, unshadowedOf, servesOf, foundOf, missedOf, foundBy, translateOf, unservedOf}
 use Rattle.translate.proofs.Fits.{ArrivedIn, FoundIs, found-is}
-use Rattle.translate.proofs.Bits.{through-part}
+use Rattle.translate.proofs.Bits.{through-part, direct-page, bitless-none}
 use Rattle.translate.proofs.Leaves.{Leaves, translate-leaves}
-use Rattle.request.specs.Access.{ReachesFrame, setBy, settledOf, servingBy, pathHeldOf, loadBy, loadFrom, storeBy, storeFrom}
+use Rattle.request.specs.Access.{ReachesFrame, serving, setBy, settledOf, servingBy, pathHeldOf, loadBy, loadFrom, loadOf, storeBy, storeFrom}
 
 -- in the guest area, so below the limit
 reaches : (c : Config) (r : Walked) → c .frames ≤ 65536 → ArrivedIn c r → ReachesFrame r
@@ -165,6 +168,15 @@ module _ (c : Config) (ht root : ℕ) (h k : Held) (a w : ℕ) where
   store-plainly v e (walked.Arrived t y n) m = refl
   store-plainly v e (walked.Faulted x n) m = refl
   store-plainly v e walked.Damaged m = refl
+
+-- a load of depth 0 through a held path
+pub load-page : (c : Config) (ht : ℕ) (m : List ℕ) (h : Held) (root a w d : ℕ) (t : HostPhysical) (y : Bool) → d ≡ 0 → d ≤ c .levels → pathHeldOf c m h false a d ≡ host.Found t y
+    → serving h (answer.Value (bytesAt a w (wordIn m (t .0) (wordOf a))) (c .levels) 0) m ≡ loadOf c ht m h root a w d
+unfolding loadOf settledOf bitlessOf
+load-page c ht m h root a w d t y e l found =
+    let none = bitless-none c ht m false a d (t .0) y (ap (λ b. cond b true (not (c .bits))) (eq-eqb d 0 e)) in
+    let went = path-plainly c ht m h root false a d t y none l found in
+    ap (λ (r : Walked). loadFrom c ht root h a w (yields (translation h (exitBy r) r false) m)) (sym (direct-page c ht m false a d (t .0) y e)) ∙ ap (loadFrom c ht root h a w) (sym went)
 
 pub set-none : (r : Walked) (m : List ℕ) → setBy r m m ≡ m
 set-none (walked.Arrived t y n) m = refl

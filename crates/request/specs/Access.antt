@@ -1,5 +1,6 @@
 -- Loads and stores from address to bytes, and the held paths that a store drops; for any memory.
 -- Assumes nothing.
+use mathlib.Core.Path.{_≡_}
 use Prim.Native.Nat.{ℕ, _+_, _%_, _<_, _≤_}
 use mathlib.Core.Bool.{Bool, true, false, cond}
 use mathlib.Core.List.{List}
@@ -28,7 +29,7 @@ use Rattle.translate.specs.declared.Held.{Held}
 use Rattle.request.specs.declared.Put.{Put}
 use Rattle.request.specs.declared.Served.{Served}
 use Rattle.translate.specs.declared.Translated.{Translated}
-use Rattle.translate.specs.Translate.{exitBy, whole, servesOf, foundOf, translateOf}
+use Rattle.translate.specs.Translate.{exitBy, whole, servesOf, foundOf, unservedOf, translateOf}
 
 -- what a request leaves
 abbrev pub serving : Held → Answer → List ℕ → After Served
@@ -91,6 +92,10 @@ servingBy st d host.Damaged = host.Damaged
 
 unfoldable pub pathHeldOf : Config → List ℕ → Held → Bool → ℕ → ℕ → HostWalk
 pathHeldOf c m h st a d = servingBy st d (foundOf c m h a d)
+
+-- a request that no held path serves is translated without one
+abbrev pub Unserved : Config → ℕ → List ℕ → Held → ℕ → Bool → ℕ → ℕ → Type 0
+Unserved c ht m h root st a d = translateOf c ht m h root st a d ≡ unservedOf c ht m h root st a d
 
 -- ---- load
 
