@@ -1,4 +1,4 @@
--- A store with the automatic choice off is the plain one; with it on, its two parts make the call.
+-- A store with the automatic choice off is the plain one; with it on, it goes by its charge.
 -- Assumes nothing.
 use mathlib.Core.Path.{_≡_, refl, sym, ap, _∙_}
 use mathlib.Core.Logic.{_≢_}
@@ -26,14 +26,16 @@ use Rattle.translate.specs.declared.Held.{Held}
 use Rattle.translate.specs.declared.Translated.{Translated}
 use Rattle.request.specs.declared.Served.{Served}
 use Rattle.request.specs.Access as access
-use Rattle.request.specs.Access.{Inside, refused, storeFrom, storeOf}
+use Rattle.request.specs.Access.{serving, settledOf, bytesIn, storeFrom, storeOf}
+use Rattle.record.specs.declared.Head.{Head}
 use Rattle.record.specs.declared.Record.{Record}
-use Rattle.record.specs.Record.{configOf, headTables, headTally}
-use Rattle.calls.specs.Calls.{hostTop, rootOf, heldOf, headHeld, depthAt, servedBy, tallyAfter, windowedBy, chargedIn, chargeAt, plainStore, storeBy, storedBy, translatedOf, servedPart, leftBy, partBy, storedFrom, OwedFits, OwedIn, storedLeft}
+use Rattle.record.specs.Record.{configOf, recordBy, headTables, headTally}
+use Rattle.calls.specs.Calls.{hostTop, rootOf, heldOf, headHeld, depthAt, servedBy, tallyAfter, windowedBy, chargedIn, chargeAt, plainStore, storeBy, storedBy, translatedOf, ended, refused, turnIn, finishedBy, settledTurn}
 use Rattle.entry.specs.declared.HostPhysical.{HostPhysical}
-use Rattle.automatic.specs.Moves.{Ready}
-use Rattle.calls.specs.declared.Stored.{Stored}
-use Rattle.calls.specs.declared.Stored.the-variants as stored
+use Rattle.automatic.specs.declared.Moved.{Moved}
+use Rattle.automatic.specs.Moves.{Move, moved, movedIn, keptBy}
+use Rattle.calls.specs.declared.Owed.{Owed}
+use Rattle.calls.specs.declared.Turn.{Turn}
 
 -- ---- off
 
@@ -77,23 +79,6 @@ module _ (r : Record) (off : r .guest .choice .tally .on ≡ 0) where
 
 -- ---- on
 
-pub on-store : (r : Record) → r .guest .choice .tally .on ≢ 0 → (a w v : ℕ) (o : After Translated)
-    → let s = storedFrom (configOf r) (hostTop r) (rootOf r) (heldOf r) a w v o in storedLeft r a w v (s .result) (s .memory) ≡ storedBy r a w v o (o .result .walked)
-unfolding storedFrom chargeAt headHeld headTables headTally
-on-store r on a w v o = go (o .result .walked)
-  where
-    by : (t : HostPhysical) (n : ℕ) (x : Charge)
-        → storedLeft r a w v (leftBy (configOf r) (hostTop r) (rootOf r) (heldOf r) a w v o t n x .result) (leftBy (configOf r) (hostTop r) (rootOf r) (heldOf r) a w v o t n x .memory) ≡ storeBy r a w v o t n x
-    by t n charge.Nobody = refl
-    by t n (charge.To p) = refl
-    by t n charge.Damaged = refl
-
-    go : (x : Walked)
-        → storedLeft r a w v (partBy (configOf r) (hostTop r) (rootOf r) (heldOf r) a w v o x .result) (partBy (configOf r) (hostTop r) (rootOf r) (heldOf r) a w v o x .memory) ≡ storedBy r a w v o x
-    go (walked.Arrived t y n) = rw (ne-eqb (r .guest .choice .tally .on) 0 on) (by t n (chargedIn (configOf r) (o .result .held) (o .memory) (t .0) (wordOf a)))
-    go (walked.Faulted x n) = refl
-    go walked.Damaged = refl
-
 pub charge-small : (c : Config) (h : Held) (m : List ℕ) (t i : ℕ) → SmallCharge (c .levels - 1) (chargedIn c h m t i)
 unfolding chargedIn
 charge-small c h m t i = go (watchedOf c m (h .pool .fresh) t)
@@ -102,26 +87,63 @@ charge-small c h m t i = go (watchedOf c m (h .pool .fresh) t)
     go true = charged-small c m (h .pool .fresh) t i
     go false = tt
 
--- ---- the first part, by what the translation came to
-module _ (c : Config) (ht g : ℕ) (h : Held) (a w v : ℕ) (o : After Translated) where
-  module _ (t : HostPhysical) (y : Bool) (n : ℕ) (came : o .result .walked ≡ walked.Arrived t y n) where
-    pub part-by : (x : Charge) → chargedIn c (o .result .held) (o .memory) (t .0) (wordOf a) ≡ x → storedFrom c ht g h a w v o ≡ leftBy c ht g h a w v o t n x
-    unfolding storedFrom
-    part-by x e = ap (partBy c ht g h a w v o) came ∙ ap (leftBy c ht g h a w v o t n) e
+-- a store with the choice on, by its charge
+pub on-store : (r : Record) → r .guest .choice .tally .on ≢ 0 → (a w v : ℕ) (o : After Translated) (t : HostPhysical) (y : Bool) (n : ℕ) (x : Charge)
+    → o .result .walked ≡ walked.Arrived t y n → chargedIn (configOf r) (o .result .held) (o .memory) (t .0) (wordOf a) ≡ x
+    → storeBy r a w v o t n x ≡ storedBy r a w v o (o .result .walked)
+unfolding chargeAt
+on-store r on a w v o t y n x came e =
+    ap (storeBy r a w v o t n) (sym e ∙ ap (λ b. cond b charge.Nobody (chargedIn (configOf r) (o .result .held) (o .memory) (t .0) (wordOf a))) (sym (ne-eqb (r .guest .choice .tally .on) 0 on)))
+    ∙ ap (storedBy r a w v o) (sym came)
 
-  pub part-faulted : (x : Fault) (n : ℕ) → o .result .walked ≡ walked.Faulted x n → storedFrom c ht g h a w v o ≡ servedPart (storeFrom c ht g h a w v o)
-  unfolding storedFrom
-  part-faulted x n came = ap (partBy c ht g h a w v o) came
+-- a store that came to no page
+pub not-arrived : (r : Record) (a w v : ℕ) (o : After Translated) (x : Fault) (n : ℕ) → o .result .walked ≡ walked.Faulted x n
+    → windowedBy r (serving (o .result .held) (answer.Faulted x n (o .result .exits)) (o .memory)) ≡ storedBy r a w v o (o .result .walked)
+not-arrived r a w v o x n came =
+    ap (λ y. windowedBy r (access.storeBy (configOf r) (heldOf r) a w v (settledOf (configOf r) (hostTop r) (rootOf r) true a (o .result .sets)) o y)) (sym came)
+    ∙ ap (λ y. storedBy r a w v o y) (sym came)
 
-  pub part-broken : o .result .walked ≡ walked.Damaged → storedFrom c ht g h a w v o ≡ servedPart (refused h 11 (o .memory))
-  unfolding storedFrom
-  part-broken came =
-      ap (partBy c ht g h a w v o) came ∙ ap (λ x. servedPart (storeBy' x)) came
-    where
-      storeBy' : Walked → After Served
-      storeBy' x = access.storeBy c h a w v (access.settledOf c ht g true a (o .result .sets)) o x
+pub not-walked : (r : Record) (a w v : ℕ) (o : After Translated) → o .result .walked ≡ walked.Damaged → refused r 11 (o .memory) ≡ storedBy r a w v o (o .result .walked)
+unfolding headHeld headTables headTally
+not-walked r a w v o came =
+    ap (λ y. windowedBy r (access.storeBy (configOf r) (heldOf r) a w v (settledOf (configOf r) (hostTop r) (rootOf r) true a (o .result .sets)) o y)) (sym came)
+    ∙ ap (λ y. storedBy r a w v o y) (sym came)
 
--- what is left to do, with the record and the address that it is done with
-pub owed-in : (r : Record) (a w : ℕ) (x : Stored) → Ready r → Inside a w → OwedFits (configOf r) x → OwedIn r a w x
-owed-in r a w (stored.Served s) ready inside fits = tt
-owed-in r a w (stored.Charged x) ready inside fits = (ready, inside, fits)
+-- ---- a store that is charged, in parts
+
+-- after the charge and the marks that it moved; held: what was kept where they met damage
+pub settled-turn : (h : Head) (place ring order : List ℕ) (a w v : ℕ) (x : Owed) (e : ℕ) (q : Record) (y : After Move) (o : After Moved) (place₁ ring₁ order₁ : List ℕ)
+    → q .guest .marks .place ≡ place → q .guest .choice .ring ≡ ring → q .guest .choice .order ≡ order
+    → yields (movedIn place₁ ring₁ order₁ (o .result)) (o .memory) ≡ keptBy q y
+    → let t = settledTurn h a w v x e o in
+    let r = recordBy h place ring order in
+    yields (turnIn place₁ ring₁ order₁ (t .result)) (t .memory)
+    ≡ finishedBy r a w v (x .page .0) (x .reads) e (settledOf (configOf r) (hostTop r) (rootOf r) true a (x .sets)) y
+settled-turn h place ring order a w v x e q y o place₁ ring₁ order₁ ps rs os k = go (y .result .ok) refl k
+  where
+    r : Record
+    r = recordBy h place ring order
+
+    set : List ℕ → List ℕ
+    set = settledOf (configOf r) (hostTop r) (rootOf r) true a (x .sets)
+
+    z : After Move
+    z = yields (movedIn place₁ ring₁ order₁ (o .result)) (o .memory)
+
+    turn : Bool → After Turn
+    turn b =
+        cond b (yields (record { head = o .result .head; answer = answer.Done (x .reads) e }) (bytesIn (set (o .memory)) (x .page .0) a w v))
+        (yields (record { head = h; answer = answer.Refused 11 }) (o .memory))
+
+    go : (b : Bool) → y .result .ok ≡ b → z ≡ cond b y (moved q false (y .memory))
+        → yields (turnIn place₁ ring₁ order₁ (turn (o .result .ok) .result)) (turn (o .result .ok) .memory)
+        ≡ cond b (ended (y .result .unit) (answer.Done (x .reads) e) (bytesIn (set (y .memory)) (x .page .0) a w v)) (refused r 11 (y .memory))
+    go true f k =
+        let ok : o .result .ok ≡ true = ap (λ (m : After Move). m .result .ok) k ∙ f in
+        rw ok (ap (λ (m : After Move). ended (m .result .unit) (answer.Done (x .reads) e) (bytesIn (set (m .memory)) (x .page .0) a w v)) k)
+    go false f k =
+        let ok : o .result .ok ≡ false = ap (λ (m : After Move). m .result .ok) k in
+        let p : place₁ ≡ place = ap (λ (m : After Move). m .result .unit .guest .marks .place) k ∙ ps in
+        let s : ring₁ ≡ ring = ap (λ (m : After Move). m .result .unit .guest .choice .ring) k ∙ rs in
+        let t : order₁ ≡ order = ap (λ (m : After Move). m .result .unit .guest .choice .order) k ∙ os in
+        rw (ok, p, s, t) (ap (λ (m : After Move). refused r 11 (m .memory)) k)

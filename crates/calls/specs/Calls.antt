@@ -26,6 +26,7 @@ use Rattle.host.specs.declared.Space.{Space}
 use Rattle.layout.specs.Layout.{LayoutFits, config}
 use Rattle.host.specs.Walk.{hostWalkOf}
 use Rattle.host.specs.Map.{mapOf, unmapOf}
+use Rattle.marks.specs.declared.Marks.{Marks}
 use Rattle.marks.specs.Table.{keys, lookupIn, number}
 use Rattle.choice.specs.declared.Tally.{Tally}
 use Rattle.choice.specs.Window.{requestedOf, emptiedOf}
@@ -321,10 +322,11 @@ abbrev pub keysOf : Record → List ℕ
 keysOf r = keys (r .guest .marks .place) (r .guest .marks .set)
 
 -- a mark is set (b), or one that is set is cleared: why it is refused, and what it leaves
+abbrev pub refusalIn : Bool → ℕ → Tally → List ℕ → Marks → ℕ → ℕ → ℕ
+refusalIn b levels t order marks a n = number (cond b (setRefusal levels t order marks a n) (clearRefusal levels t order marks a n))
+
 abbrev pub markRefusal : Bool → Record → ℕ → ℕ → ℕ
-markRefusal b r a n =
-    number (cond b (setRefusal (r .layout .levels) (r .guest .choice .tally) (r .guest .choice .order) (r .guest .marks) a n)
-    (clearRefusal (r .layout .levels) (r .guest .choice .tally) (r .guest .choice .order) (r .guest .marks) a n))
+markRefusal b r a n = refusalIn b (r .layout .levels) (r .guest .choice .tally) (r .guest .choice .order) (r .guest .marks) a n
 
 abbrev pub movedReply : Record → Move → Reply
 movedReply r x = cond (x .ok) (record { unit = x .unit; answer = answer.Ok }) (record { unit = r; answer = answer.Refused 11 })

@@ -1,8 +1,7 @@
 // The calls on a record in parts: its head by value and its arrays lent, so that no call copies an array. Each is told whether the record
 // breaks no rule (3); what comes back is what the call can change of the head.
 ghost use mathlib.Core.Path.{_≡_};
-ghost use Prim.Native.Nat.{ℕ, _<_, _≤_};
-ghost use mathlib.Core.List.{List};
+ghost use Prim.Native.Nat.{_<_, _≤_};
 ghost use lib.ListN.{length};
 ghost use lib.Dec.{T};
 ghost use Rattle.spec.specs.Bytes.{widthFits};
@@ -15,7 +14,7 @@ ghost use Rattle.request.specs.Access.{Inside, ReachesFrame};
 ghost use mathlib.Core.Bool.{true};
 ghost use Rattle.automatic.specs.Moves.{Ready, movedIn, keptBy};
 ghost use mathlib.Core.Logic.{_≢_};
-ghost use Rattle.calls.specs.Calls.{refusalBy, addressOk, Sound, nothing, headHeld, headHost, heldIn, spaceIn, servedReply, windowedReply, windowedTurn, tallyAfter, turnReply, turnIn, loadCall, chargedIn, OwedFits, settledTurn, storedBy, storeChargedOf, storeCall, deviceCall, rootCall, unmappedOf, changedBy, mapCall, unmapCall, ended, forecastCall, markRefusal, markMoves, markCall};
+ghost use Rattle.calls.specs.Calls.{refusalBy, addressOk, Sound, nothing, headHeld, heldIn, spaceIn, servedReply, windowedReply, windowedTurn, tallyAfter, turnReply, turnIn, remapReply, unmovedBy, loadCall, chargedIn, OwedFits, settledTurn, storedBy, storeChargedOf, storeCall, deviceCall, rootCall, unmappedOf, changedBy, mapCall, unmapCall, ended, forecastCall, refusalIn, markMoves, markCall};
 use automatic::Moved;
 use charge::Charge;
 use choice::Tally;
@@ -107,21 +106,6 @@ pub fn with_held(head: Head, held: Held) -> Head
     )
 }
 
-// With another pool of the host tables.
-fn with_host(head: Head, host: Pool) -> Head
-    ensures { λ r. ⌜ r ≡ headHost head host ⌝ }
-{
-    let shadow = head.pools.shadow;
-    let frame = head.held;
-    head.with_tables(
-        Pools {
-            host: host,
-            shadow: shadow,
-        },
-        frame,
-    )
-}
-
 // Nothing is held.
 fn held_none() -> Held
     ensures { λ r. ⌜ r ≡ nothing ⌝ }
@@ -161,7 +145,7 @@ fn address_ok(levels: u64, device: bool, address: u64, width: u64) -> bool
 
 // Why a load or a store, or a device's, is refused before it is served: 3, 15, 4, or 0. fits: the record breaks no rule.
 fn request_refusal(fits: bool, levels: u64, device: bool, address: u64, width: u64) -> u64
-    requires { ⌜ fits ≡ true → levels < 6 ⌝ }
+    requires { ⌜ (fits ≡ true → levels < 6) ⌝ }
     ensures { λ r. ⌜ r ≡ refusalBy fits (widthFits width) (addressOk device (ofLevels levels) address width) ⌝ }
 {
     if !fits {
@@ -554,7 +538,7 @@ fn unmoved(head: Head, number: u64) -> Remapped
 }
 
 // After a change of the mapping of a guest frame that left this pool of the host tables: the held paths that used it are dropped.
-fn remapped<'a>(
+fn drop_users<'a>(
     head: Head,
     place: &'a [u64; 64],
     ring: &'a [u64; 64],
@@ -608,7 +592,7 @@ fn changed<'a>(
         return unmoved(head, change.refusal);
     }
     match was {
-        HostWalk::Found { page, writable } => remapped(head, place, ring, order, host, mem, guest),
+        HostWalk::Found { page, writable } => drop_users(head, place, ring, order, host, mem, guest),
         HostWalk::Absent { reads } => Remapped {
             host: host,
             held: held_in(head),
@@ -683,7 +667,7 @@ fn mark_refusal<'a>(
     setting: bool,
 ) -> u64
     requires { ⌜ (head .layout .levels < 6) × (head .tally .count ≤ 64) ⌝ }
-    ensures { λ r. ⌜ (ring : List ℕ) → r ≡ markRefusal setting (recordBy head (now (place .entry)) ring (now (order .entry))) (at .0) level ⌝ }
+    ensures { λ r. ⌜ r ≡ refusalIn setting (head .layout .levels) (head .tally) (now (order .entry)) (record { set = head .set; place = now (place .entry) }) (at .0) level ⌝ }
 {
     if setting {
         choice::set_refusal(head.tally, order, place, head.set, head.layout.levels, at, level)

@@ -1,64 +1,68 @@
--- The number says which test failed; where none did, the record has its layout and what it holds in range, and its marks give the depth.
+-- The number says which test failed; where none did, the record has its layout and what it holds in range, and its marks give the depth. Assumes nothing.
 use mathlib.Core.Path.{sym, ap, _∙_}
+use mathlib.Core.Bool.{false}
 use lib.ListN.{length}
 use Rattle.spec.specs.Bytes.{widthFits}
 use Rattle.spec.specs.Refusal.{addressFits}
-use mathlib.Core.Bool.{true, false}
 use Rattle.record.specs.Record.{recordBy, configOf, headTables, fitsOf}
-use Rattle.calls.proofs.Laws.{turned-away, taken, all-taken}
-use Rattle.calls.proofs.Ranges.{fits-sound, fits-held, fits-inside}
-use Rattle.calls.proofs.Stores.{off-call}
 use Rattle.calls.specs.Calls.{addressOk, headHeld, servedBy, storeCall}
+use Rattle.calls.proofs.Laws.{turned-away, taken, all-taken}
+use Rattle.calls.proofs.Ranges.{fits-levels, fits-sound, fits-held, fits-inside}
+use Rattle.calls.proofs.Stores.{off-call}
 use borrow.Author.Needs.{needs}
 use Rattle.calls.proofs.store_at.Statement.{statement}
 use Rattle.calls.proofs.store_at.Tie as tie
 
+held-in-requires : tie.Need-held-in-requires
+held-in-requires c κs = search needs
+
+request-refusal-requires : tie.Need-request-refusal-requires
+request-refusal-requires c κs = λ e. fits-levels (recordBy (c .before .before .args .head) (c .before .before .args .place .now) (c .before .before .args .ring .now) (c .before .before .args .order .now)) _ (sym (c .before .before .pre .0) ∙ e)
+
+refused-requires : tie.Need-refused-requires
+refused-requires c κs = search needs
+
 returns : tie.Need-returns
 unfolding storeCall headHeld headTables
 returns c =
-    let args = c .before .before .before .before .before .args in
-    let held-in = c .before .before .before .held-in in
-    let request-refusal = c .before .before .request-refusal in
-    let if1 = c .before .if1 in
-    let refused = c .refused in
-    rw (refused .ensures, held-in .ensures) (turned-away (recordBy (args .head) (args .place .now) (args .ring .now) (args .order .now)) (args .mem .now) (args .width) (addressOk false (configOf (recordBy (args .head) (args .place .now) (args .ring .now) (args .order .now))) (args .address) (args .width)) _ _ (request-refusal .ensures) (if1 .taken))
+    let r = recordBy (c .before .before .before .before .before .args .head) (c .before .before .before .before .before .args .place .now) (c .before .before .before .before .before .args .ring .now) (c .before .before .before .before .before .args .order .now) in
+    let told = rw (c .before .before .before .before .before .pre .0) at (c .before .before .request-refusal .ensures) in
+    rw (c .refused .ensures, c .before .before .before .held-in .ensures) (turned-away r (c .before .before .before .before .before .args .mem .now) (c .before .before .before .before .before .args .width) (addressOk false (configOf r) (c .before .before .before .before .before .args .address) (c .before .before .before .before .before .args .width)) _ _ told (c .before .if1 .taken))
+
+depth-requires : tie.Need-depth-requires
+depth-requires c κs = search needs
+
+space-in-requires : tie.Need-space-in-requires
+space-in-requires c κs = search needs
 
 store-requires : tie.Need-store-requires
 store-requires c κs =
-    let args = c .before .before .before .before .before .before .before .args in
-    let held-in = c .before .before .before .before .before .held-in in
-    let request-refusal = c .before .before .before .before .request-refusal in
-    let if1 = c .before .before .before .if1 in
-    let space-in = c .space-in in
-    let r = recordBy (args .head) (args .place .now) (args .ring .now) (args .order .now) in
-    let t = all-taken (fitsOf r (length (args .mem .now))) (widthFits (args .width)) (addressOk false (configOf r) (args .address) (args .width)) (sym (if1 .left) ∙ request-refusal .ensures) in
-    rw (space-in .ensures, held-in .ensures) (fits-sound r _ (t .0) .0, fits-held r _ (t .0), fits-inside (addressFits (configOf r) (args .address)) (args .address) (args .width) (t .1) (t .2))
+    let r = recordBy (c .before .before .before .before .before .before .before .args .head) (c .before .before .before .before .before .before .before .args .place .now) (c .before .before .before .before .before .before .before .args .ring .now) (c .before .before .before .before .before .before .before .args .order .now) in
+    let told = rw (c .before .before .before .before .before .before .before .pre .0) at (c .before .before .before .before .request-refusal .ensures) in
+    let t = all-taken (fitsOf r (length (c .before .before .before .before .before .before .before .args .mem .now))) (widthFits (c .before .before .before .before .before .before .before .args .width)) (addressOk false (configOf r) (c .before .before .before .before .before .before .before .args .address) (c .before .before .before .before .before .before .before .args .width)) (sym (c .before .before .before .if1 .left) ∙ told) in
+    rw (c .space-in .ensures, c .before .before .before .before .before .held-in .ensures) (fits-sound r _ (t .0) .0, fits-held r _ (t .0), fits-inside (addressFits (configOf r) (c .before .before .before .before .before .before .before .args .address)) (c .before .before .before .before .before .before .before .args .address) (c .before .before .before .before .before .before .before .args .width) (t .1) (t .2))
+
+same-length : tie.Need-same-length
+same-length c = search needs
 
 returns-2 : tie.Need-returns-2
 unfolding storeCall
 returns-2 c =
-    let pre = c .before .before .before .before .before .before .before .before .before .before .pre in
-    let args = c .before .before .before .before .before .before .before .before .before .before .args in
-    let held-in = c .before .before .before .before .before .before .before .before .held-in in
-    let request-refusal = c .before .before .before .before .before .before .before .request-refusal in
-    let if1 = c .before .before .before .before .before .before .if1 in
-    let depth = c .before .before .before .before .before .depth in
-    let space-in = c .before .before .before .space-in in
-    let store = c .before .before .store in
-    let mem = c .before .mem in
-    ap (servedBy (recordBy (args .head) (args .place .now) (args .ring .now) (args .order .now))) (rw (depth .ensures, held-in .ensures, space-in .ensures) at (store .ensures)) ∙ off-call (recordBy (args .head) (args .place .now) (args .ring .now) (args .order .now)) pre (args .mem .now) (args .address) (args .width) (args .value)
-    ∙ taken (recordBy (args .head) (args .place .now) (args .ring .now) (args .order .now)) (args .mem .now) (args .width) (addressOk false (configOf (recordBy (args .head) (args .place .now) (args .ring .now) (args .order .now))) (args .address) (args .width)) _ (sym (if1 .left) ∙ request-refusal .ensures)
+    let r = recordBy (c .before .before .before .before .before .before .before .before .before .before .args .head) (c .before .before .before .before .before .before .before .before .before .before .args .place .now) (c .before .before .before .before .before .before .before .before .before .before .args .ring .now) (c .before .before .before .before .before .before .before .before .before .before .args .order .now) in
+    let told = rw (c .before .before .before .before .before .before .before .before .before .before .pre .0) at (c .before .before .before .before .before .before .before .request-refusal .ensures) in
+    ap (servedBy r) (rw (c .before .before .before .before .before .depth .ensures, c .before .before .before .before .before .before .before .before .held-in .ensures, c .before .before .before .space-in .ensures) at (c .before .before .store .ensures)) ∙ off-call r (c .before .before .before .before .before .before .before .before .before .before .pre .1) (c .before .before .before .before .before .before .before .before .before .before .args .mem .now) (c .before .before .before .before .before .before .before .before .before .before .args .address) (c .before .before .before .before .before .before .before .before .before .before .args .width) (c .before .before .before .before .before .before .before .before .before .before .args .value)
+    ∙ taken r (c .before .before .before .before .before .before .before .before .before .before .args .mem .now) (c .before .before .before .before .before .before .before .before .before .before .args .width) (addressOk false (configOf r) (c .before .before .before .before .before .before .before .before .before .before .args .address) (c .before .before .before .before .before .before .before .before .before .before .args .width)) _ (sym (c .before .before .before .before .before .before .if1 .left) ∙ told)
 
 pub store-at-spec : {M : Type 1} → statement M
 store-at-spec =
     tie.close
     (tie.spec
-    (λ c κs. search needs)
-    (λ c κs. search needs)
-    (λ c κs. search needs)
+    held-in-requires
+    request-refusal-requires
+    refused-requires
     returns
-    (λ c κs. search needs)
-    (λ c κs. search needs)
+    depth-requires
+    space-in-requires
     store-requires
-    (λ c. search needs)
+    same-length
     returns-2)

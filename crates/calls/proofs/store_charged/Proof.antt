@@ -1,47 +1,85 @@
--- The drops keep their ranges. Assumes nothing.
-use mathlib.Core.Path.{sym, ap, _∙_, subst}
-use mathlib.Core.Bool.{true}
-use Rattle.request.specs.Access.{settledOf}
-use Prim.Native.Nat.{_≤_}
-use Rattle.words.specs.After.{After}
+-- Damage met by the drops, or the charge on what they left, and then the rest. Assumes nothing.
+use mathlib.Core.Path.{_≡_, refl, sym, ap, _∙_, subst}
+use Prim.Native.Nat.{_+_, _-_, _*_, _^_, _≤_}
+use native.Mathlib.Omega.{arith}
+use borrow.Author.Tests.{not-true, not-false}
+use lib.Pow.{pow-mono}
+use Rattle.spec.specs.Entry.{wordOf}
+use Rattle.words.specs.After.{After, yields}
+use Rattle.record.specs.Record.{recordBy, configOf, headTables}
 use Rattle.request.specs.declared.Put.{Put}
 use Rattle.request.proofs.Leaves.{drop-leaves}
-use Rattle.spec.specs.Entry.{wordOf}
-use Rattle.record.specs.Record.{configOf}
-use Rattle.calls.specs.Calls.{hostTop, rootOf, paidBy, storeChargedOf}
+use Rattle.automatic.specs.Moves as automatic
+use Rattle.automatic.specs.Moves.{movedIn, keptBy}
+use Rattle.calls.specs.declared.Turn.{Turn}
+use Rattle.calls.specs.Calls.{headHeld, withHeld, turnIn, storeChargedOf}
+use Rattle.calls.proofs.Stores.{settled-turn}
 use borrow.Author.Needs.{needs}
 use Rattle.calls.proofs.store_charged.Statement.{statement}
 use Rattle.calls.proofs.store_charged.Tie as tie
 
-charged-paid-requires : tie.Need-charged-paid-requires
-charged-paid-requires c κs =
-    let pre = c .before .before .before .before .before .before .before .before .before .pre in
-    let args = c .before .before .before .before .before .before .before .before .before .args in
-    let held = c .before .before .before .before .before .before .before .held in
-    let pool = c .before .before .before .before .before .before .pool in
-    let page = c .before .before .before .before .before .page in
-    let drop-readers = c .before .before .before .drop-readers in
-    let mem = c .before .before .mem in
-    let d = drop-leaves (configOf (args .unit)) (args .mem .now) (args .owed .held .pool) (args .owed .page .0) (wordOf (args .address)) (pre .2 .0) in
-    (pre .0, pre .1, pre .2, subst (λ (o : After Put). o .result .pool .fresh ≤ args .unit .layout .shadows) (sym (drop-readers .ensures)) (d .fresh), subst (λ (o : After Put). o .result .exits ≤ 1) (sym (drop-readers .ensures)) (d .exits))
+drop-readers-requires : tie.Need-drop-readers-requires
+drop-readers-requires c κs = search needs
+
+refused-in-requires : tie.Need-refused-in-requires
+refused-in-requires c κs = search needs
+
+same-length : tie.Need-same-length
+same-length c = search needs
 
 returns : tie.Need-returns
 unfolding storeChargedOf
 returns c =
-    let args = c .before .before .before .before .before .before .before .before .before .before .before .before .args in
-    let held = c .before .before .before .before .before .before .before .before .before .before .held in
-    let page = c .before .before .before .before .before .before .before .before .page in
-    let drop-readers = c .before .before .before .before .before .before .drop-readers in
-    let charged-paid = c .before .before .charged-paid in
-    let r = args .unit in
-    let x = args .owed in
-    charged-paid .ensures ∙ ap (paidBy r (args .address) (args .width) (args .value) (x .page .0) (x .reads) (x .exits) (settledOf (configOf r) (hostTop r) (rootOf r) true (args .address) (x .sets)) (x .held) (x .prefix)) (drop-readers .ensures)
+    let r = recordBy (c .before .before .before .before .before .before .before .before .before .before .before .before .args .head) (c .before .before .before .before .before .before .before .before .before .before .before .before .args .place .now) (c .before .before .before .before .before .before .before .before .before .before .before .before .args .ring .now) (c .before .before .before .before .before .before .before .before .before .before .before .before .args .order .now) in
+    rw (← c .before .before .before .before .before .before .drop-readers .ensures, not-true (c .before .before .before .before .before .before .drop-readers .result .ok) (c .before .if1 .taken), c .refused-in .ensures)
+
+with-shadow-requires : tie.Need-with-shadow-requires
+with-shadow-requires c κs = search needs
+
+charge-requires : tie.Need-charge-requires
+unfolding headTables
+charge-requires c κs =
+    let r = recordBy (c .before .before .before .before .before .before .before .before .before .before .before .before .before .before .before .before .before .args .head) (c .before .before .before .before .before .before .before .before .before .before .before .before .before .before .before .before .before .args .place .now) (c .before .before .before .before .before .before .before .before .before .before .before .before .before .before .before .before .before .args .ring .now) (c .before .before .before .before .before .before .before .before .before .before .before .before .before .before .before .before .before .args .order .now) in
+    let fresh = subst (λ (o : After Put). o .result .pool .fresh ≤ c .before .before .before .before .before .before .before .before .before .before .before .before .before .before .before .before .before .args .head .layout .shadows) (sym (c .before .before .before .before .before .before .before .before .before .before .before .drop-readers .ensures)) (drop-leaves (configOf r) (c .before .before .before .before .before .before .before .before .before .before .before .before .before .before .before .before .before .args .mem .now) (c .before .before .before .before .before .before .before .before .before .before .before .before .before .before .before .before .before .args .owed .held .pool) (c .before .before .before .before .before .before .before .before .before .before .before .before .before .before .before .before .before .args .owed .page .0) (wordOf (c .before .before .before .before .before .before .before .before .before .before .before .before .before .before .before .before .before .args .address)) (c .before .before .before .before .before .before .before .before .before .before .before .before .before .before .before .before .before .pre .2 .0) .fresh) in
+    let few : 2 ^ (9 * (c .before .before .before .before .before .before .before .before .before .before .before .before .before .before .before .before .before .args .head .layout .levels - 1)) ≤ 2 ^ 45 = pow-mono {i = 9 * (c .before .before .before .before .before .before .before .before .before .before .before .before .before .before .before .before .before .args .head .layout .levels - 1)} {j = 45} (omega (arith, c .before .before .before .before .before .before .before .before .before .before .before .before .before .before .before .before .before .pre .0 .1)) in
+    (rw (c .before .before .before .before .with-shadow .ensures) ((c .before .before .before .before .before .before .before .before .before .before .before .before .before .before .before .before .before .pre .0 .0 .0, fresh), c .before .before .before .before .before .before .before .before .before .before .before .before .before .before .before .before .before .pre .0 .1, c .before .before .before .before .before .before .before .before .before .before .before .before .before .before .before .before .before .pre .0 .2), omega (arith, c .before .before .before .before .before .before .before .before .before .before .before .before .before .before .before .before .before .pre .2 .3))
+
+add-exits : tie.Need-add-exits
+add-exits c =
+    let r = recordBy (c .before .before .before .before .before .before .before .before .before .before .before .before .before .before .before .before .before .before .before .before .before .before .args .head) (c .before .before .before .before .before .before .before .before .before .before .before .before .before .before .before .before .before .before .before .before .before .before .args .place .now) (c .before .before .before .before .before .before .before .before .before .before .before .before .before .before .before .before .before .before .before .before .before .before .args .ring .now) (c .before .before .before .before .before .before .before .before .before .before .before .before .before .before .before .before .before .before .before .before .before .before .args .order .now) in
+    let one = subst (λ (o : After Put). o .result .exits ≤ 1) (sym (c .before .before .before .before .before .before .before .before .before .before .before .before .before .before .before .before .drop-readers .ensures)) (drop-leaves (configOf r) (c .before .before .before .before .before .before .before .before .before .before .before .before .before .before .before .before .before .before .before .before .before .before .args .mem .now) (c .before .before .before .before .before .before .before .before .before .before .before .before .before .before .before .before .before .before .before .before .before .before .args .owed .held .pool) (c .before .before .before .before .before .before .before .before .before .before .before .before .before .before .before .before .before .before .before .before .before .before .args .owed .page .0) (wordOf (c .before .before .before .before .before .before .before .before .before .before .before .before .before .before .before .before .before .before .before .before .before .before .args .address)) (c .before .before .before .before .before .before .before .before .before .before .before .before .before .before .before .before .before .before .before .before .before .before .pre .2 .0) .exits) in
+    omega (arith, c .before .before .before .before .before .before .before .before .before .before .before .before .before .before .before .before .before .before .before .before .before .before .pre .2 .2, one)
+
+store-settled-requires : tie.Need-store-settled-requires
+store-settled-requires c κs = (c .before .before .before .before .before .before .before .before .before .before .before .before .before .before .before .before .before .before .before .before .before .before .before .pre .0 .0 .0, c .before .before .before .before .before .before .before .before .before .before .before .before .before .before .before .before .before .before .before .before .before .before .before .pre .2 .1, c .before .before .before .before .before .before .before .before .before .before .before .before .before .before .before .before .before .before .before .before .before .before .before .pre .1)
+
+same-length-2 : tie.Need-same-length-2
+same-length-2 c = c .before .before .store-settled .kept .1 .1 .0 ∙ c .before .before .before .before .before .before .before .before .charge .kept .1 .1 .1 .1 .0 ∙ c .before .before .before .before .before .before .before .before .before .before .before .before .before .before .before .before .before .before .before .before .drop-readers .kept .0
+
+returns-2 : tie.Need-returns-2
+unfolding storeChargedOf headHeld headTables
+returns-2 c =
+    let r = recordBy (c .before .before .before .before .before .before .before .before .before .before .before .before .before .before .before .before .before .before .before .before .before .before .before .before .before .before .args .head) (c .before .before .before .before .before .before .before .before .before .before .before .before .before .before .before .before .before .before .before .before .before .before .before .before .before .before .args .place .now) (c .before .before .before .before .before .before .before .before .before .before .before .before .before .before .before .before .before .before .before .before .before .before .before .before .before .before .args .ring .now) (c .before .before .before .before .before .before .before .before .before .before .before .before .before .before .before .before .before .before .before .before .before .before .before .before .before .before .args .order .now) in
+    let x = c .before .before .before .before .before .before .before .before .before .before .before .before .before .before .before .before .before .before .before .before .before .before .before .before .before .before .args .owed in
+    let y = yields (movedIn (c .before .before .before .before .before .before .before .before .charge .last .1 .0) (c .before .before .before .before .before .before .before .before .charge .last .1 .1 .0) (c .before .before .before .before .before .before .before .before .charge .last .1 .1 .1 .0) (c .before .before .before .before .before .before .before .before .charge .result)) (c .before .before .before .before .before .before .before .before .charge .last .1 .1 .1 .1 .0) in
+    let q = withHeld r (record { pool = c .before .before .before .before .before .before .before .before .before .before .before .before .before .before .before .before .before .before .before .before .drop-readers .result .pool; frame = x .held .frame }) in
+    let m = automatic.chargedOf q (c .before .before .before .before .before .before .before .before .before .before .before .before .before .before .before .before .before .before .before .before .drop-readers .last .0) (x .prefix) in
+    let went : y ≡ keptBy q m = rw (c .before .before .before .before .before .before .before .before .before .before .before .before .before .with-shadow .ensures) at (c .before .before .before .before .before .before .before .before .charge .ensures) in
+    rw (← c .before .before .before .before .before .before .before .before .before .before .before .before .before .before .before .before .before .before .before .before .drop-readers .ensures, not-false (c .before .before .before .before .before .before .before .before .before .before .before .before .before .before .before .before .before .before .before .before .drop-readers .result .ok) (c .before .before .before .before .before .before .before .before .before .before .before .before .before .before .before .if1 .left))
+    (ap (λ (t : After Turn). yields (turnIn (c .before .before .before .before .before .before .before .before .charge .last .1 .0) (c .before .before .before .before .before .before .before .before .charge .last .1 .1 .0) (c .before .before .before .before .before .before .before .before .charge .last .1 .1 .1 .0) (t .result)) (t .memory)) (c .before .before .store-settled .ensures)
+    ∙ settled-turn (c .before .before .before .before .before .before .before .before .before .before .before .before .before .before .before .before .before .before .before .before .before .before .before .before .before .before .args .head) (c .before .before .before .before .before .before .before .before .before .before .before .before .before .before .before .before .before .before .before .before .before .before .before .before .before .before .args .place .now) (c .before .before .before .before .before .before .before .before .before .before .before .before .before .before .before .before .before .before .before .before .before .before .before .before .before .before .args .ring .now) (c .before .before .before .before .before .before .before .before .before .before .before .before .before .before .before .before .before .before .before .before .before .before .before .before .before .before .args .order .now) (c .before .before .before .before .before .before .before .before .before .before .before .before .before .before .before .before .before .before .before .before .before .before .before .before .before .before .args .address) (c .before .before .before .before .before .before .before .before .before .before .before .before .before .before .before .before .before .before .before .before .before .before .before .before .before .before .args .width) (c .before .before .before .before .before .before .before .before .before .before .before .before .before .before .before .before .before .before .before .before .before .before .before .before .before .before .args .value) x (x .exits + c .before .before .before .before .before .before .before .before .before .before .before .before .before .before .before .before .before .before .before .before .drop-readers .result .exits) q m (yields (c .before .before .before .before .before .before .before .before .charge .result) (c .before .before .before .before .before .before .before .before .charge .last .1 .1 .1 .1 .0)) _ _ _ refl refl refl went)
 
 pub store-charged-spec : {M : Type 1} → statement M
 store-charged-spec =
     tie.close
     (tie.spec
-    (λ c κs. search needs)
-    charged-paid-requires
-    (λ c. search needs)
-    returns)
+    drop-readers-requires
+    refused-in-requires
+    same-length
+    returns
+    with-shadow-requires
+    charge-requires
+    add-exits
+    store-settled-requires
+    same-length-2
+    returns-2)

@@ -1,96 +1,83 @@
--- The number says which test failed; where none did the translation and the first part of the store are those of the call. Assumes nothing.
+-- The number says which test failed; where none did the translation is that of the call, and the rest goes by its charge. Assumes nothing.
 use mathlib.Core.Path.{sym, ap, _∙_}
+use mathlib.Core.Bool.{true, false}
 use native.Mathlib.Omega.{arith}
 use lib.ListN.{length}
 use Rattle.spec.specs.Bytes.{widthFits}
 use Rattle.spec.specs.Refusal.{addressFits}
-use mathlib.Core.Bool.{true, false}
-use Rattle.record.specs.Record.{recordBy, configOf, headTables, headTally, fitsOf}
 use Rattle.words.specs.After.{After}
-use Rattle.calls.specs.declared.Stored.{Stored}
+use Rattle.record.specs.Record.{recordBy, configOf, fitsOf}
+use Rattle.translate.specs.declared.Translated.{Translated}
 use Rattle.request.proofs.Held.{leaves-as, reaches-as}
+use Rattle.calls.specs.Calls.{addressOk, hostTop, rootOf, heldOf, depthAt, translatedOf, storedBy, storeCall}
 use Rattle.calls.proofs.Laws.{turned-away, taken, all-taken}
-use Rattle.calls.proofs.Ranges.{fits-sound, fits-held, fits-inside, fits-ready}
-use Rattle.calls.proofs.Stores.{on-store, owed-in}
-use Rattle.calls.specs.Calls.{addressOk, headHeld, hostTop, rootOf, heldOf, depthAt, translatedOf, storedFrom, storedLeft, storeCall}
+use Rattle.calls.proofs.Ranges.{fits-levels, fits-sound, fits-held, fits-inside, fits-ready}
 use borrow.Author.Needs.{needs}
 use Rattle.calls.proofs.store_on.Statement.{statement}
 use Rattle.calls.proofs.store_on.Tie as tie
 
+request-refusal-requires : tie.Need-request-refusal-requires
+request-refusal-requires c κs = λ e. fits-levels (recordBy (c .before .args .head) (c .before .args .place .now) (c .before .args .ring .now) (c .before .args .order .now)) _ (sym (c .before .pre .0) ∙ e)
+
+refused-in-requires : tie.Need-refused-in-requires
+refused-in-requires c κs = search needs
+
 returns : tie.Need-returns
-unfolding storeCall headHeld headTables headTally
+unfolding storeCall
 returns c =
-    let args = c .before .before .before .before .before .args in
-    let held-in = c .before .before .before .held-in in
-    let request-refusal = c .before .before .request-refusal in
-    let if1 = c .before .if1 in
-    let refused = c .refused in
-    (rw (refused .ensures, held-in .ensures) (turned-away (recordBy (args .head) (args .place .now) (args .ring .now) (args .order .now)) (args .mem .now) (args .width) (addressOk false (configOf (recordBy (args .head) (args .place .now) (args .ring .now) (args .order .now))) (args .address) (args .width)) _ _ (request-refusal .ensures) (if1 .taken)), tt)
+    let r = recordBy (c .before .before .before .before .args .head) (c .before .before .before .before .args .place .now) (c .before .before .before .before .args .ring .now) (c .before .before .before .before .args .order .now) in
+    let told = rw (c .before .before .before .before .pre .0) at (c .before .before .request-refusal .ensures) in
+    rw (c .refused-in .ensures) (turned-away r (c .before .before .before .before .args .mem .now) (c .before .before .before .before .args .width) (addressOk false (configOf r) (c .before .before .before .before .args .address) (c .before .before .before .before .args .width)) _ _ told (c .before .if1 .taken))
+
+depth-requires : tie.Need-depth-requires
+depth-requires c κs = search needs
+
+space-in-requires : tie.Need-space-in-requires
+space-in-requires c κs = search needs
+
+held-in-requires : tie.Need-held-in-requires
+held-in-requires c κs = search needs
 
 reached-requires : tie.Need-reached-requires
 reached-requires c κs =
-    let args = c .before .before .before .before .before .before .before .args in
-    let held-in = c .before .before .before .before .before .held-in in
-    let request-refusal = c .before .before .before .before .request-refusal in
-    let if1 = c .before .before .before .if1 in
-    let space-in = c .space-in in
-    let r = recordBy (args .head) (args .place .now) (args .ring .now) (args .order .now) in
-    let t = all-taken (fitsOf r (length (args .mem .now))) (widthFits (args .width)) (addressOk false (configOf r) (args .address) (args .width)) (sym (if1 .left) ∙ request-refusal .ensures) in
-    rw (space-in .ensures, held-in .ensures) (fits-sound r _ (t .0) .0, fits-held r _ (t .0))
+    let r = recordBy (c .before .before .before .before .before .before .before .before .args .head) (c .before .before .before .before .before .before .before .before .args .place .now) (c .before .before .before .before .before .before .before .before .args .ring .now) (c .before .before .before .before .before .before .before .before .args .order .now) in
+    let told = rw (c .before .before .before .before .before .before .before .before .pre .0) at (c .before .before .before .before .before .before .request-refusal .ensures) in
+    let t = all-taken (fitsOf r (length (c .before .before .before .before .before .before .before .before .args .mem .now))) (widthFits (c .before .before .before .before .before .before .before .before .args .width)) (addressOk false (configOf r) (c .before .before .before .before .before .before .before .before .args .address) (c .before .before .before .before .before .before .before .before .args .width)) (sym (c .before .before .before .before .before .if1 .left) ∙ told) in
+    rw (c .before .space-in .ensures, c .held-in .ensures) (fits-sound r _ (t .0) .0, fits-held r _ (t .0))
 
 store-from-requires : tie.Need-store-from-requires
 store-from-requires c κs =
-    let args = c .before .before .before .before .before .before .before .before .before .before .before .before .args in
-    let held-in = c .before .before .before .before .before .before .before .before .before .before .held-in in
-    let request-refusal = c .before .before .before .before .before .before .before .before .before .request-refusal in
-    let if1 = c .before .before .before .before .before .before .before .before .if1 in
-    let depth = c .before .before .before .before .before .before .before .depth in
-    let space-in = c .before .before .before .before .before .space-in in
-    let reached = c .before .before .before .before .reached in
-    let mem = c .before .before .before .mem in
-    let space-in2 = c .space-in2 in
-    let r = recordBy (args .head) (args .place .now) (args .ring .now) (args .order .now) in
-    let t = all-taken (fitsOf r (length (args .mem .now))) (widthFits (args .width)) (addressOk false (configOf r) (args .address) (args .width)) (sym (if1 .left) ∙ request-refusal .ensures) in
-    let went = sym (rw (depth .ensures, held-in .ensures, space-in .ensures) at (reached .ensures)) in
-    let leaves = leaves-as (configOf r) (hostTop r) (args .mem .now) (heldOf r) (rootOf r) true (args .address) (depthAt r (args .address)) (fits-held r _ (t .0)) _ went in
-    let s = fits-sound r _ (t .0) in
-    rw (space-in2 .ensures)
-    (s .0, leaves .held .0, reaches-as (configOf r) (hostTop r) (args .mem .now) (heldOf r) (rootOf r) true (args .address) (depthAt r (args .address)) (fits-held r _ (t .0)) _ (s .0 .3) went, fits-inside (addressFits (configOf r) (args .address)) (args .address) (args .width) (t .1) (t .2), (let k = leaves .exits in omega arith))
+    let r = recordBy (c .before .before .before .before .before .before .before .before .before .before .before .before .before .before .before .args .head) (c .before .before .before .before .before .before .before .before .before .before .before .before .before .before .before .args .place .now) (c .before .before .before .before .before .before .before .before .before .before .before .before .before .before .before .args .ring .now) (c .before .before .before .before .before .before .before .before .before .before .before .before .before .before .before .args .order .now) in
+    let told = rw (c .before .before .before .before .before .before .before .before .before .before .before .before .before .before .before .pre .0) at (c .before .before .before .before .before .before .before .before .before .before .before .before .before .request-refusal .ensures) in
+    let t = all-taken (fitsOf r (length (c .before .before .before .before .before .before .before .before .before .before .before .before .before .before .before .args .mem .now))) (widthFits (c .before .before .before .before .before .before .before .before .before .before .before .before .before .before .before .args .width)) (addressOk false (configOf r) (c .before .before .before .before .before .before .before .before .before .before .before .before .before .before .before .args .address) (c .before .before .before .before .before .before .before .before .before .before .before .before .before .before .before .args .width)) (sym (c .before .before .before .before .before .before .before .before .before .before .before .before .if1 .left) ∙ told) in
+    let went = rw (c .before .before .before .before .before .before .before .before .before .before .depth .ensures, c .before .before .before .before .before .before .before .held-in .ensures, c .before .before .before .before .before .before .before .before .space-in .ensures) at (c .before .before .before .before .before .before .reached .ensures) in
+    let leaves = leaves-as (configOf r) (hostTop r) (c .before .before .before .before .before .before .before .before .before .before .before .before .before .before .before .args .mem .now) (heldOf r) (rootOf r) true (c .before .before .before .before .before .before .before .before .before .before .before .before .before .before .before .args .address) (depthAt r (c .before .before .before .before .before .before .before .before .before .before .before .before .before .before .before .args .address)) (fits-held r _ (t .0)) _ (sym went) in
+    let reaches = reaches-as (configOf r) (hostTop r) (c .before .before .before .before .before .before .before .before .before .before .before .before .before .before .before .args .mem .now) (heldOf r) (rootOf r) true (c .before .before .before .before .before .before .before .before .before .before .before .before .before .before .before .args .address) (depthAt r (c .before .before .before .before .before .before .before .before .before .before .before .before .before .before .before .args .address)) (fits-held r _ (t .0)) _ (fits-sound r _ (t .0) .0 .3) (sym went) in
+    (fits-ready r _ (t .0), c .before .before .before .before .before .before .before .before .before .before .before .before .before .before .before .pre .1, leaves .held .0, reaches, fits-inside (addressFits (configOf r) (c .before .before .before .before .before .before .before .before .before .before .before .before .before .before .before .args .address)) (c .before .before .before .before .before .before .before .before .before .before .before .before .before .before .before .args .address) (c .before .before .before .before .before .before .before .before .before .before .before .before .before .before .before .args .width) (t .1) (t .2), (let k = leaves .exits in omega arith))
+
+same-length : tie.Need-same-length
+same-length c = search needs
 
 returns-2 : tie.Need-returns-2
 unfolding storeCall translatedOf
 returns-2 c =
-    let pre = c .before .before .before .before .before .before .before .before .before .before .before .before .before .before .before .pre in
-    let args = c .before .before .before .before .before .before .before .before .before .before .before .before .before .before .before .args in
-    let held-in = c .before .before .before .before .before .before .before .before .before .before .before .before .before .held-in in
-    let request-refusal = c .before .before .before .before .before .before .before .before .before .before .before .before .request-refusal in
-    let if1 = c .before .before .before .before .before .before .before .before .before .before .before .if1 in
-    let depth = c .before .before .before .before .before .before .before .before .before .before .depth in
-    let space-in = c .before .before .before .before .before .before .before .before .space-in in
-    let reached = c .before .before .before .before .before .before .before .reached in
-    let mem = c .before .before .before .before .before .before .mem in
-    let space-in2 = c .before .before .before .space-in2 in
-    let store-from = c .before .before .store-from in
-    let r = recordBy (args .head) (args .place .now) (args .ring .now) (args .order .now) in
-    let t = all-taken (fitsOf r (length (args .mem .now))) (widthFits (args .width)) (addressOk false (configOf r) (args .address) (args .width)) (sym (if1 .left) ∙ request-refusal .ensures) in (
-      ap (λ (o : After Stored). storedLeft r (args .address) (args .width) (args .value) (o .result) (o .memory)) (rw (space-in2 .ensures, held-in .ensures) at (store-from .ensures .0) ∙ ap (storedFrom (configOf r) (hostTop r) (rootOf r) (heldOf r) (args .address) (args .width) (args .value)) (rw (depth .ensures, held-in .ensures, space-in .ensures) at (reached .ensures)))
-          ∙ on-store r pre (args .address) (args .width) (args .value) (translatedOf r (args .mem .now) true (args .address))
-          ∙ taken r (args .mem .now) (args .width) (addressOk false (configOf r) (args .address) (args .width)) _ (sym (if1 .left) ∙ request-refusal .ensures),
-      owed-in r (args .address) (args .width) (store-from .result) (fits-ready r _ (t .0)) (fits-inside (addressFits (configOf r) (args .address)) (args .address) (args .width) (t .1) (t .2)) (rw (space-in2 .ensures) at (store-from .ensures .1)),
-    )
+    let r = recordBy (c .before .before .before .before .before .before .before .before .before .before .before .before .before .before .before .before .before .before .args .head) (c .before .before .before .before .before .before .before .before .before .before .before .before .before .before .before .before .before .before .args .place .now) (c .before .before .before .before .before .before .before .before .before .before .before .before .before .before .before .before .before .before .args .ring .now) (c .before .before .before .before .before .before .before .before .before .before .before .before .before .before .before .before .before .before .args .order .now) in
+    let told = rw (c .before .before .before .before .before .before .before .before .before .before .before .before .before .before .before .before .before .before .pre .0) at (c .before .before .before .before .before .before .before .before .before .before .before .before .before .before .before .before .request-refusal .ensures) in
+    let went = rw (c .before .before .before .before .before .before .before .before .before .before .before .before .before .depth .ensures, c .before .before .before .before .before .before .before .before .before .before .held-in .ensures, c .before .before .before .before .before .before .before .before .before .before .before .space-in .ensures) at (c .before .before .before .before .before .before .before .before .before .reached .ensures) in
+    c .before .before .store-from .ensures ∙ ap (λ (o : After Translated). storedBy r (c .before .before .before .before .before .before .before .before .before .before .before .before .before .before .before .before .before .before .args .address) (c .before .before .before .before .before .before .before .before .before .before .before .before .before .before .before .before .before .before .args .width) (c .before .before .before .before .before .before .before .before .before .before .before .before .before .before .before .before .before .before .args .value) o (o .result .walked)) went
+    ∙ taken r (c .before .before .before .before .before .before .before .before .before .before .before .before .before .before .before .before .before .before .args .mem .now) (c .before .before .before .before .before .before .before .before .before .before .before .before .before .before .before .before .before .before .args .width) (addressOk false (configOf r) (c .before .before .before .before .before .before .before .before .before .before .before .before .before .before .before .before .before .before .args .address) (c .before .before .before .before .before .before .before .before .before .before .before .before .before .before .before .before .before .before .args .width)) _ (sym (c .before .before .before .before .before .before .before .before .before .before .before .before .before .before .before .if1 .left) ∙ told)
 
 pub store-on-spec : {M : Type 1} → statement M
 store-on-spec =
     tie.close
     (tie.spec
-    (λ c κs. search needs)
-    (λ c κs. search needs)
-    (λ c κs. search needs)
+    request-refusal-requires
+    refused-in-requires
     returns
-    (λ c κs. search needs)
-    (λ c κs. search needs)
+    depth-requires
+    space-in-requires
+    held-in-requires
     reached-requires
-    (λ c κs. search needs)
     store-from-requires
-    (λ c. search needs)
+    same-length
     returns-2)
