@@ -1,11 +1,13 @@
 // The unit's ten calls by value: record and memory in, record and answer out. Each is a line or two over the call in parts.
 ghost use mathlib.Core.Path.{_≡_};
 ghost use Rattle.words.specs.After.{yields};
-ghost use Rattle.calls.specs.Calls.{Promises, servedReply, windowedReply, turnReply, turnIn, answerOf, openCall, loadCall, storeCall, deviceCall, rootCall, mapCall, unmapCall, markCall, setMarkCall, clearMarkCall, forecastCall};
+ghost use Rattle.calls.specs.Calls.{Promises, servedReply, windowedReply, turnReply, turnIn, remapReply, answerOf, openCall, loadCall, storeCall, deviceCall, rootCall, mapCall, unmapCall, markCall, setMarkCall, clearMarkCall, forecastCall};
+use calls::Remapped;
 use calls::Reply;
 use calls::Turn;
 use choice::Choice;
 use marks::Marks;
+use record::Pools;
 use record::Record;
 use request::Served;
 use spec::Answer;
@@ -43,6 +45,27 @@ fn turned(unit: Record, turn: Turn) -> Reply
 {
     let head = turn.head;
     let answer = turn.answer;
+    Reply {
+        unit: unit.with_head(head),
+        answer: answer,
+    }
+}
+
+// The reply of a map or an unmap.
+fn remapping(unit: Record, x: Remapped) -> Reply
+    ensures { λ r. ⌜ r ≡ remapReply unit x ⌝ }
+{
+    let host = x.host;
+    let shadow = x.held.pool;
+    let frame = x.held.frame;
+    let answer = x.answer;
+    let head = unit.head().with_tables(
+        Pools {
+            host: host,
+            shadow: shadow,
+        },
+        frame,
+    );
     Reply {
         unit: unit.with_head(head),
         answer: answer,
@@ -187,7 +210,7 @@ pub fn load_root(unit: Record, mem: &mut [u64], guest: u64) -> Reply
 pub fn map(unit: Record, mem: &mut [u64], guest: u64, frame: u64, writable: bool) -> Reply
     ensures { λ r. ⌜ Promises r (now (mem .exit)) (mapCall unit (now (mem .entry)) guest frame writable) ⌝ }
 {
-    let t = calls::map_at(
+    let x = calls::map_at(
         unit.head(),
         unit.fits(mem.len()),
         &unit.guest.marks.place,
@@ -198,13 +221,13 @@ pub fn map(unit: Record, mem: &mut [u64], guest: u64, frame: u64, writable: bool
         frame,
         writable,
     );
-    turned(unit, t)
+    remapping(unit, x)
 }
 
 pub fn unmap(unit: Record, mem: &mut [u64], guest: u64) -> Reply
     ensures { λ r. ⌜ Promises r (now (mem .exit)) (unmapCall unit (now (mem .entry)) guest) ⌝ }
 {
-    let t = calls::unmap_at(
+    let x = calls::unmap_at(
         unit.head(),
         unit.fits(mem.len()),
         &unit.guest.marks.place,
@@ -213,7 +236,7 @@ pub fn unmap(unit: Record, mem: &mut [u64], guest: u64) -> Reply
         mem,
         guest,
     );
-    turned(unit, t)
+    remapping(unit, x)
 }
 
 // What loading these addresses one after the other would cost; record and memory are as they were.
