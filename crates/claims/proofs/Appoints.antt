@@ -60,9 +60,8 @@ use Rattle.drops_laws.proofs.Scan.{Dropped}
 use Rattle.drops_laws.proofs.Held.{leafAt}
 use Rattle.drops_laws.proofs.Drops.{prefix-all, drop-prefix}
 use Rattle.drops_laws.proofs.Valid.{framesAt, entryOf, valid-entries, stays-same}
-use Rattle.automatic.specs.declared.Moved.{Moved}
 use Rattle.automatic.specs.Moves as automatic
-use Rattle.automatic.specs.Moves.{moved, heldAfter, leftBy, markedOf, thenBy, withdrawnOf, roomMadeOf, leafKey, appointedOf, appointedIn, enteredOf, judgedOf, chargedOf}
+use Rattle.automatic.specs.Moves.{Move, moved, heldAfter, leftBy, markedOf, thenBy, withdrawnOf, roomMadeOf, leafKey, appointedOf, appointedIn, enteredOf, judgedOf, chargedOf}
 use Rattle.calls.specs.Calls.{hostTop, headHeld, withHeld}
 use Rattle.claims.proofs.Chosen.{chosen-fits}
 use Rattle.claims.proofs.Invariant.{longer, topBy, Inv, stands}
@@ -77,7 +76,7 @@ changed r t x p f = record {
 }
 
 -- a move that left o: no damage is met, and what it leaves stands for the book b
-pub record Moves (s : State) (r : Record) (b : Book) (o : After Moved) : Type 0 where
+pub record Moves (s : State) (r : Record) (b : Book) (o : After Move) : Type 0 where
   pub marks : Marks
   pub choice : Choice
   pub pool : Pool
@@ -337,7 +336,7 @@ module _ (s : State) (r : Record) (m : List ℕ) (h : Inv s r m) (rules : BookRu
 -- ---- the charge of a store
 
 -- of two moves one after the other
-pub moves-then : (s : State) (r : Record) (d e : Book) (o : After Moved) (f : Record → List ℕ → After Moved) → (k : Moves s r d o)
+pub moves-then : (s : State) (r : Record) (d e : Book) (o : After Move) (f : Record → List ℕ → After Move) → (k : Moves s r d o)
     → Moves (record { config = configOf r; machine = s .machine; book = d }) (changed r (k .marks) (k .choice) (k .pool) (k .frame)) e (f (changed r (k .marks) (k .choice) (k .pool) (k .frame)) (k .memory))
     → Moves s r e (thenBy o f)
 moves-then s r d e o f k l = record {

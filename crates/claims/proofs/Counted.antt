@@ -76,9 +76,8 @@ use Rattle.drops_laws.proofs.Valid.{entryOf}
 use Rattle.translate.specs.Translate.{direct, whole, servesOf, foundOf}
 use Rattle.request.specs.Access as access
 use Rattle.request.specs.Access.{settledOf, loadFrom, loadOf, put, droppedBy, droppedOf, bytesIn, finishBy, writtenBy}
-use Rattle.automatic.specs.declared.Moved.{Moved}
 use Rattle.automatic.specs.Moves as moves
-use Rattle.automatic.specs.Moves.{moved, withShadow, heldAfter, markedOf, thenBy, withdrawnOf, roomMadeOf, appointedOf, appointedIn, enteredOf}
+use Rattle.automatic.specs.Moves.{Move, moved, withShadow, heldAfter, markedOf, thenBy, withdrawnOf, roomMadeOf, appointedOf, appointedIn, enteredOf}
 use Rattle.translate.proofs.Fits.{ArrivedIn}
 use Rattle.translate.proofs.Leaves.{translate-leaves}
 use Rattle.request.proofs.Leaves.{drop-leaves}
@@ -122,7 +121,7 @@ module _ (F G : List ℕ → ℕ) (root : ℕ) (e : Held → ℕ) where
     holds : Holds (shadowArea (configOf q)) false (q .pools .shadow) n (leafAt e held) F
     entries : HeldEntries (configOf q) F G root e held
 
-  abbrev Moves : After Moved → Type 0
+  abbrev Moves : After Move → Type 0
   Moves x = (x .result .ok ≡ true) × Tabled (x .result .unit) (x .memory)
 
   marked-moves : (q : Record) (n : List ℕ) (k p : ℕ) (t : Marks) (x : Choice) → k ≤ q .layout .levels → Tabled q n → Moves (markedOf q n k p t x)
@@ -159,7 +158,7 @@ module _ (F G : List ℕ → ℕ) (root : ℕ) (e : Held → ℕ) where
       go true = marked-moves q n (q .layout .levels - 1) p _ _ (omega arith) h
       go false = (refl, h)
 
-  then-moves : (o : After Moved) (f : Record → List ℕ → After Moved) → Moves o → ((q : Record) (n : List ℕ) → Tabled q n → Moves (f q n)) → Moves (thenBy o f)
+  then-moves : (o : After Move) (f : Record → List ℕ → After Move) → Moves o → ((q : Record) (n : List ℕ) → Tabled q n → Moves (f q n)) → Moves (thenBy o f)
   then-moves o f h k = rw (h .0) (k (o .result .unit) (o .memory) (h .1))
 
   charged-moves : (p : ℕ) (q : Record) (n : List ℕ) → Tabled q n → Moves (moves.chargedOf q n p)
@@ -380,7 +379,7 @@ module _ (s : State) (r : Record) (m : List ℕ) (inv : Inv s r m) (a : ℕ) whe
         abbrev paidOn : ℕ → After Put → After Reply
         paidOn p o = paidBy r a w v (t .0) k e (own true sets) (heldOf r) p o
 
-        abbrev finishedOn : ℕ → After Moved → After Reply
+        abbrev finishedOn : ℕ → After Move → After Reply
         finishedOn i x = finishedBy r a w v (t .0) k i (own true sets) x
 
         -- the record after the drops
@@ -396,11 +395,11 @@ module _ (s : State) (r : Record) (m : List ℕ) (inv : Inv s r m) (a : ℕ) whe
             go false = tt
         left-counts n x q (charge.To p) = go (dropsOn n .result .ok) (moves.chargedOf (droppedTo (dropsOn n)) (dropsOn n .memory) p)
           where
-            by : (b : Bool) (o : After Moved) → References x (cond b (ended (o .result .unit) (answer.Done k (e + dropsOn n .result .exits)) (bytesIn (own true sets (o .memory)) (t .0) a w v)) (refused r 11 (o .memory)) .result .answer)
+            by : (b : Bool) (o : After Move) → References x (cond b (ended (o .result .unit) (answer.Done k (e + dropsOn n .result .exits)) (bytesIn (own true sets (o .memory)) (t .0) a w v)) (refused r 11 (o .memory)) .result .answer)
             by true o = q
             by false o = tt
 
-            go : (b : Bool) (o : After Moved) → References x (cond b (finishedOn (e + dropsOn n .result .exits) o) (refused r 11 (dropsOn n .memory)) .result .answer)
+            go : (b : Bool) (o : After Move) → References x (cond b (finishedOn (e + dropsOn n .result .exits) o) (refused r 11 (dropsOn n .memory)) .result .answer)
             go true o = by (o .result .ok) o
             go false o = tt
         left-counts n x q charge.Damaged = tt
@@ -458,7 +457,7 @@ module _ (s : State) (r : Record) (m : List ℕ) (inv : Inv s r m) (a : ℕ) whe
               go false = inr (refuses n (dropsOn n .memory) (outside n))
           either n p (charge.To q) = go (dropsOn n .result .ok)
             where
-              o : After Moved
+              o : After Move
               o = moves.chargedOf (droppedTo (dropsOn n)) (dropsOn n .memory) q
 
               by : (b : Bool) → Either n (cond b (ended (o .result .unit) (answer.Done k (e + dropsOn n .result .exits)) (bytesIn (own true sets (o .memory)) (t .0) a w v)) (refused r 11 (o .memory)))

@@ -14,13 +14,14 @@ use Rattle.spec.specs.Call.{Call, root, map, unmap, setMark, clearMark, load, s
 use Rattle.spec.specs.Run.{State, step, run, after, opened}
 use Rattle.spec_laws.proofs.Runs.{step-config}
 use Rattle.spec_laws.proofs.Rules.{BookRules, step-rules, opened-rules}
+use Rattle.spec.specs.Heard.{bare}
 use Rattle.spec_laws.proofs.Unseen as unseen
 use Rattle.spec_laws.proofs.Covered.{Covered, step-covered}
 use Rattle.record.specs.declared.Record.{Record}
 use Rattle.record.specs.Record.{configOf, configBy}
 use Rattle.record.specs.Open.{refusalOf, firstOf, grantedOf}
 use Rattle.calls.specs.Calls.{openCall, callOf}
-use Rattle.claims.specs.Run.{unitRun, unitAfter, runOf, machineRun}
+use Rattle.claims.specs.Run.{unitRun, unitAfter, runOf, machineRun, heardUnit}
 use Rattle.claims.proofs.Invariant.{Inv, Follows, at}
 use Rattle.claims.proofs.Found as found
 use Rattle.claims.proofs.Opens.{opened-inv, granted-call}
@@ -131,12 +132,7 @@ demand-3 m h s bits on xs g =
 
 -- ---- the automatic choice
 
--- what is heard of a run of the unit: each line but for references, exits and a forecast's figures, with the guest area after it
-abbrev pub heardUnit : List (Line × List ℕ) → List (Line × List ℕ)
-heardUnit [] = []
-heardUnit (o ∷ os) = (unseen.bare (o .0), o .1) ∷ heardUnit os
-
--- and of the specification's
+-- what is heard of the specification's run, with the guest area after each call
 heardAreas : List (Line × Machine) → List (Line × List ℕ)
 heardAreas [] = []
 heardAreas (o ∷ os) = (o .0, o .1 .area) ∷ heardAreas os
@@ -144,7 +140,7 @@ heardAreas (o ∷ os) = (o .0, o .1 .area) ∷ heardAreas os
 heard-same : (os : List (Line × State)) → heardUnit (machineRun os) ≡ heardAreas (unseen.heard os)
 unfolding heardAreas
 heard-same [] = refl
-heard-same (o ∷ os) = ap (λ l. (unseen.bare (o .0), o .1 .machine .area) ∷ l) (heard-same os)
+heard-same (o ∷ os) = ap (λ l. (bare (o .0), o .1 .machine .area) ∷ l) (heard-same os)
 
 -- Document 02, 7). The same list of calls after two granted openings that differ in the automatic choice alone, on any memory: each call says
 -- the same but for references, exits and a forecast's figures, and leaves the same guest area

@@ -42,8 +42,7 @@ use Rattle.choice.proofs.Chosen.{Chosen, chosen-same, chosen-without, chosen-mo
 use Rattle.record.specs.declared.Record.{Record}
 use Rattle.record.specs.Record.{configOf}
 use Rattle.words.specs.After.{After}
-use Rattle.automatic.specs.declared.Moved as declared
-use Rattle.automatic.specs.Moves.{moved, markedOf, roomMadeOf, thenBy, addedOf, above, setOf, clearedOf}
+use Rattle.automatic.specs.Moves.{Move, moved, markedOf, roomMadeOf, thenBy, addedOf, above, takenOverOf, setOf, clearedOf}
 use Rattle.calls.specs.Calls.{refused, judged, movedBy, setMarkCall, clearMarkCall}
 use Rattle.claims.proofs.Invariant.{Inv, Follows, at}
 use Rattle.claims.proofs.Moves.{Moved, after, follows-no, follows-ok, first-positive, inv-fits}
@@ -54,7 +53,7 @@ keep-twice : {A : Type 0} (f : A → Bool) (xs : List A) → keep f (keep f xs) 
 keep-twice f xs = keep-all f (keep f xs) (all-map (λ x. Unit {0} × T (f x)) (λ x. f x ≡ true) (keep f xs) (λ x k. is-true (f x) (k .1)) (all-keep (λ x. Unit {0}) f xs (all-any (λ x. Unit {0}) xs (λ x. tt))))
 
 -- a move that follows the book is the reply of its call
-move-follows : (s : State) (r : Record) (b : Book) (o : After declared.Moved) → Moves s r b o → Moved (record { config = configOf r; machine = s .machine; book = b }) r (movedBy r o)
+move-follows : (s : State) (r : Record) (b : Book) (o : After Move) → Moves s r b o → Moved (record { config = configOf r; machine = s .machine; book = b }) r (movedBy r o)
 move-follows s r b o k = rw (k .done) (record { config = refl; says = refl; next = k .next })
 
 module _ (s : State) (r : Record) (m : List ℕ) (h : Inv s r m) (rules : BookRules (configOf r) (s .book)) (a n : ℕ) where
@@ -195,7 +194,7 @@ module _ (s : State) (r : Record) (m : List ℕ) (h : Inv s r m) (rules : BookRu
           none-there = set-book c (k .marks) (roomMade c b) few (k .next .sorted) (k .next .marks) a n level ∙ room-unset c b M (unset e)
 
       set-moves : Moves s r (operated c M b) (setOf r m a n)
-      unfolding operated setOf
+      unfolding operated setOf takenOverOf
       set-moves = go (automaticAt (x .tally .count) (x .order) i) refl
         where
           go : (z : Bool) → automaticAt (x .tally .count) (x .order) i ≡ z
@@ -224,7 +223,7 @@ module _ (s : State) (r : Record) (m : List ℕ) (h : Inv s r m) (rules : BookRu
   after-rules y free = rw free at (step-rules y (at c s) (h .book) rules)
 
   -- a call on marks, refused as the specification says
-  by-refusal : (y : Call) (o : Option ℕ) (e : After declared.Moved) → o ≡ refusal c y (s .machine) b
+  by-refusal : (y : Call) (o : Option ℕ) (e : After Move) → o ≡ refusal c y (s .machine) b
       → All (λ (z : Bool × ℕ). 0 < z .1) (tests c y (s .machine) b) → told y (at c s) ≡ say.ok
       → (refusal c y (s .machine) b ≡ none → Moved (after c y s) r (movedBy r e))
       → Follows y s r (judged r m (cond (eqb (number o) 0) (movedBy r e) (refused r (number o) m)))

@@ -24,8 +24,7 @@ use Rattle.drops.specs.declared.Left.{Left}
 use Rattle.drops.specs.Drop.{dropPrefixOf}
 use Rattle.drops.proofs.Outside.{prefix-out}
 use Rattle.drops.proofs.Fresh.{prefix-fits}
-use Rattle.automatic.specs.declared.Moved.{Moved}
-use Rattle.automatic.specs.Moves.{moved, withShadow, heldAfter, markedOf, thenBy, withdrawnOf, roomMadeOf, appointedOf, appointedIn, enteredOf, judgedOf, chargedOf, above, addedOf, setOf, clearedOf}
+use Rattle.automatic.specs.Moves.{Move, moved, withShadow, heldAfter, markedOf, thenBy, withdrawnOf, roomMadeOf, appointedOf, appointedIn, enteredOf, judgedOf, chargedOf, above, addedOf, takenOverOf, setOf, clearedOf}
 
 -- from the record r and the memory m moves have led to q and n
 pub record Stays (r : Record) (m : List ℕ) (q : Record) (n : List ℕ) : Type 0 where
@@ -33,7 +32,7 @@ pub record Stays (r : Record) (m : List ℕ) (q : Record) (n : List ℕ) : Type 
   pub fresh : q .pools .shadow .fresh ≤ r .layout .shadows
   pub same : SameOutside (r .layout .hosts) (r .layout .shadows) m n
 
-abbrev pub StaysBy : Record → List ℕ → After Moved → Type 0
+abbrev pub StaysBy : Record → List ℕ → After Move → Type 0
 StaysBy r m x = Stays r m (x .result .unit) (x .memory)
 
 pub first-stays : (r : Record) (m : List ℕ) → r .pools .shadow .fresh ≤ r .layout .shadows → Stays r m r m
@@ -64,7 +63,7 @@ module _ (r : Record) (m : List ℕ) where
       go false = record { layout = s .layout; fresh = s .fresh; same = same }
 
   -- one after another
-  then-stays : (o : After Moved) (f : Record → List ℕ → After Moved) → StaysBy r m o → ((q : Record) (n : List ℕ) → Stays r m q n → StaysBy r m (f q n)) → StaysBy r m (thenBy o f)
+  then-stays : (o : After Move) (f : Record → List ℕ → After Move) → StaysBy r m o → ((q : Record) (n : List ℕ) → Stays r m q n → StaysBy r m (f q n)) → StaysBy r m (thenBy o f)
   then-stays o f s k = go (o .result .ok)
     where
       go : (b : Bool) → StaysBy r m (cond b (f (o .result .unit) (o .memory)) o)
@@ -108,7 +107,7 @@ module _ (r : Record) (m : List ℕ) where
 
   -- the operator's
   pub set-stays : (q : Record) (n : List ℕ) (a k : ℕ) → Stays r m q n → StaysBy r m (setOf q n a k)
-  unfolding setOf
+  unfolding setOf takenOverOf
   set-stays q n a k s = go (placeOf (q .guest .marks .place) (q .guest .marks .set) (keyAt (q .layout .levels) k a))
     where
       by : (i : ℕ) (b : Bool) → StaysBy r m (cond b (markedOf q n (q .layout .levels - k) (above a k) (q .guest .marks) (withoutOf (q .guest .choice) i)) (thenBy (roomMadeOf q n) (addedOf a k)))

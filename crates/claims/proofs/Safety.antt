@@ -73,8 +73,7 @@ use Rattle.request.proofs.Leaves.{Drops, drop-leaves}
 use Rattle.request.proofs.Device.{device-in}
 use Rattle.charge.specs.declared.Charge.{Charge}
 use Rattle.charge.specs.declared.Charge.the-variants as charge
-use Rattle.automatic.specs.declared.Moved.{Moved}
-use Rattle.automatic.specs.Moves.{chargedOf, setOf, clearedOf}
+use Rattle.automatic.specs.Moves.{Move, chargedOf, setOf, clearedOf}
 use Rattle.calls.specs.Calls.{hostTop, heldOf, rootOf, headHeld, headHost, headWindow, headRooted, nothing, ended, refused, judged, placed, withHeld, withHost, windowedBy, servedBy, addressOk, depthAt, translatedOf, chargeAt, finishedBy, paidBy, storeChargedOf, plainStore, storeBy, storedBy, loadCall, storeCall, deviceCall, rootCall, droppedBy, unmappedOf, mappedBy, mapCall, unmapCall, keysOf, markRefusal, movedBy, callOf, setMarkCall, clearMarkCall, forecastCall, openCall}
 use Rattle.calls.proofs.Ranges.{fits-held}
 use Rattle.claims.specs.Safety.{GuestKept, BitsOnly, Numbered, RefusalKept, Untouched, Foretells, Keeps, OpenKeeps}
@@ -440,7 +439,7 @@ module _ (r : Record) (m : List ℕ) where
       paid-kept : (k x p : ℕ) → Kept r m (paidBy r a w v t k x set h p put)
       paid-kept k x p = go (put .result .ok)
         where
-          o : After Moved
+          o : After Move
           o = chargedOf (withHeld r holds) (put .memory) p
 
           stays : StaysBy r (put .memory) o
@@ -567,7 +566,7 @@ module _ (r : Record) (m : List ℕ) where
       (λ x. mapped-kept (t .result .pool) (t .memory) g (z .shadow .0) x (hostWalkOf (configOf r) (hostTop r) m g)))
 
   -- ---- marks
-  moved-kept : (o : After Moved) → StaysBy r m o → Kept r m (movedBy r o)
+  moved-kept : (o : After Move) → StaysBy r m o → Kept r m (movedBy r o)
   moved-kept o s = go (o .result .ok)
     where
       all : Tables r m (o .memory)
@@ -578,7 +577,7 @@ module _ (r : Record) (m : List ℕ) where
       go false = damage-kept r m (o .memory) all
 
   -- a mark is set or cleared, or refused with the number x
-  marked-kept : (x : ℕ) (o : After Moved) → (x ≢ 0 → Numbered x) → (Stays r m r m → StaysBy r m o) → Kept r m (judged r m (cond (eqb x 0) (movedBy r o) (refused r x m)))
+  marked-kept : (x : ℕ) (o : After Move) → (x ≢ 0 → Numbered x) → (Stays r m r m → StaysBy r m o) → Kept r m (judged r m (cond (eqb x 0) (movedBy r o) (refused r x m)))
   marked-kept x o l s = judged-kept r m _ (λ f. go (first-stays r m (fits-layout r (length m) f .shadow .0)) (eqb x 0) refl)
     where
       go : Stays r m r m → (b : Bool) → eqb x 0 ≡ b → Kept r m (cond b (movedBy r o) (refused r x m))

@@ -10,6 +10,7 @@ use Rattle.spec.specs.Answer as say
 use Rattle.spec.specs.Answer.{Line, line}
 use Rattle.spec.specs.Call.{Call}
 use Rattle.spec.specs.Run.{State}
+use Rattle.spec.specs.Heard.{bare}
 use Rattle.record.specs.declared.Record.{Record}
 use Rattle.record.specs.Record.{configOf}
 use Rattle.calls.specs.Calls.{openCall, callOf}
@@ -45,6 +46,11 @@ runOf m h s bits on xs = let e : After Reply = openCall m h s bits on in unitAft
 abbrev pub machineRun : List (Line × State) → List (Line × List ℕ)
 machineRun [] = []
 machineRun (o ∷ os) = (o .0, o .1 .machine .area) ∷ machineRun os
+
+-- what is heard of such a run: each line but for references, exits and a forecast's figures
+abbrev pub heardUnit : List (Line × List ℕ) → List (Line × List ℕ)
+heardUnit [] = []
+heardUnit (o ∷ os) = (bare (o .0), o .1) ∷ heardUnit os
 
 -- ---- refusals of a run
 

@@ -15,6 +15,7 @@ pub mod Count
 pub mod Refusal
 pub mod Forecast
 pub mod Run
+pub mod Heard
 pub mod Serving
 pub mod Quiet
 pub mod Computing

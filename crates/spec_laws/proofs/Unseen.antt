@@ -25,6 +25,7 @@ use Rattle.spec.specs.Call.{Call, Outcome, root, map, unmap, setMark, clearMark
 use Rattle.spec.specs.Count.{Counted, request, storing, bookStep}
 use Rattle.spec.specs.Refusal.{firstFailed, addressFits, levelFits, tests, refusal}
 use Rattle.spec.specs.Run.{State, lineOf, told, answered, step, run, opened}
+use Rattle.spec.specs.Heard.{bare}
 use Rattle.spec_laws.proofs.Lists.{all-any, keep-all, or-left, is-false}
 use Rattle.spec_laws.proofs.Charges.{IfSome, bare-unset}
 use Rattle.spec_laws.proofs.Choice.{keep-fewer, any-map, owned-observed, owned-operated, owned-unmarking}
@@ -115,16 +116,7 @@ owned-step c (forecast xs) m b f i = refl
 
 -- ---- a run as it is heard
 
--- a line but for references, exits and a forecast's figures
-abbrev pub bare : Line → Line
-bare say.ok = say.ok
-bare (say.value v r e) = say.value v 0 0
-bare (say.done r e) = say.done 0 0
-bare (say.fault x l g r e) = say.fault x l g 0 0
-bare (say.no n) = say.no n
-bare (say.figures r e t) = say.figures 0 0 0
-
--- what is said at a call so, and the machine after it
+-- what is heard at a call, and the machine after it
 abbrev pub heardAt : Line × State → Line × Machine
 heardAt o = (bare (o .0), o .1 .machine)
 

@@ -40,18 +40,18 @@ use Rattle.forecast.specs.declared.Next.the-variants.{Go, Damaged}
 use Rattle.forecast.specs.Forecast.{addressOf, onward, listOf, start, forecastOf}
 use Rattle.calls.specs.Calls as calls
 use Rattle.calls.specs.Calls.{hostTop, heldOf, rootOf, keysOf, ended, judged, placed, refused, servedBy, windowedBy, addressOk, lookupAt, depthAt, translatedOf, chargeAt, plainStore, storedBy, openCall, callOf, loadCall, storeCall, deviceCall, forecastCall}
-use Rattle.claims.specs.Run.{guestArea, unitRun, unitAfter}
+use Rattle.claims.specs.Run.{guestArea, unitRun, unitAfter, heardUnit}
 use Rattle.claims.specs.Counted.{SameWords, SetsNone, countedOf, touchedOf}
 use Rattle.claims.proofs.Invariant.{Inv}
 use Rattle.claims.proofs.Opens.{opened-inv, granted-call}
-use Rattle.claims.proofs.Demands.{Beside, next as next-stands, opened-config, demand-3}
+use Rattle.claims.proofs.Demands.{Beside, next as next-stands, opened-config, demand-3, choice-unseen}
 use Rattle.claims.specs.Plain.{requestAt, isStore, plainWalk, AsWalked, Unrefused}
 use Rattle.claims.proofs.Plain.{demand-2}
 use Rattle.claims.proofs.Counted.{run-counted-load}
 use Rattle.claims.specs.Lookups.{LooksUp}
 use Rattle.claims.proofs.Lookups.{run-lookup}
 use Rattle.claims.proofs.Quiet.{quiet-day}
-use Rattle.wrong_units.specs.Unit.{runBy, afterBy, specified, Demand-3, Demand-2, QuietDay, Calls, told, unitBy, cangrieb, WordsCounted, Lookups}
+use Rattle.wrong_units.specs.Unit.{MemoryUnit, runBy, afterBy, specified, Demand-3, Demand-2, QuietDay, ChoiceUnseen, Calls, told, unitBy, cangrieb, WordsCounted, Lookups}
 use Rattle.wrong_units.specs.Wrong.{ourDrops, storeAs, orCharged, storedAs, storeDoing, doneWith, storeWith, deviceAs, deviceWith, ourStep, ourEnd, listWith, forecastWith}
 use Rattle.wrong_units.specs.WrongBits.{ourSets, loadSetting, doneSetting, storeSetting, Arrives, missedAs, missedWith, foundAs, translateWith, loadArriving, arriveBy}
 
@@ -133,6 +133,21 @@ cangrieb-quiet-day m h s on xs ys g q =
     let u = unitAfter xs (o .result .unit) (o .memory) o in
     ap (λ e. allPaid exitsPaid (runBy cangrieb ys e)) (after-is xs (o .result .unit) (o .memory) o refl refl)
     ∙ ap (allPaid exitsPaid) (run-is ys (u .result .unit) (u .memory)) ∙ quiet-day m h s on xs ys g q
+
+pub cangrieb-choice-unseen : ChoiceUnseen cangrieb
+unfolding ChoiceUnseen
+cangrieb-choice-unseen m h s bits xs g = by true ∙ choice-unseen m h s bits xs g ∙ sym (by false)
+  where
+    by : (on : Bool) → let o = openCall m h s bits on in heardUnit (runBy cangrieb xs (o .result .unit, o .memory)) ≡ heardUnit (unitRun xs (o .result .unit) (o .memory))
+    by on = let o = openCall m h s bits on in ap heardUnit (run-is xs (o .result .unit) (o .memory))
+
+-- so it is with every unit that meets demand 3
+pub demand-3-unseen : (u : MemoryUnit) → Demand-3 u → ChoiceUnseen u
+unfolding Demand-3 ChoiceUnseen
+demand-3-unseen u d m h s bits xs g = by true ∙ cangrieb-choice-unseen m h s bits xs g ∙ sym (by false)
+  where
+    by : (on : Bool) → heardUnit (runBy u xs (u .opens m h s bits on)) ≡ heardUnit (runBy cangrieb xs (cangrieb .opens m h s bits on))
+    by on = ap heardUnit (d m h s bits on xs g ∙ sym (cangrieb-demand-3 m h s bits on xs g))
 
 -- ---- the calls of specs/Wrong.antt that take an argument for what is changed are ours with our own argument
 

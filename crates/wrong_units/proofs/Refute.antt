@@ -15,6 +15,7 @@ use Rattle.spec.specs.Call.{Call, map, setMark, load, loadWord}
 use Rattle.spec.specs.Guest.{code, equal}
 use Rattle.spec.specs.Run.{State, step, run, after, opened}
 use Rattle.spec_laws.proofs.Lists.{both, not-both}
+use Rattle.spec.specs.Heard.{bare}
 use Rattle.entry.specs.declared.HostPhysical.{HostPhysical}
 use Rattle.words.specs.Words as words
 use Rattle.walk.specs.declared.Walked.the-variants as walked
@@ -22,9 +23,9 @@ use Rattle.record.specs.declared.Record.{Record}
 use Rattle.record.specs.Record.{configOf, configBy}
 use Rattle.record.specs.Open.{refusalOf}
 use Rattle.calls.specs.Calls.{depthAt, callOf}
-use Rattle.claims.specs.Run.{machineRun}
+use Rattle.claims.specs.Run.{machineRun, heardUnit}
 use Rattle.claims.specs.Plain.{plainWalk, withOwn, AsWalked, Unrefused}
-use Rattle.wrong_units.specs.Unit.{MemoryUnit, runBy, afterBy, specified, Demand-3, Demand-2, Calls, told, unitBy}
+use Rattle.wrong_units.specs.Unit.{MemoryUnit, runBy, afterBy, specified, Demand-3, Demand-2, ChoiceUnseen, Calls, told, unitBy}
 use Rattle.wrong_units.proofs.Mapped.{memory, grants, opens, openedBy, openedRecord, openedWords, firstBy, firstRecord, tables, first-map}
 use Rattle.wrong_units.proofs.Filled.{others, mappedWords, marked, heldRecord, heldWords, fills}
 
@@ -50,6 +51,20 @@ pub demand-last : (u : MemoryUnit) → Demand-3 u → (m : List ℕ) (h s : ℕ)
 unfolding Demand-3
 demand-last u d m h s bits on xs x g =
     sym (run-last u xs x (u .opens m h s bits on) ok) ∙ ap (lastOf ok) (d m h s bits on (xs ++ (x ∷ [])) g) ∙ step-last xs x (opened (configBy (length m) h s bits) on m) ok
+
+heard-last : (os : List (Line × List ℕ)) (l : Line) → lastOf (bare l) (heardUnit os) ≡ bare (lastOf l os)
+unfolding lastOf
+heard-last [] l = refl
+heard-last (o ∷ os) l = heard-last os (o .0)
+
+-- and what it is to be heard alike with the choice on and off
+pub unseen-last : (u : MemoryUnit) → ChoiceUnseen u → (m : List ℕ) (h s : ℕ) (bits : Bool) (xs : List Call) (x : Call) → refusalOf (length m) h s bits ≡ 0
+    → bare ((u .call x (afterBy u xs (u .opens m h s bits true))) .0) ≡ bare ((u .call x (afterBy u xs (u .opens m h s bits false))) .0)
+unfolding ChoiceUnseen
+unseen-last u d m h s bits xs x g = sym (by true) ∙ ap (lastOf ok) (d m h s bits (xs ++ (x ∷ [])) g) ∙ by false
+  where
+    by : (on : Bool) → lastOf ok (heardUnit (runBy u (xs ++ (x ∷ [])) (u .opens m h s bits on))) ≡ bare ((u .call x (afterBy u xs (u .opens m h s bits on))) .0)
+    by on = heard-last (runBy u (xs ++ (x ∷ [])) (u .opens m h s bits on)) ok ∙ ap bare (run-last u xs x (u .opens m h s bits on) ok)
 
 -- ---- two lines that differ
 

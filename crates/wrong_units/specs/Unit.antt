@@ -2,7 +2,7 @@
 -- Assumes nothing.
 use mathlib.Core.Path.{_≡_}
 use Prim.Native.Nat.{ℕ}
-use mathlib.Core.Bool.{Bool, false}
+use mathlib.Core.Bool.{Bool, true, false}
 use mathlib.Core.List.{List, [], _∷_}
 use mathlib.Core.Option.{Option}
 use lib.Dec.{T}
@@ -19,7 +19,7 @@ use Rattle.record.specs.Record.{configBy}
 use Rattle.record.specs.Open.{refusalOf}
 use Rattle.calls.specs.declared.Reply.{Reply}
 use Rattle.calls.specs.Calls.{openCall, callOf}
-use Rattle.claims.specs.Run.{guestArea, machineRun}
+use Rattle.claims.specs.Run.{guestArea, machineRun, heardUnit}
 use Rattle.claims.specs.Plain.{requestAt, isStore, plainWalk, AsWalked, Unrefused}
 use Rattle.claims.specs.Lookups.{LooksUp}
 use Rattle.claims.specs.Counted.{SameWords, HeldOrPlain, SetsNone, countedOf, touchedOf}
@@ -58,6 +58,13 @@ unfoldable pub QuietDay : MemoryUnit → Type 0
 QuietDay u =
     (m : List ℕ) (h s : ℕ) (on : Bool) (xs ys : List Call) → refusalOf (length m) h s false ≡ 0 → T (quiet ys (specified m h s false on xs))
     → allPaid exitsPaid (runBy u ys (afterBy u xs (u .opens m h s false on))) ≡ quietExits ys (specified m h s false on xs)
+
+-- the automatic choice is not seen (document 02, 7): after two granted openings that differ in it alone, the same calls are heard alike: each
+-- line but for references, exits and a forecast's figures, and the guest words after it
+unfoldable pub ChoiceUnseen : MemoryUnit → Type 0
+ChoiceUnseen u =
+    (m : List ℕ) (h s : ℕ) (bits : Bool) (xs : List Call) → refusalOf (length m) h s bits ≡ 0
+    → heardUnit (runBy u xs (u .opens m h s bits true)) ≡ heardUnit (runBy u xs (u .opens m h s bits false))
 
 -- ---- units that have our record and our tables
 
