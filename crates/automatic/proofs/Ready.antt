@@ -23,7 +23,6 @@ use Rattle.drops.proofs.Fresh.{prefix-fits}
 use Rattle.drops.specs.Drop.{dropPrefixOf}
 use Rattle.words.specs.After.{After}
 use Rattle.spec.specs.Entry.{indexes}
-
 use Rattle.automatic.specs.Moves.{Sound, Ready, moved, markedOf, withdrawnOf, roomMadeOf}
 
 -- so many automatic marks

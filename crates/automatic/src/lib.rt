@@ -131,13 +131,7 @@ fn make_room<'a>(
 }
 
 // The key goes into the table, and each automatic mark is found at its new place: the places set then.
-fn insert(
-    place: &mut [u64; 64],
-    order: &mut [u64; 64],
-    set: u64,
-    count: u64,
-    key: u64,
-) -> u64
+fn insert(place: &mut [u64; 64], order: &mut [u64; 64], set: u64, count: u64, key: u64) -> u64
     requires { ⌜ count ≤ 64 ⌝ }
     ensures { λ r. ⌜ (record { set = r; place = now (place .exit) } ≡ withKey (record { set = set; place = now (place .entry) }) key) × (now (order .exit) ≡ relocated count (now (order .entry)) (now (place .entry)) (now (place .exit)) r) ⌝ }
 {

@@ -592,7 +592,15 @@ fn changed<'a>(
         return unmoved(head, change.refusal);
     }
     match was {
-        HostWalk::Found { page, writable } => drop_users(head, place, ring, order, host, mem, guest),
+        HostWalk::Found { page, writable } => drop_users(
+            head,
+            place,
+            ring,
+            order,
+            host,
+            mem,
+            guest,
+        ),
         HostWalk::Absent { reads } => Remapped {
             host: host,
             held: held_in(head),
@@ -670,9 +678,25 @@ fn mark_refusal<'a>(
     ensures { λ r. ⌜ r ≡ refusalIn setting (head .layout .levels) (head .tally) (now (order .entry)) (record { set = head .set; place = now (place .entry) }) (at .0) level ⌝ }
 {
     if setting {
-        choice::set_refusal(head.tally, order, place, head.set, head.layout.levels, at, level)
+        choice::set_refusal(
+            head.tally,
+            order,
+            place,
+            head.set,
+            head.layout.levels,
+            at,
+            level,
+        )
     } else {
-        choice::clear_refusal(head.tally, order, place, head.set, head.layout.levels, at, level)
+        choice::clear_refusal(
+            head.tally,
+            order,
+            place,
+            head.set,
+            head.layout.levels,
+            at,
+            level,
+        )
     }
 }
 

@@ -15,8 +15,10 @@ use Rattle.choice.specs.Window.{withCharged, requestedOf}
 use Rattle.record.specs.declared.Head.{Head}
 use Rattle.record.specs.Record.{headTables, headTally}
 use Rattle.translate.specs.declared.Held.{Held}
-use Rattle.calls.specs.Calls.{headHeld, tallyAfter}
-use Rattle.cangrieb.specs.Flat.{headIn, headWords, headCharged, windowIn}
+use Rattle.calls.specs.Calls.{headHeld, headRemapped, tallyAfter}
+use Rattle.record.specs.Words.{headIn, headWords}
+use Rattle.calls.specs.declared.Remapped.{Remapped}
+use Rattle.cangrieb.specs.Flat.{headCharged, windowIn}
 
 -- the first n words of a list, one by one
 firstOf : ℕ → List ℕ → List ℕ
@@ -37,6 +39,13 @@ putHeld ws h = set (set (set (set (set ws 9 (h .pool .fresh)) 10 (h .pool .free)
 pub put-held : (ws : List ℕ) (h : Held) → length ws ≡ 20 → putHeld ws h ≡ headWords (headHeld (headIn ws) h)
 unfolding headHeld headTables firstOf
 put-held ws h e = subst (λ xs. putHeld xs h ≡ headWords (headHeld (headIn xs) h)) (sym (all-first 20 ws e)) refl
+
+abbrev putHost : List ℕ → Remapped → List ℕ
+putHost ws x = set (set (set (set ws 5 (x .host .fresh)) 6 (x .host .free)) 7 (x .host .used)) 8 (x .host .top)
+
+pub put-tables : (ws : List ℕ) (x : Remapped) → length ws ≡ 20 → putHeld (putHost ws x) (x .held) ≡ headWords (headRemapped (headIn ws) x)
+unfolding headTables firstOf
+put-tables ws x e = subst (λ xs. putHeld (putHost xs x) (x .held) ≡ headWords (headRemapped (headIn xs) x)) (sym (all-first 20 ws e)) refl
 
 pub put-charged : (ws : List ℕ) (n : ℕ) → length ws ≡ 20 → set ws 17 n ≡ headWords (headCharged (headIn ws) n)
 unfolding headTally firstOf

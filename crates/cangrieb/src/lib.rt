@@ -2,10 +2,11 @@
 // of the automatic choice, and the memory beside it; the answer is numbers. Nothing is asked of the caller but that those words are at
 // those places.
 ghost use mathlib.Core.Path.{_≡_};
-ghost use mathlib.Core.Logic.{_≢_};
 ghost use Rattle.words.specs.After.{yields};
-ghost use Rattle.calls.specs.Calls.{headHeld, openCall, loadCall, storeCall, deviceCall, rootCall, mapCall, unmapCall, setMarkCall, clearMarkCall, forecastCall};
-ghost use Rattle.cangrieb.specs.Flat.{headIn, headWords, headCharged, windowIn, recordIn, answerOf, flat, replyOf, leftOf, lookupOf, noMark, kindAt, chargesAt, markIn};
+ghost use Rattle.calls.specs.Calls.{headHeld, headRemapped, openCall, loadCall, storeCall, deviceCall, rootCall, mapCall, unmapCall, setMarkCall, clearMarkCall, forecastCall};
+ghost use Rattle.record.specs.Words.{headIn, headWords};
+ghost use Rattle.cangrieb.specs.Flat.{headCharged, windowIn, recordIn, answerOf, flat, replyOf, leftOf, lookupOf, noMark, kindAt, chargesAt, markIn};
+use calls::Remapped;
 use calls::Reply;
 use choice::Tally;
 use entry::GuestVirtual;
@@ -55,6 +56,25 @@ fn put_held(head: &mut [u64; 20], held: Held)
     words[11] = pool.used;
     words[12] = pool.top;
     words[14] = held.frame.0;
+    *head = words;
+}
+
+// After a map or an unmap: the host tables, and what is held.
+fn put_tables(head: &mut [u64; 20], x: Remapped)
+    ensures { λ _. ⌜ now (head .exit) ≡ headWords (headRemapped (headIn (now (head .entry))) x) ⌝ }
+{
+    let mut words = words_in(head);
+    let host = x.host;
+    let pool = x.held.pool;
+    words[5] = host.fresh;
+    words[6] = host.free;
+    words[7] = host.used;
+    words[8] = host.top;
+    words[9] = pool.fresh;
+    words[10] = pool.free;
+    words[11] = pool.used;
+    words[12] = pool.top;
+    words[14] = x.held.frame.0;
     *head = words;
 }
 
@@ -243,17 +263,7 @@ pub extern "C" fn cangrieb_store(
         put_held(head, held);
         return answer_of(answer);
     }
-    let t = calls::store_on(
-        h,
-        fits,
-        place,
-        ring,
-        order,
-        mem,
-        address,
-        width,
-        value,
-    );
+    let t = calls::store_on(h, fits, place, ring, order, mem, address, width, value);
     let answer = t.answer;
     let next = t.head;
     *head = record::head_words(next);
@@ -320,10 +330,9 @@ pub extern "C" fn cangrieb_map<'a>(
 {
     let fits = record::fits(head, place, ring, order, mem.len());
     let h = record::head_in(head);
-    let t = calls::map_at(h, fits, place, ring, order, mem, guest, frame, writable);
-    let answer = t.answer;
-    let next = t.head;
-    *head = record::head_words(next);
+    let x = calls::map_at(h, fits, place, ring, order, mem, guest, frame, writable);
+    let answer = x.answer;
+    put_tables(head, x);
     answer_of(answer)
 }
 
@@ -341,10 +350,9 @@ pub extern "C" fn cangrieb_unmap<'a>(
 {
     let fits = record::fits(head, place, ring, order, mem.len());
     let h = record::head_in(head);
-    let t = calls::unmap_at(h, fits, place, ring, order, mem, guest);
-    let answer = t.answer;
-    let next = t.head;
-    *head = record::head_words(next);
+    let x = calls::unmap_at(h, fits, place, ring, order, mem, guest);
+    let answer = x.answer;
+    put_tables(head, x);
     answer_of(answer)
 }
 
@@ -395,7 +403,7 @@ pub extern "C" fn cangrieb_clear_mark(
 // What loading these addresses one after the other would cost: 3, 16, 14, 11. Record and memory are lent to be read.
 #[no_mangle]
 pub extern "C" fn cangrieb_forecast<'a>(
-    head: &[u64; 20],
+    head: &'a [u64; 20],
     place: &'a [u64; 64],
     ring: &'a [u64; 64],
     order: &'a [u64; 64],

@@ -368,7 +368,13 @@ pub fn with(order: &mut [u64; 64], count: u64, place: u64) -> u64
 }
 
 // The marks were put into another table: each automatic one is looked up by its key in the old places.
-pub fn moved<'a>(order: &mut [u64; 64], count: u64, old: &'a [u64; 64], place: &'a [u64; 64], set: u64)
+pub fn moved<'a>(
+    order: &mut [u64; 64],
+    count: u64,
+    old: &'a [u64; 64],
+    place: &'a [u64; 64],
+    set: u64,
+)
     requires { ⌜ count ≤ 64 ⌝ }
     ensures { λ _. ⌜ now (order .exit) ≡ relocated count (now (order .entry)) (now (old .entry)) (now (place .entry)) set ⌝ }
 {

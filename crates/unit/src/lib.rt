@@ -73,13 +73,7 @@ fn remapping(unit: Record, x: Remapped) -> Reply
 }
 
 // The reply of a call that may have changed the whole record; its arrays are these now.
-fn replaced(
-    unit: Record,
-    turn: Turn,
-    place: [u64; 64],
-    ring: [u64; 64],
-    order: [u64; 64],
-) -> Reply
+fn replaced(unit: Record, turn: Turn, place: [u64; 64], ring: [u64; 64], order: [u64; 64]) -> Reply
     ensures { λ r. ⌜ r ≡ turnIn place ring order turn ⌝ }
 {
     let head = turn.head;
@@ -147,7 +141,7 @@ pub fn store(unit: Record, mem: &mut [u64], address: u64, width: u64, value: u64
     if unit.guest.choice.tally.on == 0 {
         let s = calls::store_at(
             unit.head(),
-        unit.fits(mem.len()),
+            unit.fits(mem.len()),
             &unit.guest.marks.place,
             &unit.guest.choice.ring,
             &unit.guest.choice.order,

@@ -1,6 +1,7 @@
 -- One word is written; a list of 20 words is told apart word by word, so the others are seen to stay.
 use mathlib.Core.Path.{ap, _∙_}
-use Rattle.cangrieb.specs.Flat.{headIn, headWords, headCharged}
+use Rattle.record.specs.Words.{headIn, headWords}
+use Rattle.cangrieb.specs.Flat.{headCharged}
 use Rattle.cangrieb.proofs.Words.{put-charged}
 use borrow.Author.Needs.{needs}
 use Rattle.cangrieb.proofs.put_charged.Statement.{statement}

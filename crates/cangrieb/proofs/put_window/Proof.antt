@@ -1,6 +1,6 @@
 -- With the choice off the tally stays as it is; on, its one word is written.
 use mathlib.Core.Path.{ap, _∙_}
-use Rattle.cangrieb.specs.Flat.{headIn, headWords}
+use Rattle.record.specs.Words.{headIn, headWords}
 use Rattle.cangrieb.proofs.Words.{window-off, window-on}
 use borrow.Author.Needs.{needs}
 use Rattle.cangrieb.proofs.put_window.Statement.{statement}
