@@ -258,9 +258,11 @@ storedBy r a w v o (walked.Arrived t y n) = storeBy r a w v o t n (chargeAt r (o
 storedBy r a w v o (walked.Faulted x n) = plainStore r a w v o
 storedBy r a w v o walked.Damaged = plainStore r a w v o
 
+abbrev pub storedOf : Record → List ℕ → ℕ → ℕ → ℕ → After Reply
+storedOf r m a w v = let o = translatedOf r m true a in storedBy r a w v o (o .result .walked)
+
 unfoldable pub storeCall : Record → List ℕ → ℕ → ℕ → ℕ → After Reply
-storeCall r m a w v =
-    placed r m w (addressOk false (configOf r) a w) (storedBy r a w v (translatedOf r m true a) (translatedOf r m true a .result .walked))
+storeCall r m a w v = placed r m w (addressOk false (configOf r) a w) (storedOf r m a w v)
 
 -- ---- a store in parts, with the choice on
 

@@ -11,10 +11,11 @@ ghost use Rattle.record.specs.Record.{recordBy, fitsOf};
 ghost use Rattle.layout.specs.Layout.{LayoutFits, config};
 ghost use Rattle.spec.specs.Entry.{frameLimit};
 ghost use Rattle.request.specs.Access.{Inside, ReachesFrame};
+ghost use Rattle.translate.specs.Translate.{HeldFits};
 ghost use mathlib.Core.Bool.{true};
 ghost use Rattle.automatic.specs.Moves.{Ready, movedIn, keptBy};
 ghost use mathlib.Core.Logic.{_≢_};
-ghost use Rattle.calls.specs.Calls.{refusalBy, addressOk, Sound, nothing, headHeld, heldIn, spaceIn, servedReply, windowedReply, windowedTurn, tallyAfter, turnReply, turnIn, remapReply, unmovedBy, loadCall, chargedIn, OwedFits, settledTurn, storedBy, storeChargedOf, storeCall, deviceCall, rootCall, unmappedOf, changedBy, mapCall, unmapCall, ended, forecastCall, refusalIn, markMoves, markCall};
+ghost use Rattle.calls.specs.Calls.{refusalBy, addressOk, Sound, nothing, headHeld, heldIn, spaceIn, servedReply, windowedReply, windowedTurn, tallyAfter, turnReply, turnIn, remapReply, unmovedBy, loadCall, chargedIn, OwedFits, settledTurn, depthAt, storedBy, storedOf, storeChargedOf, storeCall, deviceCall, rootCall, unmappedOf, changedBy, mapCall, unmapCall, ended, forecastCall, refusalIn, markMoves, markCall};
 use automatic::Moved;
 use charge::Charge;
 use choice::Tally;
@@ -405,6 +406,30 @@ fn store_from(
     }
 }
 
+// A store that was let through, at its depth, by its translation: 11.
+fn store_translated(
+    head: Head,
+    place: &mut [u64; 64],
+    ring: &mut [u64; 64],
+    order: &mut [u64; 64],
+    mem: &mut [u64],
+    address: GuestVirtual,
+    width: u64,
+    depth: u64,
+    value: u64,
+) -> Turn
+    requires { ⌜ (Ready (recordBy head (now place) (now ring) (now order))) × (head .tally .on ≢ 0) × (HeldFits (config (head .layout)) (heldIn head)) × (Inside (address .0) width) × (depth ≡ depthAt (recordBy head (now place) (now ring) (now order)) (address .0)) ⌝ }
+    ensures { λ r. ⌜ yields (turnIn (now (place .exit)) (now (ring .exit)) (now (order .exit)) r) (now (mem .exit)) ≡ storedOf (recordBy head (now (place .entry)) (now (ring .entry)) (now (order .entry))) (now (mem .entry)) (address .0) width value ⌝ }
+{
+    let request = Request {
+        store: true,
+        address: address,
+        depth: depth,
+    };
+    let t = request::reached(mem, space_in(head), head.root, held_in(head), request);
+    store_from(head, place, ring, order, mem, t, address, width, value)
+}
+
 // A store with the automatic choice on: 3, 15, 4, 11.
 pub fn store_on(
     head: Head,
@@ -425,13 +450,21 @@ pub fn store_on(
         return refused_in(head, refusal);
     }
     let at = GuestVirtual(address);
-    let request = Request {
-        store: true,
-        address: at,
-        depth: depth::depth(place, head.set, head.layout.levels, at),
-    };
-    let t = request::reached(mem, space_in(head), head.root, held_in(head), request);
-    store_from(head, place, ring, order, mem, t, at, width, value)
+    let held = held_in(head);
+    let d = depth::depth(place, head.set, head.layout.levels, at);
+    if request::store_plainly(mem, head.layout, held, at, width, d, value) {
+        return windowed(
+            head,
+            Served {
+                held: held,
+                answer: Answer::Done {
+                    references: head.layout.levels,
+                    exits: 0,
+                },
+            },
+        );
+    }
+    store_translated(head, place, ring, order, mem, at, width, d, value)
 }
 
 // ---- device stores

@@ -10,7 +10,7 @@ ghost use Rattle.layout.specs.Layout.{LayoutFits, config};
 ghost use Rattle.layout.specs.declared.HostWalk.the-variants as host;
 ghost use Rattle.shadow.specs.Watch.{watchedOf};
 ghost use Rattle.translate.specs.Translate.{HeldFits, translation, translateOf};
-ghost use Rattle.request.specs.Access.{Inside, ReachesFrame, setBy, bitsOf, settledOf, droppedOf, bytesIn, pathHeldOf, Unserved, loadBy, loadOf, finishBy, writtenBy, storeBy, storeFrom, storeOf, deviceOf};
+ghost use Rattle.request.specs.Access.{Inside, ReachesFrame, setBy, bitsOf, settledOf, droppedOf, bytesIn, pathHeldOf, Unserved, loadBy, loadOf, finishBy, writtenBy, storeBy, storeFrom, storeOf, plainlyOf, deviceOf};
 use entry::GuestPhysical;
 use entry::GuestVirtual;
 use entry::HostPhysical;
@@ -539,8 +539,38 @@ pub fn stored_by_bits(
     }
 }
 
-// A store; the paths whose shadow part read the word around its bytes are dropped: 11.
-pub fn store(
+// A store of depth 0 through a held path into a frame that is not watched, as most are: no path goes, and its bytes are written. Whether
+// it is one; if not, nothing is done.
+pub fn store_plainly(
+    mem: &mut [u64],
+    layout: Layout,
+    held: Held,
+    address: GuestVirtual,
+    width: u64,
+    depth: u64,
+    value: u64,
+) -> bool
+    requires { ⌜ (LayoutFits layout) × (HeldFits (config layout) held) × (Inside (address .0) width) ⌝ }
+    ensures { λ r. ⌜ yields r (now (mem .exit)) ≡ plainlyOf (config layout) (now (mem .entry)) held (address .0) width depth value ⌝ }
+{
+    if depth != 0 {
+        return false;
+    }
+    match path_held(mem, layout, held, true, address, depth) {
+        HostWalk::Found { page, writable } => {
+            if shadow::watched(mem, layout, held.pool.fresh, page) {
+                return false;
+            }
+            put_bytes(mem, page, address.0, width, value);
+            true
+        }
+        HostWalk::Absent { reads } => false,
+        HostWalk::Damaged => false,
+    }
+}
+
+// Any store, by its translation; the paths whose shadow part read the word around its bytes are dropped: 11.
+fn store_translated(
     mem: &mut [u64],
     space: Space,
     root: GuestPhysical,
@@ -586,6 +616,32 @@ pub fn store(
     }
     let t = translate::unserved(mem, space, root, held, request);
     stored_by_bits(mem, space, root, held, t, address, width, value)
+}
+
+// A store, the common case first: 11.
+pub fn store(
+    mem: &mut [u64],
+    space: Space,
+    root: GuestPhysical,
+    held: Held,
+    address: GuestVirtual,
+    width: u64,
+    depth: u64,
+    value: u64,
+) -> Served
+    requires { ⌜ (LayoutFits (space .layout)) × (HeldFits (config (space .layout)) held) × (Inside (address .0) width) ⌝ }
+    ensures { λ r. ⌜ yields r (now (mem .exit)) ≡ storeOf (config (space .layout)) (space .top) (now (mem .entry)) held (root .0) (address .0) width depth value ⌝ }
+{
+    if store_plainly(mem, space.layout, held, address, width, depth, value) {
+        return Served {
+            held: held,
+            answer: Answer::Done {
+                references: space.layout.levels,
+                exits: 0,
+            },
+        };
+    }
+    store_translated(mem, space, root, held, address, width, depth, value)
 }
 
 // A load's or a store's translation, by the path held for it or without one.

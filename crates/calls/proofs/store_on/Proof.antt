@@ -1,23 +1,25 @@
--- The number says which test failed; where none did the translation is that of the call, and the rest goes by its charge. Assumes nothing.
+-- The number says which test failed. Where none did, the common case is charged to nobody; any other store goes by its translation, with the memory as it was. Assumes nothing.
 use mathlib.Core.Path.{sym, ap, _∙_}
 use mathlib.Core.Bool.{true, false}
-use native.Mathlib.Omega.{arith}
 use lib.ListN.{length}
 use Rattle.spec.specs.Bytes.{widthFits}
 use Rattle.spec.specs.Refusal.{addressFits}
-use Rattle.words.specs.After.{After}
+use Rattle.words.specs.After.{yields}
 use Rattle.record.specs.Record.{recordBy, configOf, fitsOf}
-use Rattle.translate.specs.declared.Translated.{Translated}
-use Rattle.request.proofs.Held.{leaves-as, reaches-as}
-use Rattle.calls.specs.Calls.{addressOk, hostTop, rootOf, heldOf, depthAt, translatedOf, storedBy, storeCall}
+use Rattle.request.proofs.Held.{plainly-keeps}
+use Rattle.calls.specs.Calls.{addressOk, heldOf, depthAt, storeCall}
 use Rattle.calls.proofs.Laws.{turned-away, taken, all-taken}
 use Rattle.calls.proofs.Ranges.{fits-levels, fits-sound, fits-held, fits-inside, fits-ready}
+use Rattle.calls.proofs.Stores.{plain-stored}
 use borrow.Author.Needs.{needs}
 use Rattle.calls.proofs.store_on.Statement.{statement}
 use Rattle.calls.proofs.store_on.Tie as tie
 
 request-refusal-requires : tie.Need-request-refusal-requires
-request-refusal-requires c κs = λ e. fits-levels (recordBy (c .before .args .head) (c .before .args .place .now) (c .before .args .ring .now) (c .before .args .order .now)) _ (sym (c .before .pre .0) ∙ e)
+request-refusal-requires c κs =
+    let args = c .before .args in
+    let r = recordBy (args .head) (args .place .now) (args .ring .now) (args .order .now) in
+    λ e. fits-levels r _ (sym (c .before .pre .0) ∙ e)
 
 refused-in-requires : tie.Need-refused-in-requires
 refused-in-requires c κs = search needs
@@ -25,47 +27,60 @@ refused-in-requires c κs = search needs
 returns : tie.Need-returns
 unfolding storeCall
 returns c =
-    let r = recordBy (c .before .before .before .before .args .head) (c .before .before .before .before .args .place .now) (c .before .before .before .before .args .ring .now) (c .before .before .before .before .args .order .now) in
+    let args = c .before .before .before .before .args in
+    let r = recordBy (args .head) (args .place .now) (args .ring .now) (args .order .now) in
     let told = rw (c .before .before .before .before .pre .0) at (c .before .before .request-refusal .ensures) in
-    rw (c .refused-in .ensures) (turned-away r (c .before .before .before .before .args .mem .now) (c .before .before .before .before .args .width) (addressOk false (configOf r) (c .before .before .before .before .args .address) (c .before .before .before .before .args .width)) _ _ told (c .before .if1 .taken))
-
-depth-requires : tie.Need-depth-requires
-depth-requires c κs = search needs
-
-space-in-requires : tie.Need-space-in-requires
-space-in-requires c κs = search needs
+    rw (c .refused-in .ensures) (turned-away r (args .mem .now) (args .width) (addressOk false (configOf r) (args .address) (args .width)) _ _ told (c .before .if1 .taken))
 
 held-in-requires : tie.Need-held-in-requires
 held-in-requires c κs = search needs
 
-reached-requires : tie.Need-reached-requires
-reached-requires c κs =
-    let r = recordBy (c .before .before .before .before .before .before .before .before .args .head) (c .before .before .before .before .before .before .before .before .args .place .now) (c .before .before .before .before .before .before .before .before .args .ring .now) (c .before .before .before .before .before .before .before .before .args .order .now) in
-    let told = rw (c .before .before .before .before .before .before .before .before .pre .0) at (c .before .before .before .before .before .before .request-refusal .ensures) in
-    let t = all-taken (fitsOf r (length (c .before .before .before .before .before .before .before .before .args .mem .now))) (widthFits (c .before .before .before .before .before .before .before .before .args .width)) (addressOk false (configOf r) (c .before .before .before .before .before .before .before .before .args .address) (c .before .before .before .before .before .before .before .before .args .width)) (sym (c .before .before .before .before .before .if1 .left) ∙ told) in
-    rw (c .before .space-in .ensures, c .held-in .ensures) (fits-sound r _ (t .0) .0, fits-held r _ (t .0))
+depth-requires : tie.Need-depth-requires
+depth-requires c κs = search needs
 
-store-from-requires : tie.Need-store-from-requires
-store-from-requires c κs =
-    let r = recordBy (c .before .before .before .before .before .before .before .before .before .before .before .before .before .before .before .args .head) (c .before .before .before .before .before .before .before .before .before .before .before .before .before .before .before .args .place .now) (c .before .before .before .before .before .before .before .before .before .before .before .before .before .before .before .args .ring .now) (c .before .before .before .before .before .before .before .before .before .before .before .before .before .before .before .args .order .now) in
-    let told = rw (c .before .before .before .before .before .before .before .before .before .before .before .before .before .before .before .pre .0) at (c .before .before .before .before .before .before .before .before .before .before .before .before .before .request-refusal .ensures) in
-    let t = all-taken (fitsOf r (length (c .before .before .before .before .before .before .before .before .before .before .before .before .before .before .before .args .mem .now))) (widthFits (c .before .before .before .before .before .before .before .before .before .before .before .before .before .before .before .args .width)) (addressOk false (configOf r) (c .before .before .before .before .before .before .before .before .before .before .before .before .before .before .before .args .address) (c .before .before .before .before .before .before .before .before .before .before .before .before .before .before .before .args .width)) (sym (c .before .before .before .before .before .before .before .before .before .before .before .before .if1 .left) ∙ told) in
-    let went = rw (c .before .before .before .before .before .before .before .before .before .before .depth .ensures, c .before .before .before .before .before .before .before .held-in .ensures, c .before .before .before .before .before .before .before .before .space-in .ensures) at (c .before .before .before .before .before .before .reached .ensures) in
-    let leaves = leaves-as (configOf r) (hostTop r) (c .before .before .before .before .before .before .before .before .before .before .before .before .before .before .before .args .mem .now) (heldOf r) (rootOf r) true (c .before .before .before .before .before .before .before .before .before .before .before .before .before .before .before .args .address) (depthAt r (c .before .before .before .before .before .before .before .before .before .before .before .before .before .before .before .args .address)) (fits-held r _ (t .0)) _ (sym went) in
-    let reaches = reaches-as (configOf r) (hostTop r) (c .before .before .before .before .before .before .before .before .before .before .before .before .before .before .before .args .mem .now) (heldOf r) (rootOf r) true (c .before .before .before .before .before .before .before .before .before .before .before .before .before .before .before .args .address) (depthAt r (c .before .before .before .before .before .before .before .before .before .before .before .before .before .before .before .args .address)) (fits-held r _ (t .0)) _ (fits-sound r _ (t .0) .0 .3) (sym went) in
-    (fits-ready r _ (t .0), c .before .before .before .before .before .before .before .before .before .before .before .before .before .before .before .pre .1, leaves .held .0, reaches, fits-inside (addressFits (configOf r) (c .before .before .before .before .before .before .before .before .before .before .before .before .before .before .before .args .address)) (c .before .before .before .before .before .before .before .before .before .before .before .before .before .before .before .args .address) (c .before .before .before .before .before .before .before .before .before .before .before .before .before .before .before .args .width) (t .1) (t .2), (let k = leaves .exits in omega arith))
+store-plainly-requires : tie.Need-store-plainly-requires
+store-plainly-requires c κs =
+    let args = c .before .before .before .before .before .before .before .args in
+    let r = recordBy (args .head) (args .place .now) (args .ring .now) (args .order .now) in
+    let told = rw (c .before .before .before .before .before .before .before .pre .0) at (c .before .before .before .before .before .request-refusal .ensures) in
+    let t = all-taken (fitsOf r (length (args .mem .now))) (widthFits (args .width)) (addressOk false (configOf r) (args .address) (args .width)) (sym (c .before .before .before .before .if1 .left) ∙ told) in
+    rw (c .before .before .before .held-in .ensures) (fits-sound r _ (t .0) .0, fits-held r _ (t .0), fits-inside (addressFits (configOf r) (args .address)) (args .address) (args .width) (t .1) (t .2))
+
+windowed-requires : tie.Need-windowed-requires
+windowed-requires c κs = search needs
 
 same-length : tie.Need-same-length
 same-length c = search needs
 
 returns-2 : tie.Need-returns-2
-unfolding storeCall translatedOf
+unfolding storeCall
 returns-2 c =
-    let r = recordBy (c .before .before .before .before .before .before .before .before .before .before .before .before .before .before .before .before .before .before .args .head) (c .before .before .before .before .before .before .before .before .before .before .before .before .before .before .before .before .before .before .args .place .now) (c .before .before .before .before .before .before .before .before .before .before .before .before .before .before .before .before .before .before .args .ring .now) (c .before .before .before .before .before .before .before .before .before .before .before .before .before .before .before .before .before .before .args .order .now) in
+    let args = c .before .before .before .before .before .before .before .before .before .before .before .before .args in
+    let r = recordBy (args .head) (args .place .now) (args .ring .now) (args .order .now) in
+    let told = rw (c .before .before .before .before .before .before .before .before .before .before .before .before .pre .0) at (c .before .before .before .before .before .before .before .before .before .before .request-refusal .ensures) in
+    rw (c .windowed .ensures, c .before .before .before .before .before .before .before .before .held-in .ensures) (plain-stored r (args .mem .now) (args .address) (args .width) (args .value) _ (rw (c .before .before .before .before .before .before .depth .ensures, c .before .before .before .before .before .before .before .before .held-in .ensures) at (ap (λ b. yields b (c .before .before .before .before .store-plainly .last .0)) (sym (c .before .if2 .taken)) ∙ c .before .before .before .before .store-plainly .ensures)))
+    ∙ taken r (args .mem .now) (args .width) (addressOk false (configOf r) (args .address) (args .width)) _ (sym (c .before .before .before .before .before .before .before .before .before .if1 .left) ∙ told)
+
+store-translated-requires : tie.Need-store-translated-requires
+store-translated-requires c κs =
+    let args = c .before .before .before .before .before .before .before .before .before .before .before .before .before .before .before .args in
+    let r = recordBy (args .head) (args .place .now) (args .ring .now) (args .order .now) in
+    let told = rw (c .before .before .before .before .before .before .before .before .before .before .before .before .before .before .before .pre .0) at (c .before .before .before .before .before .before .before .before .before .before .before .before .before .request-refusal .ensures) in
+    let t = all-taken (fitsOf r (length (args .mem .now))) (widthFits (args .width)) (addressOk false (configOf r) (args .address) (args .width)) (sym (c .before .before .before .before .before .before .before .before .before .before .before .before .if1 .left) ∙ told) in
+    (fits-ready r _ (t .0), c .before .before .before .before .before .before .before .before .before .before .before .before .before .before .before .pre .1, fits-held r _ (t .0), fits-inside (addressFits (configOf r) (args .address)) (args .address) (args .width) (t .1) (t .2), c .before .before .before .before .before .before .before .before .before .depth .ensures)
+
+same-length-2 : tie.Need-same-length-2
+same-length-2 c = search needs
+
+returns-3 : tie.Need-returns-3
+unfolding storeCall
+returns-3 c =
+    let args = c .before .before .before .before .before .before .before .before .before .before .before .before .before .before .before .before .before .before .args in
+    let r = recordBy (args .head) (args .place .now) (args .ring .now) (args .order .now) in
     let told = rw (c .before .before .before .before .before .before .before .before .before .before .before .before .before .before .before .before .before .before .pre .0) at (c .before .before .before .before .before .before .before .before .before .before .before .before .before .before .before .before .request-refusal .ensures) in
-    let went = rw (c .before .before .before .before .before .before .before .before .before .before .before .before .before .depth .ensures, c .before .before .before .before .before .before .before .before .before .before .held-in .ensures, c .before .before .before .before .before .before .before .before .before .before .before .space-in .ensures) at (c .before .before .before .before .before .before .before .before .before .reached .ensures) in
-    c .before .before .store-from .ensures ∙ ap (λ (o : After Translated). storedBy r (c .before .before .before .before .before .before .before .before .before .before .before .before .before .before .before .before .before .before .args .address) (c .before .before .before .before .before .before .before .before .before .before .before .before .before .before .before .before .before .before .args .width) (c .before .before .before .before .before .before .before .before .before .before .before .before .before .before .before .before .before .before .args .value) o (o .result .walked)) went
-    ∙ taken r (c .before .before .before .before .before .before .before .before .before .before .before .before .before .before .before .before .before .before .args .mem .now) (c .before .before .before .before .before .before .before .before .before .before .before .before .before .before .before .before .before .before .args .width) (addressOk false (configOf r) (c .before .before .before .before .before .before .before .before .before .before .before .before .before .before .before .before .before .before .args .address) (c .before .before .before .before .before .before .before .before .before .before .before .before .before .before .before .before .before .before .args .width)) _ (sym (c .before .before .before .before .before .before .before .before .before .before .before .before .before .before .before .if1 .left) ∙ told)
+    let kept = plainly-keeps (configOf r) (args .mem .now) (heldOf r) (args .address) (args .width) (depthAt r (args .address)) (args .value) _ (rw (c .before .before .before .before .before .before .before .before .before .before .before .before .depth .ensures, c .before .before .before .before .before .before .before .before .before .before .before .before .before .before .held-in .ensures) at (ap (λ b. yields b (c .before .before .before .before .before .before .before .before .before .before .store-plainly .last .0)) (sym (c .before .before .before .before .before .before .before .if2 .left)) ∙ c .before .before .before .before .before .before .before .before .before .before .store-plainly .ensures)) in
+    rw (kept) at (c .before .before .store-translated .ensures)
+    ∙ taken r (args .mem .now) (args .width) (addressOk false (configOf r) (args .address) (args .width)) _ (sym (c .before .before .before .before .before .before .before .before .before .before .before .before .before .before .before .if1 .left) ∙ told)
 
 pub store-on-spec : {M : Type 1} → statement M
 store-on-spec =
@@ -74,10 +89,12 @@ store-on-spec =
     request-refusal-requires
     refused-in-requires
     returns
-    depth-requires
-    space-in-requires
     held-in-requires
-    reached-requires
-    store-from-requires
+    depth-requires
+    store-plainly-requires
+    windowed-requires
     same-length
-    returns-2)
+    returns-2
+    store-translated-requires
+    same-length-2
+    returns-3)

@@ -27,7 +27,7 @@ same-length c = search needs
 returns : tie.Need-returns
 returns c =
     let found = sym (c .before .before .before .before .before .before .path-held .ensures) ∙ c .before .before .before .before .page .given .1 in
-    rw (c .read-bytes .ensures) (load-page (config (c .before .before .before .before .before .before .before .before .before .before .before .args .space .layout)) (c .before .before .before .before .before .before .before .before .before .before .before .args .space .top) (c .before .before .before .before .before .before .before .before .before .before .before .args .mem .now) (c .before .before .before .before .before .before .before .before .before .before .before .args .held) (c .before .before .before .before .before .before .before .before .before .before .before .args .root .0) (c .before .before .before .before .before .before .before .before .before .before .before .args .address .0) (c .before .before .before .before .before .before .before .before .before .before .before .args .width) (c .before .before .before .before .before .before .before .before .before .before .before .args .depth) _ _ (c .before .before .if2 .taken) (c .before .before .before .before .before .before .before .before .if1 .taken) found)
+    rw (c .read-bytes .ensures) (load-page (config (c .before .before .before .before .before .before .before .before .before .before .before .args .space .layout)) (c .before .before .before .before .before .before .before .before .before .before .before .args .space .top) (c .before .before .before .before .before .before .before .before .before .before .before .args .mem .now) (c .before .before .before .before .before .before .before .before .before .before .before .args .held) (c .before .before .before .before .before .before .before .before .before .before .before .args .root .0) (c .before .before .before .before .before .before .before .before .before .before .before .args .address .0) (c .before .before .before .before .before .before .before .before .before .before .before .args .width) (c .before .before .before .before .before .before .before .before .before .before .before .args .depth) _ _ (c .before .before .if2 .taken) found)
 
 load-through-requires : tie.Need-load-through-requires
 load-through-requires c κs = (c .before .before .before .before .before .before .before .before .before .before .pre .0, c .before .before .before .before .before .before .before .before .before .before .pre .1, c .before .before .before .before .before .before .before .before .before .before .pre .2, c .before .before .before .before .before .before .before .if1 .taken, sym (c .before .before .before .before .before .path-held .ensures) ∙ c .before .before .before .page .given .1)

@@ -40,7 +40,7 @@ mod counted {
 /// time costs the same.
 type Case = (&'static str, fn() -> Guest, fn(&mut Record, &mut [u64]));
 
-const CASES: [Case; 48] = [
+const CASES: [Case; 50] = [
     ("load-depth-0", || held(0, 0), load::<0>),
     ("load-depth-0-marks-8", || held(0, 8), load::<0>),
     ("load-depth-0-marks-62", || held(0, 62), load::<0>),
@@ -69,9 +69,11 @@ const CASES: [Case; 48] = [
     ("depth-marks-62", || held(0, 62), |unit, _| depth(unit, 0, 62)),
     ("depth-top-and-5", || below_top(1), |unit, _| depth(unit, 5, 5)),
     ("depth-top-and-63", || below_top(59), |unit, _| depth(unit, 5, 5)),
-    ("store", || held(0, 0), store),
-    ("store-bits", || held_with_bits(0), store),
-    ("store-choice", || held_in(guest_with(SHADOWS, AUTOMATIC), 0, 0), store),
+    ("store", || held(0, 0), store::<0>),
+    ("store-depth-1", || held(1, 0), store::<1>),
+    ("store-depth-4", || held(4, 0), store::<4>),
+    ("store-bits", || held_with_bits(0), store::<0>),
+    ("store-choice", || held_in(guest_with(SHADOWS, AUTOMATIC), 0, 0), store::<0>),
     ("store-drops", || self_mapped(Choices::default()), store_drops),
     ("store-charged", || self_mapped(AUTOMATIC), store_drops),
     ("store-sets-mark", || self_mapped(AUTOMATIC), store_sets_mark),
@@ -109,9 +111,9 @@ fn depth(unit: &Record, depth: u64, read: u64) {
     assert_eq!(counted::depth(unit, 0), Lookup { depth, read });
 }
 
-fn store(unit: &mut Record, memory: &mut [u64]) {
+fn store<const DEPTH: u64>(unit: &mut Record, memory: &mut [u64]) {
     let said = counted::store(unit, memory, 0, 8, WORD);
-    assert_eq!(said, Answer::Done { references: 4, exits: 0 });
+    assert_eq!(said, Answer::Done { references: 4 + 4 * DEPTH, exits: 0 });
 }
 
 /// To the entry of a page whose path is held, with no charge in the window before. Nothing else is counted.
