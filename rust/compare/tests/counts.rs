@@ -31,7 +31,7 @@ const AT_MOST: [(&str, u64, &str); 9] = [
     ("load-depth-4-bits", 11, "load-depth-4"),
     ("load-depth-5-bits", 11, "load-depth-5"),
     ("load-depth-0-choice", 11, "load-depth-0"),
-    ("store-choice", 17, "store"),
+    ("store-choice", 12, "store"),
 ];
 
 /// For the program and what callgrind writes.

@@ -18,7 +18,9 @@ links-requires : tie.Need-links-requires
 links-requires c κs = search needs
 
 cut-requires : tie.Need-cut-requires
-cut-requires c κs = (c .before .before .before .pre .0 .0, rw (c .before .links .ensures) (omega arith))
+cut-requires c κs =
+    let pre = c .before .before .before .pre in
+    (pre .0 .0, rw (c .before .links .ensures) (omega arith))
 
 same-length : tie.Need-same-length
 same-length c = search needs
@@ -26,8 +28,11 @@ same-length c = search needs
 returns : tie.Need-returns
 unfolding appointedOf
 returns c =
-    let h = c .before .before .before .before .before .before .before .before .args .head in
-    marked-damaged h (c .before .before .before .before .before .before .before .before .args .place .now) (c .before .before .before .before .before .before .before .before .args .ring .now) (c .before .before .before .before .before .before .before .before .args .order .now) (c .before .before .before .before .before .before .before .before .args .mem .now) (h .layout .levels - 1) (c .before .before .before .before .before .before .before .before .args .prefix) _ _ _ (rw (c .before .before .before .before .before .before .links .ensures) at (c .before .before .before .before .cut .ensures)) (not-true (c .before .before .before .before .cut .result .ok) (c .if1 .taken))
+    let cut = c .before .before .before .before .cut in
+    let links = c .before .before .before .before .before .before .links in
+    let args = c .before .before .before .before .before .before .before .before .args in
+    let h = args .head in
+    marked-damaged h (args .place .now) (args .ring .now) (args .order .now) (args .mem .now) (h .layout .levels - 1) (args .prefix) _ _ _ (rw (links .ensures) at (cut .ensures)) (not-true (cut .result .ok) (c .if1 .taken))
 
 mul-key : tie.Need-mul-key
 mul-key c = search needs
@@ -56,21 +61,28 @@ same-length-2 c = c .before .before .before .before .before .before .before .bef
 returns-2 : tie.Need-returns-2
 unfolding appointedOf movedOf
 returns-2 c =
-    let h = c .before .before .before .before .before .before .before .before .before .before .before .before .before .before .before .before .before .before .before .args .head in
-    let place = c .before .before .before .before .before .before .before .before .before .before .before .before .before .before .before .before .before .before .before .args .place .now in
-    let ring = c .before .before .before .before .before .before .before .before .before .before .before .before .before .before .before .before .before .before .before .args .ring .now in
-    let order = c .before .before .before .before .before .before .before .before .before .before .before .before .before .before .before .before .before .before .before .args .order .now in
+    let with = c .before .before .with in
+    let place-of = c .before .before .before .before .place-of in
+    let insert = c .before .before .before .before .before .before .insert in
+    let if1 = c .before .before .before .before .before .before .before .before .before .before .before .if1 in
+    let cut = c .before .before .before .before .before .before .before .before .before .before .before .before .before .before .before .cut in
+    let links = c .before .before .before .before .before .before .before .before .before .before .before .before .before .before .before .before .before .links in
+    let args = c .before .before .before .before .before .before .before .before .before .before .before .before .before .before .before .before .before .before .before .args in
+    let h = args .head in
+    let place = args .place .now in
+    let ring = args .ring .now in
+    let order = args .order .now in
     let k = h .layout .levels - 1 in
-    let key = c .before .before .before .before .before .before .before .before .before .before .before .before .before .before .before .before .before .before .before .args .prefix * 8 + 1 in
-    let went = rw (c .before .before .before .before .before .before .before .before .before .before .before .before .before .before .before .before .before .links .ensures) at (c .before .before .before .before .before .before .before .before .before .before .before .before .before .before .before .cut .ensures) in
+    let key = args .prefix * 8 + 1 in
+    let went = rw (links .ensures) at (cut .ensures) in
     let r = recordBy h place ring order in
     let y : Marks → Choice = λ t. movedOf (record { tally = h .tally; ring = ring; order = order }) place (t .place) (t .set) in
-    let u : Marks = record { set = c .before .before .before .before .before .before .insert .result; place = c .before .before .before .before .before .before .insert .last .0 } in
+    let u : Marks = record { set = insert .result; place = insert .last .0 } in
     let at = placeOf (u .place) (u .set) key in
-    rw (c .with-marks .ensures, c .before .with-count .ensures, c .before .before .with .ensures .0, c .before .before .with .ensures .1, c .before .before .before .before .before .before .insert .ensures .1, c .before .before .before .before .place-of .ensures)
-    (marked-cut h place ring order (c .before .before .before .before .before .before .before .before .before .before .before .before .before .before .before .before .before .before .before .args .mem .now) k (c .before .before .before .before .before .before .before .before .before .before .before .before .before .before .before .before .before .before .before .args .prefix) u (withOrder (y u) (countWith (h .tally .count)) (orderWith (h .tally .count) (y u .order) at)) _ went (not-false (c .before .before .before .before .before .before .before .before .before .before .before .before .before .before .before .cut .result .ok) (c .before .before .before .before .before .before .before .before .before .before .before .if1 .left))
-    ∙ ap (λ x. markedOf r (c .before .before .before .before .before .before .before .before .before .before .before .before .before .before .before .before .before .before .before .args .mem .now) k (c .before .before .before .before .before .before .before .before .before .before .before .before .before .before .before .before .before .before .before .args .prefix) u x) (with-parts (y u) at)
-    ∙ ap (λ (t : Marks). markedOf r (c .before .before .before .before .before .before .before .before .before .before .before .before .before .before .before .before .before .before .before .args .mem .now) k (c .before .before .before .before .before .before .before .before .before .before .before .before .before .before .before .before .before .before .before .args .prefix) t (withOf (y t) (placeOf (t .place) (t .set) key))) (c .before .before .before .before .before .before .insert .ensures .0))
+    rw (c .with-marks .ensures, c .before .with-count .ensures, with .ensures .0, with .ensures .1, insert .ensures .1, place-of .ensures)
+    (marked-cut h place ring order (args .mem .now) k (args .prefix) u (withOrder (y u) (countWith (h .tally .count)) (orderWith (h .tally .count) (y u .order) at)) _ went (not-false (cut .result .ok) (if1 .left))
+    ∙ ap (λ x. markedOf r (args .mem .now) k (args .prefix) u x) (with-parts (y u) at)
+    ∙ ap (λ (t : Marks). markedOf r (args .mem .now) k (args .prefix) t (withOf (y t) (placeOf (t .place) (t .set) key))) (insert .ensures .0))
 
 pub appoint-spec : {M : Type 1} → statement M
 appoint-spec =

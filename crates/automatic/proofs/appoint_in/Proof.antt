@@ -16,10 +16,16 @@ same-length : tie.Need-same-length
 same-length c = search needs
 
 returns : tie.Need-returns
-returns c = rw (lt-ltb (ones (c .before .before .before .before .before .before .before .before .before .args .head .set)) 64 (omega (arith, c .before .before .before .before .before .before .before .count .ensures, c .before .before .before .before .before .before .if1 .taken))) (c .before .before .appoint .ensures)
+returns c =
+    let if1 = c .before .before .before .before .before .before .if1 in
+    let count = c .before .before .before .before .before .before .before .count in
+    let args = c .before .before .before .before .before .before .before .before .before .args in
+    rw (lt-ltb (ones (args .head .set)) 64 (omega (arith, count .ensures, if1 .taken))) (c .before .before .appoint .ensures)
 
 returns-2 : tie.Need-returns-2
-returns-2 c = rw (le-ltb (ones (c .before .before .before .args .head .set)) 64 (omega (arith, c .before .count .ensures, c .if1 .left)))
+returns-2 c =
+    let args = c .before .before .before .args in
+    rw (le-ltb (ones (args .head .set)) 64 (omega (arith, c .before .count .ensures, c .if1 .left)))
 
 pub appoint-in-spec : {M : Type 1} → statement M
 appoint-in-spec =

@@ -28,7 +28,11 @@ with-tally-requires c κs = search needs
 
 judge-requires : tie.Need-judge-requires
 unfolding tallyCharged headTally
-judge-requires c κs = rw (c .before .before .before .before .with-tally .ensures, c .before .before .before .before .before .charged .ensures) (c .before .before .before .before .before .before .before .before .before .before .before .before .pre .0, c .before .before .before .before .before .before .before .before .before .before .before .before .pre .1)
+judge-requires c κs =
+    let with-tally = c .before .before .before .before .with-tally in
+    let charged = c .before .before .before .before .before .charged in
+    let pre = c .before .before .before .before .before .before .before .before .before .before .before .before .pre in
+    rw (with-tally .ensures, charged .ensures) (pre .0, pre .1)
 
 put-word-requires-2 : tie.Need-put-word-requires-2
 put-word-requires-2 c κs = search needs
@@ -39,20 +43,26 @@ same-length c = c .before .before .before .before .before .before .judge .kept .
 returns : tie.Need-returns
 unfolding chargedOf window.chargedOf headTally withMarks
 returns c =
-    let h = c .before .before .before .before .before .before .before .before .before .before .before .before .before .before .before .before .before .before .before .args .head in
-    let place = c .before .before .before .before .before .before .before .before .before .before .before .before .before .before .before .before .before .before .before .args .place .now in
-    let ring = c .before .before .before .before .before .before .before .before .before .before .before .before .before .before .before .before .before .before .before .args .ring .now in
-    let order = c .before .before .before .before .before .before .before .before .before .before .before .before .before .before .before .before .before .before .before .args .order .now in
+    let judge = c .before .before .before .before .before .before .judge in
+    let with-tally = c .before .before .before .before .before .before .before .before .before .before .before .with-tally in
+    let charged = c .before .before .before .before .before .before .before .before .before .before .before .before .charged in
+    let put-word = c .before .before .before .before .before .before .before .before .before .before .before .before .before .put-word in
+    let next-word = c .before .before .before .before .before .before .before .before .before .before .before .before .before .before .before .next-word in
+    let args = c .before .before .before .before .before .before .before .before .before .before .before .before .before .before .before .before .before .before .before .args in
+    let h = args .head in
+    let place = args .place .now in
+    let ring = args .ring .now in
+    let order = args .order .now in
     let r = recordBy h place ring order in
-    let q = enteredOf r (c .before .before .before .before .before .before .before .before .before .before .before .before .before .before .before .before .before .before .before .args .prefix) in
-    let x = judgedOf q (c .before .before .before .before .before .before .before .before .before .before .before .before .before .before .before .before .before .before .before .args .mem .now) (c .before .before .before .before .before .before .before .before .before .before .before .before .before .before .before .before .before .before .before .args .prefix) in
-    let y : After Move = yields (movedIn (c .before .before .before .before .before .before .judge .last .1 .0) (set (c .before .before .before .before .before .before .before .before .before .before .before .before .before .before .before .before .before .before .before .args .ring .now) (c .before .before .before .before .before .before .before .before .before .before .before .before .before .before .before .before .before .before .before .args .head .tally .at % 64) (c .before .before .before .before .before .before .before .before .before .before .before .before .before .before .before .before .before .before .before .args .prefix)) (c .before .before .before .before .before .before .judge .last .1 .1 .1 .0) (c .before .before .before .before .before .before .judge .result)) (c .before .before .before .before .before .before .judge .last .1 .1 .1 .1 .0) in
-    let told : y ≡ keptBy q x = rw (c .before .before .before .before .before .before .before .before .before .before .before .with-tally .ensures, c .before .before .before .before .before .before .before .before .before .before .before .before .charged .ensures, c .before .before .before .before .before .before .before .before .before .before .before .before .before .put-word .ensures) at (c .before .before .before .before .before .before .judge .ensures) in
-    let bad = not-true (c .before .before .before .before .before .before .judge .result .ok) (c .before .before .if1 .taken) in
+    let q = enteredOf r (args .prefix) in
+    let x = judgedOf q (args .mem .now) (args .prefix) in
+    let y : After Move = yields (movedIn (judge .last .1 .0) (set (args .ring .now) (args .head .tally .at % 64) (args .prefix)) (judge .last .1 .1 .1 .0) (judge .result)) (judge .last .1 .1 .1 .1 .0) in
+    let told : y ≡ keptBy q x = rw (with-tally .ensures, charged .ensures, put-word .ensures) at (judge .ensures) in
+    let bad = not-true (judge .result .ok) (c .before .before .if1 .taken) in
     let back = kept-back r q x y told bad in
-    let places : c .before .before .before .before .before .before .judge .last .1 .0 ≡ place = ap (λ (z : After Move). z .result .unit .guest .marks .place) back in
-    let orders : c .before .before .before .before .before .before .judge .last .1 .1 .1 .0 ≡ order = ap (λ (z : After Move). z .result .unit .guest .choice .order) back in
-    let rings : c .put-word2 .last .0 ≡ ring = c .put-word2 .ensures ∙ rw (c .before .before .before .before .before .before .before .before .before .before .before .before .before .put-word .ensures, c .before .before .before .before .before .before .before .before .before .before .before .before .before .before .before .next-word .ensures) (set-set ring (h .tally .at % 64) _ _ ∙ set-getD ring (h .tally .at % 64) 0) in
+    let places : judge .last .1 .0 ≡ place = ap (λ (z : After Move). z .result .unit .guest .marks .place) back in
+    let orders : judge .last .1 .1 .1 .0 ≡ order = ap (λ (z : After Move). z .result .unit .guest .choice .order) back in
+    let rings : c .put-word2 .last .0 ≡ ring = c .put-word2 .ensures ∙ rw (put-word .ensures, next-word .ensures) (set-set ring (h .tally .at % 64) _ _ ∙ set-getD ring (h .tally .at % 64) 0) in
     rw (places, orders, rings) (kept-instead r q x y told bad)
 
 same-length-2 : tie.Need-same-length-2
@@ -61,12 +71,17 @@ same-length-2 c = search needs
 returns-2 : tie.Need-returns-2
 unfolding chargedOf window.chargedOf headTally withMarks
 returns-2 c =
-    let r = recordBy (c .before .before .before .before .before .before .before .before .before .before .before .before .before .before .before .before .before .args .head) (c .before .before .before .before .before .before .before .before .before .before .before .before .before .before .before .before .before .args .place .now) (c .before .before .before .before .before .before .before .before .before .before .before .before .before .before .before .before .before .args .ring .now) (c .before .before .before .before .before .before .before .before .before .before .before .before .before .before .before .before .before .args .order .now) in
-    let q = enteredOf r (c .before .before .before .before .before .before .before .before .before .before .before .before .before .before .before .before .before .args .prefix) in
-    let x = judgedOf q (c .before .before .before .before .before .before .before .before .before .before .before .before .before .before .before .before .before .args .mem .now) (c .before .before .before .before .before .before .before .before .before .before .before .before .before .before .before .before .before .args .prefix) in
-    let y : After Move = yields (movedIn (c .before .before .before .before .judge .last .1 .0) (set (c .before .before .before .before .before .before .before .before .before .before .before .before .before .before .before .before .before .args .ring .now) (c .before .before .before .before .before .before .before .before .before .before .before .before .before .before .before .before .before .args .head .tally .at % 64) (c .before .before .before .before .before .before .before .before .before .before .before .before .before .before .before .before .before .args .prefix)) (c .before .before .before .before .judge .last .1 .1 .1 .0) (c .before .before .before .before .judge .result)) (c .before .before .before .before .judge .last .1 .1 .1 .1 .0) in
-    rw (c .before .before .before .before .before .before .before .before .before .before .before .put-word .ensures)
-    (kept-goes r q x y (rw (c .before .before .before .before .before .before .before .before .before .with-tally .ensures, c .before .before .before .before .before .before .before .before .before .before .charged .ensures, c .before .before .before .before .before .before .before .before .before .before .before .put-word .ensures) at (c .before .before .before .before .judge .ensures)) (not-false (c .before .before .before .before .judge .result .ok) (c .if1 .left)))
+    let judge = c .before .before .before .before .judge in
+    let with-tally = c .before .before .before .before .before .before .before .before .before .with-tally in
+    let charged = c .before .before .before .before .before .before .before .before .before .before .charged in
+    let put-word = c .before .before .before .before .before .before .before .before .before .before .before .put-word in
+    let args = c .before .before .before .before .before .before .before .before .before .before .before .before .before .before .before .before .before .args in
+    let r = recordBy (args .head) (args .place .now) (args .ring .now) (args .order .now) in
+    let q = enteredOf r (args .prefix) in
+    let x = judgedOf q (args .mem .now) (args .prefix) in
+    let y : After Move = yields (movedIn (judge .last .1 .0) (set (args .ring .now) (args .head .tally .at % 64) (args .prefix)) (judge .last .1 .1 .1 .0) (judge .result)) (judge .last .1 .1 .1 .1 .0) in
+    rw (put-word .ensures)
+    (kept-goes r q x y (rw (with-tally .ensures, charged .ensures, put-word .ensures) at (judge .ensures)) (not-false (judge .result .ok) (c .if1 .left)))
 
 pub charge-spec : {M : Type 1} → statement M
 charge-spec =

@@ -13,7 +13,9 @@ same-length c = search needs
 
 returns : tie.Need-returns
 unfolding cutOf
-returns c = rw (← c .before .before .before .before .before .drop-prefix .ensures, not-true (c .before .before .before .before .before .drop-prefix .result .ok) (c .if1 .taken))
+returns c =
+    let drop-prefix = c .before .before .before .before .before .drop-prefix in
+    rw (← drop-prefix .ensures, not-true (drop-prefix .result .ok) (c .if1 .taken))
 
 held-after-requires : tie.Need-held-after-requires
 held-after-requires c κs = search needs
@@ -26,7 +28,9 @@ same-length-2 c = search needs
 
 returns-2 : tie.Need-returns-2
 unfolding cutOf
-returns-2 c = rw (← c .before .before .before .before .before .before .before .drop-prefix .ensures, not-false (c .before .before .before .before .before .before .before .drop-prefix .result .ok) (c .before .before .if1 .left), c .with-shadow .ensures, c .before .held-after .ensures)
+returns-2 c =
+    let drop-prefix = c .before .before .before .before .before .before .before .drop-prefix in
+    rw (← drop-prefix .ensures, not-false (drop-prefix .result .ok) (c .before .before .if1 .left), c .with-shadow .ensures, c .before .held-after .ensures)
 
 pub cut-spec : {M : Type 1} → statement M
 cut-spec =

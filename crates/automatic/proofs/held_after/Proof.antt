@@ -1,6 +1,5 @@
 -- By whether the mark keeps an index. Assumes nothing.
 use borrow.Author.Tests.{eq-eqb, ne-eqb}
-use borrow.Author.Needs.{needs}
 use Rattle.automatic.proofs.held_after.Statement.{statement}
 use Rattle.automatic.proofs.held_after.Tie as tie
 

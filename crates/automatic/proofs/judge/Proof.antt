@@ -16,7 +16,9 @@ charges-requires : tie.Need-charges-requires
 charges-requires c κs = search needs
 
 returns : tie.Need-returns
-returns c = rw (← c .before .charges .ensures, lt-leb 3 (c .before .charges .result) (c .if1 .taken))
+returns c =
+    let charges = c .before .charges in
+    rw (← charges .ensures, lt-leb 3 (charges .result) (c .if1 .taken))
 
 make-room-requires : tie.Need-make-room-requires
 make-room-requires c κs = search needs
@@ -26,42 +28,62 @@ same-length c = search needs
 
 returns-2 : tie.Need-returns-2
 returns-2 c =
-    let r = recordBy (c .before .before .before .before .before .before .before .before .before .before .before .before .args .head) (c .before .before .before .before .before .before .before .before .before .before .before .before .args .place .now) (c .before .before .before .before .before .before .before .before .before .before .before .before .args .ring .now) (c .before .before .before .before .before .before .before .before .before .before .before .before .args .order .now) in
-    let made = roomMadeOf r (c .before .before .before .before .before .before .before .before .before .before .before .before .args .mem .now) in
-    let bad : made .result .ok ≡ false = sym (ap (λ (o : After Move). o .result .ok) (c .before .before .before .before .make-room .ensures)) ∙ not-true (c .before .before .before .before .make-room .result .ok) (c .if2 .taken) in
-    rw (← c .before .before .before .before .before .before .before .before .before .before .charges .ensures, le-leb 3 (c .before .before .before .before .before .before .before .before .before .before .charges .result) (omega (arith, c .before .before .before .before .before .before .before .before .before .if1 .left)))
-    (c .before .before .before .before .make-room .ensures ∙ kept-damaged r made (room-kept r (c .before .before .before .before .before .before .before .before .before .before .before .before .args .mem .now)) bad ∙ then-damaged r made (appointedIn (c .before .before .before .before .before .before .before .before .before .before .before .before .args .prefix)) bad)
+    let make-room = c .before .before .before .before .make-room in
+    let if1 = c .before .before .before .before .before .before .before .before .before .if1 in
+    let charges = c .before .before .before .before .before .before .before .before .before .before .charges in
+    let args = c .before .before .before .before .before .before .before .before .before .before .before .before .args in
+    let r = recordBy (args .head) (args .place .now) (args .ring .now) (args .order .now) in
+    let made = roomMadeOf r (args .mem .now) in
+    let bad : made .result .ok ≡ false = sym (ap (λ (o : After Move). o .result .ok) (make-room .ensures)) ∙ not-true (make-room .result .ok) (c .if2 .taken) in
+    rw (← charges .ensures, le-leb 3 (charges .result) (omega (arith, if1 .left)))
+    (make-room .ensures ∙ kept-damaged r made (room-kept r (args .mem .now)) bad ∙ then-damaged r made (appointedIn (args .prefix)) bad)
 
 appoint-in-requires : tie.Need-appoint-in-requires
-appoint-in-requires c κs = (subst (λ (o : After Move). Ready (o .result .unit)) (sym (c .before .before .before .before .before .before .before .make-room .ensures)) (room-ready (recordBy (c .before .before .before .before .before .before .before .before .before .before .before .before .before .before .before .args .head) (c .before .before .before .before .before .before .before .before .before .before .before .before .before .before .before .args .place .now) (c .before .before .before .before .before .before .before .before .before .before .before .before .before .before .before .args .ring .now) (c .before .before .before .before .before .before .before .before .before .before .before .before .before .before .before .args .order .now)) (c .before .before .before .before .before .before .before .before .before .before .before .before .before .before .before .args .mem .now) (c .before .before .before .before .before .before .before .before .before .before .before .before .before .before .before .pre .0)), c .before .before .before .before .before .before .before .before .before .before .before .before .before .before .before .pre .1)
+appoint-in-requires c κs =
+    let make-room = c .before .before .before .before .before .before .before .make-room in
+    let args = c .before .before .before .before .before .before .before .before .before .before .before .before .before .before .before .args in
+    let pre = c .before .before .before .before .before .before .before .before .before .before .before .before .before .before .before .pre in
+    (subst (λ (o : After Move). Ready (o .result .unit)) (sym (make-room .ensures)) (room-ready (recordBy (args .head) (args .place .now) (args .ring .now) (args .order .now)) (args .mem .now) (pre .0)), pre .1)
 
 same-length-2 : tie.Need-same-length-2
 same-length-2 c = search needs
 
 returns-3 : tie.Need-returns-3
 returns-3 c =
-    let r = recordBy (c .before .before .before .before .before .before .before .before .before .before .before .before .before .before .before .before .before .before .before .before .args .head) (c .before .before .before .before .before .before .before .before .before .before .before .before .before .before .before .before .before .before .before .before .args .place .now) (c .before .before .before .before .before .before .before .before .before .before .before .before .before .before .before .before .before .before .before .before .args .ring .now) (c .before .before .before .before .before .before .before .before .before .before .before .before .before .before .before .before .before .before .before .before .args .order .now) in
-    let p = c .before .before .before .before .before .before .before .before .before .before .before .before .before .before .before .before .before .before .before .before .args .prefix in
-    let o : After Move = yields (movedIn (c .before .before .before .before .before .before .before .before .before .before .before .before .before .before .before .before .before .before .before .before .args .place .now) (c .before .before .before .before .before .before .before .before .before .before .before .before .before .before .before .before .before .before .before .before .args .ring .now) (c .before .before .before .before .before .before .before .before .before .before .before .before .make-room .last .1 .1 .1 .0) (c .before .before .before .before .before .before .before .before .before .before .before .before .make-room .result)) (c .before .before .before .before .before .before .before .before .before .before .before .before .make-room .last .1 .1 .1 .1 .0) in
-    let y : After Move = yields (movedIn (c .before .before .before .before .appoint-in .last .1 .0) (c .before .before .before .before .before .before .before .before .before .before .before .before .before .before .before .before .before .before .before .before .args .ring .now) (c .before .before .before .before .appoint-in .last .1 .1 .1 .0) (c .before .before .before .before .appoint-in .result)) (c .before .before .before .before .appoint-in .last .1 .1 .1 .1 .0) in
-    let good = not-false (c .before .before .before .before .before .before .before .before .before .before .before .before .make-room .result .ok) (c .before .before .before .before .before .before .before .before .if2 .left) in
-    let bad = not-true (c .before .before .before .before .appoint-in .result .ok) (c .if3 .taken) in
-    let same = kept-damaged (o .result .unit) _ (appointed-kept p (o .result .unit) (o .memory)) (sym (ap (λ (z : After Move). z .result .ok) (c .before .before .before .before .appoint-in .ensures)) ∙ bad) in
-    let places : c .before .before .before .before .appoint-in .last .1 .0 ≡ c .before .before .before .before .before .before .before .before .before .before .before .before .before .before .before .before .before .before .before .before .args .place .now = ap (λ (z : After Move). z .result .unit .guest .marks .place) (c .before .before .before .before .appoint-in .ensures ∙ same) in
-    rw (← c .before .before .before .before .before .before .before .before .before .before .before .before .before .before .before .before .before .before .charges .ensures, le-leb 3 (c .before .before .before .before .before .before .before .before .before .before .before .before .before .before .before .before .before .before .charges .result) (omega (arith, c .before .before .before .before .before .before .before .before .before .before .before .before .before .before .before .before .before .if1 .left)), places)
-    (second-damaged r o (appointedIn p) good y (c .before .before .before .before .appoint-in .ensures) bad ∙ ap (λ z. keptBy r (thenBy z (appointedIn p))) (c .before .before .before .before .before .before .before .before .before .before .before .before .make-room .ensures))
+    let appoint-in = c .before .before .before .before .appoint-in in
+    let if2 = c .before .before .before .before .before .before .before .before .if2 in
+    let make-room = c .before .before .before .before .before .before .before .before .before .before .before .before .make-room in
+    let if1 = c .before .before .before .before .before .before .before .before .before .before .before .before .before .before .before .before .before .if1 in
+    let charges = c .before .before .before .before .before .before .before .before .before .before .before .before .before .before .before .before .before .before .charges in
+    let args = c .before .before .before .before .before .before .before .before .before .before .before .before .before .before .before .before .before .before .before .before .args in
+    let r = recordBy (args .head) (args .place .now) (args .ring .now) (args .order .now) in
+    let p = args .prefix in
+    let o : After Move = yields (movedIn (args .place .now) (args .ring .now) (make-room .last .1 .1 .1 .0) (make-room .result)) (make-room .last .1 .1 .1 .1 .0) in
+    let y : After Move = yields (movedIn (appoint-in .last .1 .0) (args .ring .now) (appoint-in .last .1 .1 .1 .0) (appoint-in .result)) (appoint-in .last .1 .1 .1 .1 .0) in
+    let good = not-false (make-room .result .ok) (if2 .left) in
+    let bad = not-true (appoint-in .result .ok) (c .if3 .taken) in
+    let same = kept-damaged (o .result .unit) _ (appointed-kept p (o .result .unit) (o .memory)) (sym (ap (λ (z : After Move). z .result .ok) (appoint-in .ensures)) ∙ bad) in
+    let places : appoint-in .last .1 .0 ≡ args .place .now = ap (λ (z : After Move). z .result .unit .guest .marks .place) (appoint-in .ensures ∙ same) in
+    rw (← charges .ensures, le-leb 3 (charges .result) (omega (arith, if1 .left)), places)
+    (second-damaged r o (appointedIn p) good y (appoint-in .ensures) bad ∙ ap (λ z. keptBy r (thenBy z (appointedIn p))) (make-room .ensures))
 
 same-length-3 : tie.Need-same-length-3
 same-length-3 c = search needs
 
 returns-4 : tie.Need-returns-4
 returns-4 c =
-    let r = recordBy (c .before .before .before .before .before .before .before .before .before .before .before .before .before .before .before .before .before .before .before .before .args .head) (c .before .before .before .before .before .before .before .before .before .before .before .before .before .before .before .before .before .before .before .before .args .place .now) (c .before .before .before .before .before .before .before .before .before .before .before .before .before .before .before .before .before .before .before .before .args .ring .now) (c .before .before .before .before .before .before .before .before .before .before .before .before .before .before .before .before .before .before .before .before .args .order .now) in
-    let p = c .before .before .before .before .before .before .before .before .before .before .before .before .before .before .before .before .before .before .before .before .args .prefix in
-    let o : After Move = yields (movedIn (c .before .before .before .before .before .before .before .before .before .before .before .before .before .before .before .before .before .before .before .before .args .place .now) (c .before .before .before .before .before .before .before .before .before .before .before .before .before .before .before .before .before .before .before .before .args .ring .now) (c .before .before .before .before .before .before .before .before .before .before .before .before .make-room .last .1 .1 .1 .0) (c .before .before .before .before .before .before .before .before .before .before .before .before .make-room .result)) (c .before .before .before .before .before .before .before .before .before .before .before .before .make-room .last .1 .1 .1 .1 .0) in
-    let y : After Move = yields (movedIn (c .before .before .before .before .appoint-in .last .1 .0) (c .before .before .before .before .before .before .before .before .before .before .before .before .before .before .before .before .before .before .before .before .args .ring .now) (c .before .before .before .before .appoint-in .last .1 .1 .1 .0) (c .before .before .before .before .appoint-in .result)) (c .before .before .before .before .appoint-in .last .1 .1 .1 .1 .0) in
-    rw (← c .before .before .before .before .before .before .before .before .before .before .before .before .before .before .before .before .before .before .charges .ensures, le-leb 3 (c .before .before .before .before .before .before .before .before .before .before .before .before .before .before .before .before .before .before .charges .result) (omega (arith, c .before .before .before .before .before .before .before .before .before .before .before .before .before .before .before .before .before .if1 .left)))
-    (second-goes r o (appointedIn p) (not-false (c .before .before .before .before .before .before .before .before .before .before .before .before .make-room .result .ok) (c .before .before .before .before .before .before .before .before .if2 .left)) y (c .before .before .before .before .appoint-in .ensures) (not-false (c .before .before .before .before .appoint-in .result .ok) (c .if3 .left)) ∙ ap (λ z. keptBy r (thenBy z (appointedIn p))) (c .before .before .before .before .before .before .before .before .before .before .before .before .make-room .ensures))
+    let appoint-in = c .before .before .before .before .appoint-in in
+    let if2 = c .before .before .before .before .before .before .before .before .if2 in
+    let make-room = c .before .before .before .before .before .before .before .before .before .before .before .before .make-room in
+    let if1 = c .before .before .before .before .before .before .before .before .before .before .before .before .before .before .before .before .before .if1 in
+    let charges = c .before .before .before .before .before .before .before .before .before .before .before .before .before .before .before .before .before .before .charges in
+    let args = c .before .before .before .before .before .before .before .before .before .before .before .before .before .before .before .before .before .before .before .before .args in
+    let r = recordBy (args .head) (args .place .now) (args .ring .now) (args .order .now) in
+    let p = args .prefix in
+    let o : After Move = yields (movedIn (args .place .now) (args .ring .now) (make-room .last .1 .1 .1 .0) (make-room .result)) (make-room .last .1 .1 .1 .1 .0) in
+    let y : After Move = yields (movedIn (appoint-in .last .1 .0) (args .ring .now) (appoint-in .last .1 .1 .1 .0) (appoint-in .result)) (appoint-in .last .1 .1 .1 .1 .0) in
+    rw (← charges .ensures, le-leb 3 (charges .result) (omega (arith, if1 .left)))
+    (second-goes r o (appointedIn p) (not-false (make-room .result .ok) (if2 .left)) y (appoint-in .ensures) (not-false (appoint-in .result .ok) (c .if3 .left)) ∙ ap (λ z. keptBy r (thenBy z (appointedIn p))) (make-room .ensures))
 
 pub judge-spec : {M : Type 1} → statement M
 judge-spec =

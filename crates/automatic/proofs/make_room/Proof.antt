@@ -12,11 +12,16 @@ count-requires c κs = search needs
 
 returns : tie.Need-returns
 unfolding roomMadeOf
-returns c = rw (lt-ltb (ones (c .before .before .before .args .head .set)) 64 (omega (arith, c .before .count .ensures, c .if1 .taken)))
+returns c =
+    let args = c .before .before .before .args in
+    rw (lt-ltb (ones (args .head .set)) 64 (omega (arith, c .before .count .ensures, c .if1 .taken)))
 
 returns-2 : tie.Need-returns-2
 unfolding roomMadeOf
-returns-2 c = rw (le-ltb (ones (c .before .before .before .before .before .args .head .set)) 64 (omega (arith, c .before .before .before .count .ensures, c .before .before .if1 .left)), eq-eqb _ _ (c .if2 .taken))
+returns-2 c =
+    let count = c .before .before .before .count in
+    let args = c .before .before .before .before .before .args in
+    rw (le-ltb (ones (args .head .set)) 64 (omega (arith, count .ensures, c .before .before .if1 .left)), eq-eqb _ _ (c .if2 .taken))
 
 leaving-requires : tie.Need-leaving-requires
 leaving-requires c κs = search needs
@@ -29,7 +34,13 @@ same-length c = search needs
 
 returns-3 : tie.Need-returns-3
 unfolding roomMadeOf
-returns-3 c = rw (le-ltb (ones (c .before .before .before .before .before .before .before .before .before .before .before .before .args .head .set)) 64 (omega (arith, c .before .before .before .before .before .before .before .before .before .before .count .ensures, c .before .before .before .before .before .before .before .before .before .if1 .left)), ne-eqb _ _ (c .before .before .before .before .before .before .before .if2 .left), ← c .before .before .before .before .before .leaving .ensures) (c .before .before .withdraw .ensures)
+returns-3 c =
+    let leaving = c .before .before .before .before .before .leaving in
+    let if2 = c .before .before .before .before .before .before .before .if2 in
+    let if1 = c .before .before .before .before .before .before .before .before .before .if1 in
+    let count = c .before .before .before .before .before .before .before .before .before .before .count in
+    let args = c .before .before .before .before .before .before .before .before .before .before .before .before .args in
+    rw (le-ltb (ones (args .head .set)) 64 (omega (arith, count .ensures, if1 .left)), ne-eqb _ _ (if2 .left), ← leaving .ensures) (c .before .before .withdraw .ensures)
 
 pub make-room-spec : {M : Type 1} → statement M
 make-room-spec =

@@ -18,7 +18,9 @@ prefix-at-requires : tie.Need-prefix-at-requires
 prefix-at-requires c κs = search needs
 
 cut-requires : tie.Need-cut-requires
-cut-requires c κs = (c .before .before .before .before .pre .0, rw (c .before .before .links .ensures) (omega arith))
+cut-requires c κs =
+    let pre = c .before .before .before .before .pre in
+    (pre .0, rw (c .before .before .links .ensures) (omega arith))
 
 same-length : tie.Need-same-length
 same-length c = search needs
@@ -26,10 +28,14 @@ same-length c = search needs
 returns : tie.Need-returns
 unfolding withdrawnOf
 returns c =
-    let h = c .before .before .before .before .before .before .before .before .before .args .head in
-    let went = rw (c .before .before .before .before .before .before .before .links .ensures, c .before .before .before .before .before .prefix-at .ensures) at (c .before .before .before .before .cut .ensures) in
-    let place = c .before .before .before .before .before .before .before .before .before .args .place .now in
-    marked-damaged h place (c .before .before .before .before .before .before .before .before .before .args .ring .now) (c .before .before .before .before .before .before .before .before .before .args .order .now) (c .before .before .before .before .before .before .before .before .before .args .mem .now) (h .layout .levels - 1) (prefixAt place (c .before .before .before .before .before .before .before .before .before .args .at)) _ _ _ went (not-true (c .before .before .before .before .cut .result .ok) (c .if1 .taken))
+    let cut = c .before .before .before .before .cut in
+    let prefix-at = c .before .before .before .before .before .prefix-at in
+    let links = c .before .before .before .before .before .before .before .links in
+    let args = c .before .before .before .before .before .before .before .before .before .args in
+    let h = args .head in
+    let went = rw (links .ensures, prefix-at .ensures) at (cut .ensures) in
+    let place = args .place .now in
+    marked-damaged h place (args .ring .now) (args .order .now) (args .mem .now) (h .layout .levels - 1) (prefixAt place (args .at)) _ _ _ went (not-true (cut .result .ok) (c .if1 .taken))
 
 key-at-requires : tie.Need-key-at-requires
 key-at-requires c κs = search needs
@@ -52,16 +58,24 @@ same-length-2 c = c .before .before .before .before .before .before .before .bef
 returns-2 : tie.Need-returns-2
 unfolding withdrawnOf withoutOf
 returns-2 c =
-    let h = c .before .before .before .before .before .before .before .before .before .before .before .before .before .before .before .before .before .args .head in
-    let place = c .before .before .before .before .before .before .before .before .before .before .before .before .before .before .before .before .before .args .place .now in
-    let went = rw (c .before .before .before .before .before .before .before .before .before .before .before .before .before .before .before .links .ensures, c .before .before .before .before .before .before .before .before .before .before .before .before .before .prefix-at .ensures) at (c .before .before .before .before .before .before .before .before .before .before .before .before .cut .ensures) in
-    let x = withoutOf (record { tally = h .tally; ring = c .before .before .before .before .before .before .before .before .before .before .before .before .before .before .before .before .before .args .ring .now; order = c .before .before .before .before .before .before .before .before .before .before .before .before .before .before .before .before .before .args .order .now }) (c .before .before .before .before .before .before .before .before .before .before .before .before .before .before .before .before .before .args .at) in
-    let key = rw (c .before .before .before .before .before .before .before .key-at .ensures) at (c .before .before .before .before .before .before .without .ensures) in
+    let without2 = c .before .before .before .before .without2 in
+    let without = c .before .before .before .before .before .before .without in
+    let key-at = c .before .before .before .before .before .before .before .key-at in
+    let if1 = c .before .before .before .before .before .before .before .before .if1 in
+    let cut = c .before .before .before .before .before .before .before .before .before .before .before .before .cut in
+    let prefix-at = c .before .before .before .before .before .before .before .before .before .before .before .before .before .prefix-at in
+    let links = c .before .before .before .before .before .before .before .before .before .before .before .before .before .before .before .links in
+    let args = c .before .before .before .before .before .before .before .before .before .before .before .before .before .before .before .before .before .args in
+    let h = args .head in
+    let place = args .place .now in
+    let went = rw (links .ensures, prefix-at .ensures) at (cut .ensures) in
+    let x = withoutOf (record { tally = h .tally; ring = args .ring .now; order = args .order .now }) (args .at) in
+    let key = rw (key-at .ensures) at (without .ensures) in
     let k = h .layout .levels - 1 in
-    let p = prefixAt place (c .before .before .before .before .before .before .before .before .before .before .before .before .before .before .before .before .before .args .at) in
-    rw (c .with-marks .ensures, c .before .with-count .ensures, c .before .before .before .before .without2 .ensures .0, c .before .before .before .before .without2 .ensures .1)
-    (marked-cut h place (c .before .before .before .before .before .before .before .before .before .before .before .before .before .before .before .before .before .args .ring .now) (c .before .before .before .before .before .before .before .before .before .before .before .before .before .before .before .before .before .args .order .now) (c .before .before .before .before .before .before .before .before .before .before .before .before .before .before .before .before .before .args .mem .now) k p (record { set = c .before .before .before .before .before .before .without .result; place = place }) x _ went (not-false (c .before .before .before .before .before .before .before .before .before .before .before .before .cut .result .ok) (c .before .before .before .before .before .before .before .before .if1 .left))
-    ∙ ap (λ t. markedOf (recordBy h place (c .before .before .before .before .before .before .before .before .before .before .before .before .before .before .before .before .before .args .ring .now) (c .before .before .before .before .before .before .before .before .before .before .before .before .before .before .before .before .before .args .order .now)) (c .before .before .before .before .before .before .before .before .before .before .before .before .before .before .before .before .before .args .mem .now) k p t x) key)
+    let p = prefixAt place (args .at) in
+    rw (c .with-marks .ensures, c .before .with-count .ensures, without2 .ensures .0, without2 .ensures .1)
+    (marked-cut h place (args .ring .now) (args .order .now) (args .mem .now) k p (record { set = without .result; place = place }) x _ went (not-false (cut .result .ok) (if1 .left))
+    ∙ ap (λ t. markedOf (recordBy h place (args .ring .now) (args .order .now)) (args .mem .now) k p t x) key)
 
 pub withdraw-spec : {M : Type 1} → statement M
 withdraw-spec =

@@ -35,15 +35,22 @@ same-length : tie.Need-same-length
 same-length c = search needs
 
 returns-2 : tie.Need-returns-2
-returns-2 c = rw (eq-eqb _ _ (c .before .before .before .before .before .before .before .if1 .left), c .before .before .before .before .before .was .given .1) (c .before .before .drop-users .ensures)
+returns-2 c =
+    let was = c .before .before .before .before .before .was in
+    let if1 = c .before .before .before .before .before .before .before .if1 in
+    rw (eq-eqb _ _ (if1 .left), was .given .1) (c .before .before .drop-users .ensures)
 
 returns-3 : tie.Need-returns-3
 unfolding headHost headTables
-returns-3 c = rw (eq-eqb _ _ (c .before .before .before .before .if1 .left), c .before .before .was2 .given .1, c .held-in .ensures)
+returns-3 c =
+    let if1 = c .before .before .before .before .if1 in
+    rw (eq-eqb _ _ (if1 .left), c .before .before .was2 .given .1, c .held-in .ensures)
 
 returns-4 : tie.Need-returns-4
 unfolding headTables
-returns-4 c = rw (eq-eqb _ _ (c .before .before .before .if1 .left), c .before .enum-told .given .1, c .unmoved2 .ensures)
+returns-4 c =
+    let if1 = c .before .before .before .if1 in
+    rw (eq-eqb _ _ (if1 .left), c .before .enum-told .given .1, c .unmoved2 .ensures)
 
 pub changed-spec : {M : Type 1} → statement M
 changed-spec =

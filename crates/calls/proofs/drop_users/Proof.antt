@@ -24,14 +24,20 @@ same-length c = search needs
 
 returns-2 : tie.Need-returns-2
 unfolding unmappedOf headTables
-returns-2 c = rw (ne-eqb _ _ (c .before .before .before .before .before .before .before .before .before .if1 .left), ← c .before .before .before .before .before .before .before .drop-mapping .ensures, not-true (c .before .before .before .before .before .before .before .drop-mapping .result .ok) (c .before .if2 .taken), c .unmoved .ensures)
+returns-2 c =
+    let drop-mapping = c .before .before .before .before .before .before .before .drop-mapping in
+    let if1 = c .before .before .before .before .before .before .before .before .before .if1 in
+    rw (ne-eqb _ _ (if1 .left), ← drop-mapping .ensures, not-true (drop-mapping .result .ok) (c .before .if2 .taken), c .unmoved .ensures)
 
 same-length-2 : tie.Need-same-length-2
 same-length-2 c = search needs
 
 returns-3 : tie.Need-returns-3
 unfolding unmappedOf headHeld headHost headTables
-returns-3 c = rw (ne-eqb _ _ (c .before .before .before .before .before .before .before .before .if1 .left), ← c .before .before .before .before .before .before .drop-mapping .ensures, not-false (c .before .before .before .before .before .before .drop-mapping .result .ok) (c .if2 .left))
+returns-3 c =
+    let drop-mapping = c .before .before .before .before .before .before .drop-mapping in
+    let if1 = c .before .before .before .before .before .before .before .before .if1 in
+    rw (ne-eqb _ _ (if1 .left), ← drop-mapping .ensures, not-false (drop-mapping .result .ok) (c .if2 .left))
 
 pub drop-users-spec : {M : Type 1} → statement M
 drop-users-spec =

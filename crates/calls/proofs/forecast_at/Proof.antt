@@ -16,22 +16,29 @@ use Rattle.calls.proofs.forecast_at.Tie as tie
 returns : tie.Need-returns
 unfolding forecastCall
 returns c =
-    let r = recordBy (c .before .before .before .args .head) (c .before .before .before .args .place .now) (c .before .before .before .args .ring .now) (c .before .before .before .args .order .now) in
-    broken r (c .before .before .before .args .mem .now) _ (sym (c .before .before .before .pre) ∙ not-true (c .before .before .before .args .fits) (c .if1 .taken))
+    let args = c .before .before .before .args in
+    let pre = c .before .before .before .pre in
+    let r = recordBy (args .head) (args .place .now) (args .ring .now) (args .order .now) in
+    broken r (args .mem .now) _ (sym pre ∙ not-true (args .fits) (c .if1 .taken))
 
 returns-2 : tie.Need-returns-2
 unfolding forecastCall
 returns-2 c =
-    let r = recordBy (c .before .before .before .before .before .args .head) (c .before .before .before .before .before .args .place .now) (c .before .before .before .before .before .args .ring .now) (c .before .before .before .before .before .args .order .now) in
-    let fits : fitsOf r (length (c .before .before .before .before .before .args .mem .now)) ≡ true = sym (c .before .before .before .before .before .pre) ∙ not-false (c .before .before .before .before .before .args .fits) (c .before .before .if1 .left) in
-    failed r (c .before .before .before .before .before .args .mem .now) _ _ _ fits (ap not (chosen-on _ (c .if2 .taken)))
+    let args = c .before .before .before .before .before .args in
+    let pre = c .before .before .before .before .before .pre in
+    let r = recordBy (args .head) (args .place .now) (args .ring .now) (args .order .now) in
+    let fits : fitsOf r (length (args .mem .now)) ≡ true = sym pre ∙ not-false (args .fits) (c .before .before .if1 .left) in
+    failed r (args .mem .now) _ _ _ fits (ap not (chosen-on _ (c .if2 .taken)))
 
 returns-3 : tie.Need-returns-3
 unfolding forecastCall
 returns-3 c =
-    let r = recordBy (c .before .before .before .before .before .before .args .head) (c .before .before .before .before .before .before .args .place .now) (c .before .before .before .before .before .before .args .ring .now) (c .before .before .before .before .before .before .args .order .now) in
-    let fits : fitsOf r (length (c .before .before .before .before .before .before .args .mem .now)) ≡ true = sym (c .before .before .before .before .before .before .pre) ∙ not-false (c .before .before .before .before .before .before .args .fits) (c .before .before .before .if1 .left) in
-    rw (lt-leb _ _ (c .if3 .taken)) (passed r (c .before .before .before .before .before .before .args .mem .now) _ _ _ fits (ap not (chosen-off _ (c .before .if2 .left))))
+    let if1 = c .before .before .before .if1 in
+    let args = c .before .before .before .before .before .before .args in
+    let pre = c .before .before .before .before .before .before .pre in
+    let r = recordBy (args .head) (args .place .now) (args .ring .now) (args .order .now) in
+    let fits : fitsOf r (length (args .mem .now)) ≡ true = sym pre ∙ not-false (args .fits) (if1 .left) in
+    rw (lt-leb _ _ (c .if3 .taken)) (passed r (args .mem .now) _ _ _ fits (ap not (chosen-off _ (c .before .if2 .left))))
 
 space-in-requires : tie.Need-space-in-requires
 space-in-requires c κs = search needs
@@ -41,17 +48,25 @@ held-in-requires c κs = search needs
 
 forecast-requires : tie.Need-forecast-requires
 forecast-requires c κs =
-    let r = recordBy (c .before .before .before .before .before .before .before .before .args .head) (c .before .before .before .before .before .before .before .before .args .place .now) (c .before .before .before .before .before .before .before .before .args .ring .now) (c .before .before .before .before .before .before .before .before .args .order .now) in
-    let fits : fitsOf r (length (c .before .before .before .before .before .before .before .before .args .mem .now)) ≡ true = sym (c .before .before .before .before .before .before .before .before .pre) ∙ not-false (c .before .before .before .before .before .before .before .before .args .fits) (c .before .before .before .before .before .if1 .left) in
+    let if1 = c .before .before .before .before .before .if1 in
+    let args = c .before .before .before .before .before .before .before .before .args in
+    let pre = c .before .before .before .before .before .before .before .before .pre in
+    let r = recordBy (args .head) (args .place .now) (args .ring .now) (args .order .now) in
+    let fits : fitsOf r (length (args .mem .now)) ≡ true = sym pre ∙ not-false (args .fits) (if1 .left) in
     rw (c .before .space-in .ensures, c .held-in .ensures) (fits-sound r _ fits .0, fits-held r _ fits, fits-used r _ fits, omega (arith, c .before .before .if3 .left))
 
 returns-4 : tie.Need-returns-4
 unfolding forecastCall
 returns-4 c =
-    let r = recordBy (c .before .before .before .before .before .before .before .before .before .args .head) (c .before .before .before .before .before .before .before .before .before .args .place .now) (c .before .before .before .before .before .before .before .before .before .args .ring .now) (c .before .before .before .before .before .before .before .before .before .args .order .now) in
-    let fits : fitsOf r (length (c .before .before .before .before .before .before .before .before .before .args .mem .now)) ≡ true = sym (c .before .before .before .before .before .before .before .before .before .pre) ∙ not-false (c .before .before .before .before .before .before .before .before .before .args .fits) (c .before .before .before .before .before .before .if1 .left) in
+    let if3 = c .before .before .before .if3 in
+    let if2 = c .before .before .before .before .if2 in
+    let if1 = c .before .before .before .before .before .before .if1 in
+    let args = c .before .before .before .before .before .before .before .before .before .args in
+    let pre = c .before .before .before .before .before .before .before .before .before .pre in
+    let r = recordBy (args .head) (args .place .now) (args .ring .now) (args .order .now) in
+    let fits : fitsOf r (length (args .mem .now)) ≡ true = sym pre ∙ not-false (args .fits) (if1 .left) in
     let told = rw (c .before .held-in .ensures, c .before .before .space-in .ensures) at (c .forecast .ensures) in
-    rw (told, le-leb _ _ (c .before .before .before .if3 .left)) (passed r (c .before .before .before .before .before .before .before .before .before .args .mem .now) _ _ _ fits (ap not (chosen-off _ (c .before .before .before .before .if2 .left))))
+    rw (told, le-leb _ _ (if3 .left)) (passed r (args .mem .now) _ _ _ fits (ap not (chosen-off _ (if2 .left))))
 
 pub forecast-at-spec : {M : Type 1} → statement M
 forecast-at-spec =

@@ -17,14 +17,19 @@ same-length : tie.Need-same-length
 same-length c = search needs
 
 returns : tie.Need-returns
-returns c = rw (c .before .before .before .before .before .before .if1 .taken) (c .before .before .set .ensures)
+returns c =
+    let if1 = c .before .before .before .before .before .before .if1 in
+    rw (if1 .taken) (c .before .before .set .ensures)
 
 same-length-2 : tie.Need-same-length-2
 same-length-2 c = search needs
 
 returns-2 : tie.Need-returns-2
 unfolding clearedOf
-returns-2 c = rw (c .before .before .before .before .before .before .if1 .left) (c .before .before .clear .ensures ∙ marked-kept (recordBy (c .before .before .before .before .before .before .before .before .args .head) (c .before .before .before .before .before .before .before .before .args .place .now) (c .before .before .before .before .before .before .before .before .args .ring .now) (c .before .before .before .before .before .before .before .before .args .order .now)) _ _ _ _ _)
+returns-2 c =
+    let if1 = c .before .before .before .before .before .before .if1 in
+    let args = c .before .before .before .before .before .before .before .before .args in
+    rw (if1 .left) (c .before .before .clear .ensures ∙ marked-kept (recordBy (args .head) (args .place .now) (args .ring .now) (args .order .now)) _ _ _ _ _)
 
 pub mark-moves-spec : {M : Type 1} → statement M
 mark-moves-spec =

@@ -14,17 +14,28 @@ refused-in-requires c κs = search needs
 
 returns : tie.Need-returns
 unfolding rootCall
-returns c = rw (c .refused-in .ensures) (broken (recordBy (c .before .before .before .before .args .head) (c .before .before .before .before .args .place .now) (c .before .before .before .before .args .ring .now) (c .before .before .before .before .args .order .now)) (c .before .before .before .before .args .mem .now) _ (sym (c .before .before .before .before .pre) ∙ not-true (c .before .before .before .before .args .fits) (c .before .if1 .taken)))
+returns c =
+    let args = c .before .before .before .before .args in
+    let pre = c .before .before .before .before .pre in
+    rw (c .refused-in .ensures) (broken (recordBy (args .head) (args .place .now) (args .ring .now) (args .order .now)) (args .mem .now) _ (sym pre ∙ not-true (args .fits) (c .before .if1 .taken)))
 
 frame-fits-requires : tie.Need-frame-fits-requires
-frame-fits-requires c κs = fits-sound (recordBy (c .before .before .before .args .head) (c .before .before .before .args .place .now) (c .before .before .before .args .ring .now) (c .before .before .before .args .order .now)) _ (sym (c .before .before .before .pre) ∙ not-false (c .before .before .before .args .fits) (c .if1 .left)) .0
+frame-fits-requires c κs =
+    let args = c .before .before .before .args in
+    let pre = c .before .before .before .pre in
+    fits-sound (recordBy (args .head) (args .place .now) (args .ring .now) (args .order .now)) _ (sym pre ∙ not-false (args .fits) (c .if1 .left)) .0
 
 refused-in-requires-2 : tie.Need-refused-in-requires-2
 refused-in-requires-2 c κs = search needs
 
 returns-2 : tie.Need-returns-2
 unfolding rootCall
-returns-2 c = rw (c .refused-in2 .ensures) (failed (recordBy (c .before .before .before .before .before .before .args .head) (c .before .before .before .before .before .before .args .place .now) (c .before .before .before .before .before .before .args .ring .now) (c .before .before .before .before .before .before .args .order .now)) (c .before .before .before .before .before .before .args .mem .now) _ _ _ (sym (c .before .before .before .before .before .before .pre) ∙ not-false (c .before .before .before .before .before .before .args .fits) (c .before .before .before .if1 .left)) (sym (c .before .before .frame-fits .ensures) ∙ not-true (c .before .before .frame-fits .result) (c .before .if2 .taken)))
+returns-2 c =
+    let frame-fits = c .before .before .frame-fits in
+    let if1 = c .before .before .before .if1 in
+    let args = c .before .before .before .before .before .before .args in
+    let pre = c .before .before .before .before .before .before .pre in
+    rw (c .refused-in2 .ensures) (failed (recordBy (args .head) (args .place .now) (args .ring .now) (args .order .now)) (args .mem .now) _ _ _ (sym pre ∙ not-false (args .fits) (if1 .left)) (sym (frame-fits .ensures) ∙ not-true (frame-fits .result) (c .before .if2 .taken)))
 
 held-none-requires : tie.Need-held-none-requires
 held-none-requires c κs = search needs
@@ -44,8 +55,15 @@ with-tally-requires c κs = search needs
 returns-3 : tie.Need-returns-3
 unfolding rootCall
 returns-3 c =
-    rw (c .with-tally .ensures, c .before .emptied .ensures, c .before .before .with-root .ensures, c .before .before .before .with-held .ensures, c .before .before .before .before .held-none .ensures)
-    (passed (recordBy (c .before .before .before .before .before .before .before .before .before .before .args .head) (c .before .before .before .before .before .before .before .before .before .before .args .place .now) (c .before .before .before .before .before .before .before .before .before .before .args .ring .now) (c .before .before .before .before .before .before .before .before .before .before .args .order .now)) (c .before .before .before .before .before .before .before .before .before .before .args .mem .now) _ _ _ (sym (c .before .before .before .before .before .before .before .before .before .before .pre) ∙ not-false (c .before .before .before .before .before .before .before .before .before .before .args .fits) (c .before .before .before .before .before .before .before .if1 .left)) (sym (c .before .before .before .before .before .before .frame-fits .ensures) ∙ not-false (c .before .before .before .before .before .before .frame-fits .result) (c .before .before .before .before .before .if2 .left)))
+    let with-held = c .before .before .before .with-held in
+    let held-none = c .before .before .before .before .held-none in
+    let if2 = c .before .before .before .before .before .if2 in
+    let frame-fits = c .before .before .before .before .before .before .frame-fits in
+    let if1 = c .before .before .before .before .before .before .before .if1 in
+    let args = c .before .before .before .before .before .before .before .before .before .before .args in
+    let pre = c .before .before .before .before .before .before .before .before .before .before .pre in
+    rw (c .with-tally .ensures, c .before .emptied .ensures, c .before .before .with-root .ensures, with-held .ensures, held-none .ensures)
+    (passed (recordBy (args .head) (args .place .now) (args .ring .now) (args .order .now)) (args .mem .now) _ _ _ (sym pre ∙ not-false (args .fits) (if1 .left)) (sym (frame-fits .ensures) ∙ not-false (frame-fits .result) (if2 .left)))
 
 pub root-at-spec : {M : Type 1} → statement M
 root-at-spec =

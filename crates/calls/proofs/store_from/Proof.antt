@@ -19,7 +19,10 @@ word-of-requires : tie.Need-word-of-requires
 word-of-requires c κs = search needs
 
 charge-at-requires : tie.Need-charge-at-requires
-charge-at-requires c κs = (c .before .before .before .before .before .before .before .pre .0 .0 .0, c .before .before .before .before .before .before .before .pre .2, subst ReachesFrame (c .before .before .before .walked .given .1) (c .before .before .before .before .before .before .before .pre .3), c .word-of .ensures .1)
+charge-at-requires c κs =
+    let walked = c .before .before .before .walked in
+    let pre = c .before .before .before .before .before .before .before .pre in
+    (pre .0 .0 .0, pre .2, subst ReachesFrame (walked .given .1) (pre .3), c .word-of .ensures .1)
 
 enum-told : tie.Need-enum-told
 enum-told c = search needs
@@ -31,7 +34,9 @@ held-in-requires : tie.Need-held-in-requires
 held-in-requires c κs = search needs
 
 stored-by-bits-requires : tie.Need-stored-by-bits-requires
-stored-by-bits-requires c κs = rw (c .before .space-in .ensures) (c .before .before .before .before .before .before .before .before .before .before .before .before .before .pre .0 .0 .0, c .before .before .before .before .before .before .before .before .before .before .before .before .before .pre .2, c .before .before .before .before .before .before .before .before .before .before .before .before .before .pre .3, c .before .before .before .before .before .before .before .before .before .before .before .before .before .pre .4, c .before .before .before .before .before .before .before .before .before .before .before .before .before .pre .5)
+stored-by-bits-requires c κs =
+    let pre = c .before .before .before .before .before .before .before .before .before .before .before .before .before .pre in
+    rw (c .before .space-in .ensures) (pre .0 .0 .0, pre .2, pre .3, pre .4, pre .5)
 
 windowed-requires : tie.Need-windowed-requires
 windowed-requires c κs = search needs
@@ -41,8 +46,14 @@ enum-known-prefix c = search needs
 
 store-charged-requires : tie.Need-store-charged-requires
 store-charged-requires c κs =
-    let small = subst (λ (x : Charge). SmallCharge (c .before .before .before .before .before .before .before .before .before .before .before .before .before .before .before .args .head .layout .levels - 1) x) (sym (rw (c .before .before .before .before .before .before .before .before .word-of .ensures .0) at (c .before .before .before .before .before .before .before .charge-at .ensures)) ∙ c .before .before .before .before .before .prefix .given .1) (charge-small _ _ _ _ _) in
-    (c .before .before .before .before .before .before .before .before .before .before .before .before .before .before .before .pre .0, c .before .before .before .before .before .before .before .before .before .before .before .before .before .before .before .pre .4, (c .before .before .before .before .before .before .before .before .before .before .before .before .before .before .before .pre .2, subst ReachesFrame (c .before .before .before .before .before .before .before .before .before .before .before .walked .given .1) (c .before .before .before .before .before .before .before .before .before .before .before .before .before .before .before .pre .3), c .before .before .before .before .before .before .before .before .before .before .before .before .before .before .before .pre .5, small))
+    let prefix = c .before .before .before .before .before .prefix in
+    let charge-at = c .before .before .before .before .before .before .before .charge-at in
+    let word-of = c .before .before .before .before .before .before .before .before .word-of in
+    let walked = c .before .before .before .before .before .before .before .before .before .before .before .walked in
+    let args = c .before .before .before .before .before .before .before .before .before .before .before .before .before .before .before .args in
+    let pre = c .before .before .before .before .before .before .before .before .before .before .before .before .before .before .before .pre in
+    let small = subst (λ (x : Charge). SmallCharge (args .head .layout .levels - 1) x) (sym (rw (word-of .ensures .0) at (charge-at .ensures)) ∙ prefix .given .1) (charge-small _ _ _ _ _) in
+    (pre .0, pre .4, (pre .2, subst ReachesFrame (walked .given .1) (pre .3), pre .5, small))
 
 enum-told-2 : tie.Need-enum-told-2
 enum-told-2 c = search needs
@@ -67,35 +78,57 @@ same-length c = search needs
 
 returns : tie.Need-returns
 returns c =
-    let r = recordBy (c .before .before .before .before .before .before .before .before .before .before .before .before .before .before .before .before .before .args .head) (c .before .before .before .before .before .before .before .before .before .before .before .before .before .before .before .before .before .args .place .now) (c .before .before .before .before .before .before .before .before .before .before .before .before .before .before .before .before .before .args .ring .now) (c .before .before .before .before .before .before .before .before .before .before .before .before .before .before .before .before .before .args .order .now) in
-    let done = rw (c .before .before .before .before .before .space-in .ensures, c .before .before .before .before .held-in .ensures) at (c .before .before .before .stored-by-bits .ensures) in
-    rw (c .windowed .ensures) (ap (windowedBy r) done ∙ on-store r (c .before .before .before .before .before .before .before .before .before .before .before .before .before .before .before .before .before .pre .1) (c .before .before .before .before .before .before .before .before .before .before .before .before .before .before .before .before .before .args .address .0) (c .before .before .before .before .before .before .before .before .before .before .before .before .before .before .before .before .before .args .width) (c .before .before .before .before .before .before .before .before .before .before .before .before .before .before .before .before .before .args .value) (yields (c .before .before .before .before .before .before .before .before .before .before .before .before .before .before .before .before .before .args .t) (c .before .before .before .before .before .before .before .before .before .before .before .before .before .before .before .before .before .args .mem .now)) _ _ _ _ (c .before .before .before .before .before .before .before .before .before .before .before .before .before .walked .given .1) (sym (rw (c .before .before .before .before .before .before .before .before .before .before .word-of .ensures .0) at (c .before .before .before .before .before .before .before .before .before .charge-at .ensures)) ∙ c .before .before .before .before .before .before .before .enum-told .given .1))
+    let stored-by-bits = c .before .before .before .stored-by-bits in
+    let held-in = c .before .before .before .before .held-in in
+    let space-in = c .before .before .before .before .before .space-in in
+    let enum-told = c .before .before .before .before .before .before .before .enum-told in
+    let charge-at = c .before .before .before .before .before .before .before .before .before .charge-at in
+    let word-of = c .before .before .before .before .before .before .before .before .before .before .word-of in
+    let walked = c .before .before .before .before .before .before .before .before .before .before .before .before .before .walked in
+    let args = c .before .before .before .before .before .before .before .before .before .before .before .before .before .before .before .before .before .args in
+    let pre = c .before .before .before .before .before .before .before .before .before .before .before .before .before .before .before .before .before .pre in
+    let r = recordBy (args .head) (args .place .now) (args .ring .now) (args .order .now) in
+    let done = rw (space-in .ensures, held-in .ensures) at (stored-by-bits .ensures) in
+    rw (c .windowed .ensures) (ap (windowedBy r) done ∙ on-store r (pre .1) (args .address .0) (args .width) (args .value) (yields (args .t) (args .mem .now)) _ _ _ _ (walked .given .1) (sym (rw (word-of .ensures .0) at (charge-at .ensures)) ∙ enum-told .given .1))
 
 same-length-2 : tie.Need-same-length-2
 same-length-2 c = search needs
 
 returns-2 : tie.Need-returns-2
 returns-2 c =
-    let r = recordBy (c .before .before .before .before .before .before .before .before .before .before .before .before .before .before .before .before .before .before .args .head) (c .before .before .before .before .before .before .before .before .before .before .before .before .before .before .before .before .before .before .args .place .now) (c .before .before .before .before .before .before .before .before .before .before .before .before .before .before .before .before .before .before .args .ring .now) (c .before .before .before .before .before .before .before .before .before .before .before .before .before .before .before .before .before .before .args .order .now) in
-    c .before .before .store-charged .ensures ∙ on-store r (c .before .before .before .before .before .before .before .before .before .before .before .before .before .before .before .before .before .before .pre .1) (c .before .before .before .before .before .before .before .before .before .before .before .before .before .before .before .before .before .before .args .address .0) (c .before .before .before .before .before .before .before .before .before .before .before .before .before .before .before .before .before .before .args .width) (c .before .before .before .before .before .before .before .before .before .before .before .before .before .before .before .before .before .before .args .value) (yields (c .before .before .before .before .before .before .before .before .before .before .before .before .before .before .before .before .before .before .args .t) (c .before .before .before .before .before .before .before .before .before .before .before .before .before .before .before .before .before .before .args .mem .now)) _ _ _ _ (c .before .before .before .before .before .before .before .before .before .before .before .before .before .before .walked .given .1) (sym (rw (c .before .before .before .before .before .before .before .before .before .before .before .word-of .ensures .0) at (c .before .before .before .before .before .before .before .before .before .before .charge-at .ensures)) ∙ c .before .before .before .before .before .before .before .before .prefix .given .1)
+    let prefix = c .before .before .before .before .before .before .before .before .prefix in
+    let charge-at = c .before .before .before .before .before .before .before .before .before .before .charge-at in
+    let word-of = c .before .before .before .before .before .before .before .before .before .before .before .word-of in
+    let walked = c .before .before .before .before .before .before .before .before .before .before .before .before .before .before .walked in
+    let args = c .before .before .before .before .before .before .before .before .before .before .before .before .before .before .before .before .before .before .args in
+    let pre = c .before .before .before .before .before .before .before .before .before .before .before .before .before .before .before .before .before .before .pre in
+    let r = recordBy (args .head) (args .place .now) (args .ring .now) (args .order .now) in
+    c .before .before .store-charged .ensures ∙ on-store r (pre .1) (args .address .0) (args .width) (args .value) (yields (args .t) (args .mem .now)) _ _ _ _ (walked .given .1) (sym (rw (word-of .ensures .0) at (charge-at .ensures)) ∙ prefix .given .1)
 
 same-length-3 : tie.Need-same-length-3
 same-length-3 c = search needs
 
 returns-3 : tie.Need-returns-3
 returns-3 c =
-    let r = recordBy (c .before .before .before .before .before .before .before .before .before .before .before .args .head) (c .before .before .before .before .before .before .before .before .before .before .before .args .place .now) (c .before .before .before .before .before .before .before .before .before .before .before .args .ring .now) (c .before .before .before .before .before .before .before .before .before .before .before .args .order .now) in
-    rw (c .refused-in .ensures) (on-store r (c .before .before .before .before .before .before .before .before .before .before .before .pre .1) (c .before .before .before .before .before .before .before .before .before .before .before .args .address .0) (c .before .before .before .before .before .before .before .before .before .before .before .args .width) (c .before .before .before .before .before .before .before .before .before .before .before .args .value) (yields (c .before .before .before .before .before .before .before .before .before .before .before .args .t) (c .before .before .before .before .before .before .before .before .before .before .before .args .mem .now)) _ _ _ _ (c .before .before .before .before .before .before .before .walked .given .1) (sym (rw (c .before .before .before .before .word-of .ensures .0) at (c .before .before .before .charge-at .ensures)) ∙ c .before .enum-told2 .given .1))
+    let charge-at = c .before .before .before .charge-at in
+    let word-of = c .before .before .before .before .word-of in
+    let walked = c .before .before .before .before .before .before .before .walked in
+    let args = c .before .before .before .before .before .before .before .before .before .before .before .args in
+    let pre = c .before .before .before .before .before .before .before .before .before .before .before .pre in
+    let r = recordBy (args .head) (args .place .now) (args .ring .now) (args .order .now) in
+    rw (c .refused-in .ensures) (on-store r (pre .1) (args .address .0) (args .width) (args .value) (yields (args .t) (args .mem .now)) _ _ _ _ (walked .given .1) (sym (rw (word-of .ensures .0) at (charge-at .ensures)) ∙ c .before .enum-told2 .given .1))
 
 returns-4 : tie.Need-returns-4
 returns-4 c =
-    let r = recordBy (c .before .before .before .before .before .before .args .head) (c .before .before .before .before .before .before .args .place .now) (c .before .before .before .before .before .before .args .ring .now) (c .before .before .before .before .before .before .args .order .now) in
-    rw (c .windowed2 .ensures) (not-arrived r (c .before .before .before .before .before .before .args .address .0) (c .before .before .before .before .before .before .args .width) (c .before .before .before .before .before .before .args .value) (yields (c .before .before .before .before .before .before .args .t) (c .before .before .before .before .before .before .args .mem .now)) _ _ (c .before .before .walked2 .given .1))
+    let args = c .before .before .before .before .before .before .args in
+    let r = recordBy (args .head) (args .place .now) (args .ring .now) (args .order .now) in
+    rw (c .windowed2 .ensures) (not-arrived r (args .address .0) (args .width) (args .value) (yields (args .t) (args .mem .now)) _ _ (c .before .before .walked2 .given .1))
 
 returns-5 : tie.Need-returns-5
 returns-5 c =
-    let r = recordBy (c .before .before .before .before .before .args .head) (c .before .before .before .before .before .args .place .now) (c .before .before .before .before .before .args .ring .now) (c .before .before .before .before .before .args .order .now) in
-    rw (c .refused-in2 .ensures) (not-walked r (c .before .before .before .before .before .args .address .0) (c .before .before .before .before .before .args .width) (c .before .before .before .before .before .args .value) (yields (c .before .before .before .before .before .args .t) (c .before .before .before .before .before .args .mem .now)) (c .before .enum-told3 .given .1))
+    let args = c .before .before .before .before .before .args in
+    let r = recordBy (args .head) (args .place .now) (args .ring .now) (args .order .now) in
+    rw (c .refused-in2 .ensures) (not-walked r (args .address .0) (args .width) (args .value) (yields (args .t) (args .mem .now)) (c .before .enum-told3 .given .1))
 
 pub store-from-spec : {M : Type 1} → statement M
 store-from-spec =

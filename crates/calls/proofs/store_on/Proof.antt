@@ -27,9 +27,10 @@ refused-in-requires c κs = search needs
 returns : tie.Need-returns
 unfolding storeCall
 returns c =
+    let pre = c .before .before .before .before .pre in
     let args = c .before .before .before .before .args in
     let r = recordBy (args .head) (args .place .now) (args .ring .now) (args .order .now) in
-    let told = rw (c .before .before .before .before .pre .0) at (c .before .before .request-refusal .ensures) in
+    let told = rw (pre .0) at (c .before .before .request-refusal .ensures) in
     rw (c .refused-in .ensures) (turned-away r (args .mem .now) (args .width) (addressOk false (configOf r) (args .address) (args .width)) _ _ told (c .before .if1 .taken))
 
 held-in-requires : tie.Need-held-in-requires
@@ -40,11 +41,15 @@ depth-requires c κs = search needs
 
 store-plainly-requires : tie.Need-store-plainly-requires
 store-plainly-requires c κs =
+    let held-in = c .before .before .before .held-in in
+    let if1 = c .before .before .before .before .if1 in
+    let request-refusal = c .before .before .before .before .before .request-refusal in
+    let pre = c .before .before .before .before .before .before .before .pre in
     let args = c .before .before .before .before .before .before .before .args in
     let r = recordBy (args .head) (args .place .now) (args .ring .now) (args .order .now) in
-    let told = rw (c .before .before .before .before .before .before .before .pre .0) at (c .before .before .before .before .before .request-refusal .ensures) in
-    let t = all-taken (fitsOf r (length (args .mem .now))) (widthFits (args .width)) (addressOk false (configOf r) (args .address) (args .width)) (sym (c .before .before .before .before .if1 .left) ∙ told) in
-    rw (c .before .before .before .held-in .ensures) (fits-sound r _ (t .0) .0, fits-held r _ (t .0), fits-inside (addressFits (configOf r) (args .address)) (args .address) (args .width) (t .1) (t .2))
+    let told = rw (pre .0) at (request-refusal .ensures) in
+    let t = all-taken (fitsOf r (length (args .mem .now))) (widthFits (args .width)) (addressOk false (configOf r) (args .address) (args .width)) (sym (if1 .left) ∙ told) in
+    rw (held-in .ensures) (fits-sound r _ (t .0) .0, fits-held r _ (t .0), fits-inside (addressFits (configOf r) (args .address)) (args .address) (args .width) (t .1) (t .2))
 
 windowed-requires : tie.Need-windowed-requires
 windowed-requires c κs = search needs
@@ -55,19 +60,29 @@ same-length c = search needs
 returns-2 : tie.Need-returns-2
 unfolding storeCall
 returns-2 c =
+    let store-plainly = c .before .before .before .before .store-plainly in
+    let depth = c .before .before .before .before .before .before .depth in
+    let held-in = c .before .before .before .before .before .before .before .before .held-in in
+    let if1 = c .before .before .before .before .before .before .before .before .before .if1 in
+    let request-refusal = c .before .before .before .before .before .before .before .before .before .before .request-refusal in
+    let pre = c .before .before .before .before .before .before .before .before .before .before .before .before .pre in
     let args = c .before .before .before .before .before .before .before .before .before .before .before .before .args in
     let r = recordBy (args .head) (args .place .now) (args .ring .now) (args .order .now) in
-    let told = rw (c .before .before .before .before .before .before .before .before .before .before .before .before .pre .0) at (c .before .before .before .before .before .before .before .before .before .before .request-refusal .ensures) in
-    rw (c .windowed .ensures, c .before .before .before .before .before .before .before .before .held-in .ensures) (plain-stored r (args .mem .now) (args .address) (args .width) (args .value) _ (rw (c .before .before .before .before .before .before .depth .ensures, c .before .before .before .before .before .before .before .before .held-in .ensures) at (ap (λ b. yields b (c .before .before .before .before .store-plainly .last .0)) (sym (c .before .if2 .taken)) ∙ c .before .before .before .before .store-plainly .ensures)))
-    ∙ taken r (args .mem .now) (args .width) (addressOk false (configOf r) (args .address) (args .width)) _ (sym (c .before .before .before .before .before .before .before .before .before .if1 .left) ∙ told)
+    let told = rw (pre .0) at (request-refusal .ensures) in
+    rw (c .windowed .ensures, held-in .ensures) (plain-stored r (args .mem .now) (args .address) (args .width) (args .value) _ (rw (depth .ensures, held-in .ensures) at (ap (λ b. yields b (store-plainly .last .0)) (sym (c .before .if2 .taken)) ∙ store-plainly .ensures)))
+    ∙ taken r (args .mem .now) (args .width) (addressOk false (configOf r) (args .address) (args .width)) _ (sym (if1 .left) ∙ told)
 
 store-translated-requires : tie.Need-store-translated-requires
 store-translated-requires c κs =
+    let depth = c .before .before .before .before .before .before .before .before .before .depth in
+    let if1 = c .before .before .before .before .before .before .before .before .before .before .before .before .if1 in
+    let request-refusal = c .before .before .before .before .before .before .before .before .before .before .before .before .before .request-refusal in
+    let pre = c .before .before .before .before .before .before .before .before .before .before .before .before .before .before .before .pre in
     let args = c .before .before .before .before .before .before .before .before .before .before .before .before .before .before .before .args in
     let r = recordBy (args .head) (args .place .now) (args .ring .now) (args .order .now) in
-    let told = rw (c .before .before .before .before .before .before .before .before .before .before .before .before .before .before .before .pre .0) at (c .before .before .before .before .before .before .before .before .before .before .before .before .before .request-refusal .ensures) in
-    let t = all-taken (fitsOf r (length (args .mem .now))) (widthFits (args .width)) (addressOk false (configOf r) (args .address) (args .width)) (sym (c .before .before .before .before .before .before .before .before .before .before .before .before .if1 .left) ∙ told) in
-    (fits-ready r _ (t .0), c .before .before .before .before .before .before .before .before .before .before .before .before .before .before .before .pre .1, fits-held r _ (t .0), fits-inside (addressFits (configOf r) (args .address)) (args .address) (args .width) (t .1) (t .2), c .before .before .before .before .before .before .before .before .before .depth .ensures)
+    let told = rw (pre .0) at (request-refusal .ensures) in
+    let t = all-taken (fitsOf r (length (args .mem .now))) (widthFits (args .width)) (addressOk false (configOf r) (args .address) (args .width)) (sym (if1 .left) ∙ told) in
+    (fits-ready r _ (t .0), pre .1, fits-held r _ (t .0), fits-inside (addressFits (configOf r) (args .address)) (args .address) (args .width) (t .1) (t .2), depth .ensures)
 
 same-length-2 : tie.Need-same-length-2
 same-length-2 c = search needs
@@ -75,12 +90,19 @@ same-length-2 c = search needs
 returns-3 : tie.Need-returns-3
 unfolding storeCall
 returns-3 c =
+    let if2 = c .before .before .before .before .before .before .before .if2 in
+    let store-plainly = c .before .before .before .before .before .before .before .before .before .before .store-plainly in
+    let depth = c .before .before .before .before .before .before .before .before .before .before .before .before .depth in
+    let held-in = c .before .before .before .before .before .before .before .before .before .before .before .before .before .before .held-in in
+    let if1 = c .before .before .before .before .before .before .before .before .before .before .before .before .before .before .before .if1 in
+    let request-refusal = c .before .before .before .before .before .before .before .before .before .before .before .before .before .before .before .before .request-refusal in
+    let pre = c .before .before .before .before .before .before .before .before .before .before .before .before .before .before .before .before .before .before .pre in
     let args = c .before .before .before .before .before .before .before .before .before .before .before .before .before .before .before .before .before .before .args in
     let r = recordBy (args .head) (args .place .now) (args .ring .now) (args .order .now) in
-    let told = rw (c .before .before .before .before .before .before .before .before .before .before .before .before .before .before .before .before .before .before .pre .0) at (c .before .before .before .before .before .before .before .before .before .before .before .before .before .before .before .before .request-refusal .ensures) in
-    let kept = plainly-keeps (configOf r) (args .mem .now) (heldOf r) (args .address) (args .width) (depthAt r (args .address)) (args .value) _ (rw (c .before .before .before .before .before .before .before .before .before .before .before .before .depth .ensures, c .before .before .before .before .before .before .before .before .before .before .before .before .before .before .held-in .ensures) at (ap (λ b. yields b (c .before .before .before .before .before .before .before .before .before .before .store-plainly .last .0)) (sym (c .before .before .before .before .before .before .before .if2 .left)) ∙ c .before .before .before .before .before .before .before .before .before .before .store-plainly .ensures)) in
+    let told = rw (pre .0) at (request-refusal .ensures) in
+    let kept = plainly-keeps (configOf r) (args .mem .now) (heldOf r) (args .address) (args .width) (depthAt r (args .address)) (args .value) _ (rw (depth .ensures, held-in .ensures) at (ap (λ b. yields b (store-plainly .last .0)) (sym (if2 .left)) ∙ store-plainly .ensures)) in
     rw (kept) at (c .before .before .store-translated .ensures)
-    ∙ taken r (args .mem .now) (args .width) (addressOk false (configOf r) (args .address) (args .width)) _ (sym (c .before .before .before .before .before .before .before .before .before .before .before .before .before .before .before .if1 .left) ∙ told)
+    ∙ taken r (args .mem .now) (args .width) (addressOk false (configOf r) (args .address) (args .width)) _ (sym (if1 .left) ∙ told)
 
 pub store-on-spec : {M : Type 1} → statement M
 store-on-spec =

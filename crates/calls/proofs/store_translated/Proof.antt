@@ -18,16 +18,22 @@ held-in-requires : tie.Need-held-in-requires
 held-in-requires c κs = search needs
 
 reached-requires : tie.Need-reached-requires
-reached-requires c κs = rw (c .before .space-in .ensures, c .held-in .ensures) (c .before .before .before .before .pre .0 .0 .0, c .before .before .before .before .pre .2)
+reached-requires c κs =
+    let pre = c .before .before .before .before .pre in
+    rw (c .before .space-in .ensures, c .held-in .ensures) (pre .0 .0 .0, pre .2)
 
 store-from-requires : tie.Need-store-from-requires
 store-from-requires c κs =
+    let reached = c .before .before .before .before .before .before .reached in
+    let held-in = c .before .before .before .before .before .before .before .held-in in
+    let space-in = c .before .before .before .before .before .before .before .before .space-in in
+    let pre = c .before .before .before .before .before .before .before .before .before .before .before .pre in
     let args = c .before .before .before .before .before .before .before .before .before .before .before .args in
     let r = recordBy (args .head) (args .place .now) (args .ring .now) (args .order .now) in
-    let went = rw (c .before .before .before .before .before .before .before .held-in .ensures, c .before .before .before .before .before .before .before .before .space-in .ensures, c .before .before .before .before .before .before .before .before .before .before .before .pre .4) at (c .before .before .before .before .before .before .reached .ensures) in
-    let leaves = leaves-as (configOf r) (hostTop r) (args .mem .now) (heldOf r) (rootOf r) true (args .address .0) (depthAt r (args .address .0)) (c .before .before .before .before .before .before .before .before .before .before .before .pre .2) _ (sym went) in
-    let reaches = reaches-as (configOf r) (hostTop r) (args .mem .now) (heldOf r) (rootOf r) true (args .address .0) (depthAt r (args .address .0)) (c .before .before .before .before .before .before .before .before .before .before .before .pre .2) _ (c .before .before .before .before .before .before .before .before .before .before .before .pre .0 .0 .0 .3) (sym went) in
-    (c .before .before .before .before .before .before .before .before .before .before .before .pre .0, c .before .before .before .before .before .before .before .before .before .before .before .pre .1, leaves .held .0, reaches, c .before .before .before .before .before .before .before .before .before .before .before .pre .3, (let k = leaves .exits in omega arith))
+    let went = rw (held-in .ensures, space-in .ensures, pre .4) at (reached .ensures) in
+    let leaves = leaves-as (configOf r) (hostTop r) (args .mem .now) (heldOf r) (rootOf r) true (args .address .0) (depthAt r (args .address .0)) (pre .2) _ (sym went) in
+    let reaches = reaches-as (configOf r) (hostTop r) (args .mem .now) (heldOf r) (rootOf r) true (args .address .0) (depthAt r (args .address .0)) (pre .2) _ (pre .0 .0 .0 .3) (sym went) in
+    (pre .0, pre .1, leaves .held .0, reaches, pre .3, (let k = leaves .exits in omega arith))
 
 same-length : tie.Need-same-length
 same-length c = search needs
@@ -35,9 +41,13 @@ same-length c = search needs
 returns : tie.Need-returns
 unfolding translatedOf
 returns c =
+    let reached = c .before .before .before .before .before .before .before .before .before .reached in
+    let held-in = c .before .before .before .before .before .before .before .before .before .before .held-in in
+    let space-in = c .before .before .before .before .before .before .before .before .before .before .before .space-in in
+    let pre = c .before .before .before .before .before .before .before .before .before .before .before .before .before .before .pre in
     let args = c .before .before .before .before .before .before .before .before .before .before .before .before .before .before .args in
     let r = recordBy (args .head) (args .place .now) (args .ring .now) (args .order .now) in
-    let went = rw (c .before .before .before .before .before .before .before .before .before .before .held-in .ensures, c .before .before .before .before .before .before .before .before .before .before .before .space-in .ensures, c .before .before .before .before .before .before .before .before .before .before .before .before .before .before .pre .4) at (c .before .before .before .before .before .before .before .before .before .reached .ensures) in
+    let went = rw (held-in .ensures, space-in .ensures, pre .4) at (reached .ensures) in
     c .before .before .store-from .ensures ∙ ap (λ (o : After Translated). storedBy r (args .address .0) (args .width) (args .value) o (o .result .walked)) went
 
 pub store-translated-spec : {M : Type 1} → statement M

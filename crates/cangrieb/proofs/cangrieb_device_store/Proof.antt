@@ -12,7 +12,9 @@ head-in-requires : tie.Need-head-in-requires
 head-in-requires c κs = search needs
 
 device-store-at-requires : tie.Need-device-store-at-requires
-device-store-at-requires c κs = rw (c .before .head-in .ensures) (c .before .before .before .fits2 .ensures)
+device-store-at-requires c κs =
+    let fits2 = c .before .before .before .fits2 in
+    rw (c .before .head-in .ensures) (fits2 .ensures)
 
 put-held-requires : tie.Need-put-held-requires
 put-held-requires c κs = search needs
@@ -24,7 +26,10 @@ same-length : tie.Need-same-length
 same-length c = search needs
 
 returns : tie.Need-returns
-returns c = rw (c .answer-of .ensures, c .before .put-held .ensures) (ap leftOf (rw (c .before .before .before .before .before .before .before .before .head-in .ensures) at (c .before .before .before .before .before .before .device-store-at .ensures)))
+returns c =
+    let device-store-at = c .before .before .before .before .before .before .device-store-at in
+    let head-in = c .before .before .before .before .before .before .before .before .head-in in
+    rw (c .answer-of .ensures, c .before .put-held .ensures) (ap leftOf (rw (head-in .ensures) at (device-store-at .ensures)))
 
 pub cangrieb-device-store-spec : {M : Type 1} → statement M
 cangrieb-device-store-spec =

@@ -12,7 +12,9 @@ head-in-requires : tie.Need-head-in-requires
 head-in-requires c κs = search needs
 
 load-at-requires : tie.Need-load-at-requires
-load-at-requires c κs = rw (c .before .head-in .ensures) (c .before .before .before .fits2 .ensures)
+load-at-requires c κs =
+    let fits2 = c .before .before .before .fits2 in
+    rw (c .before .head-in .ensures) (fits2 .ensures)
 
 put-window-requires : tie.Need-put-window-requires
 put-window-requires c κs = search needs
@@ -24,7 +26,10 @@ same-length : tie.Need-same-length
 same-length c = search needs
 
 returns : tie.Need-returns
-returns c = rw (c .answer-of .ensures, c .before .put-window .ensures) (ap leftOf (rw (c .before .before .before .before .before .before .before .before .head-in .ensures) at (c .before .before .before .before .before .before .load-at .ensures)))
+returns c =
+    let load-at = c .before .before .before .before .before .before .load-at in
+    let head-in = c .before .before .before .before .before .before .before .before .head-in in
+    rw (c .answer-of .ensures, c .before .put-window .ensures) (ap leftOf (rw (head-in .ensures) at (load-at .ensures)))
 
 pub cangrieb-load-spec : {M : Type 1} → statement M
 cangrieb-load-spec =

@@ -12,7 +12,9 @@ head-in-requires : tie.Need-head-in-requires
 head-in-requires c κs = search needs
 
 map-at-requires : tie.Need-map-at-requires
-map-at-requires c κs = rw (c .before .head-in .ensures) (c .before .before .before .fits2 .ensures)
+map-at-requires c κs =
+    let fits2 = c .before .before .before .fits2 in
+    rw (c .before .head-in .ensures) (fits2 .ensures)
 
 put-tables-requires : tie.Need-put-tables-requires
 put-tables-requires c κs = search needs
@@ -24,7 +26,10 @@ same-length : tie.Need-same-length
 same-length c = search needs
 
 returns : tie.Need-returns
-returns c = rw (c .answer-of .ensures, c .before .put-tables .ensures) (ap leftOf (rw (c .before .before .before .before .before .before .before .head-in .ensures) at (c .before .before .before .before .before .map-at .ensures)))
+returns c =
+    let map-at = c .before .before .before .before .before .map-at in
+    let head-in = c .before .before .before .before .before .before .before .head-in in
+    rw (c .answer-of .ensures, c .before .put-tables .ensures) (ap leftOf (rw (head-in .ensures) at (map-at .ensures)))
 
 pub cangrieb-map-spec : {M : Type 1} → statement M
 cangrieb-map-spec =

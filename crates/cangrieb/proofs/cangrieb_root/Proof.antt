@@ -21,7 +21,10 @@ answer-of-requires : tie.Need-answer-of-requires
 answer-of-requires c κs = search needs
 
 returns : tie.Need-returns
-returns c = rw (c .answer-of .ensures, c .before .head-words .ensures) (ap leftOf (rw (c .before .before .before .before .head-in .ensures) at (c .before .before .before .root-at .ensures)))
+returns c =
+    let root-at = c .before .before .before .root-at in
+    let head-in = c .before .before .before .before .head-in in
+    rw (c .answer-of .ensures, c .before .head-words .ensures) (ap leftOf (rw (head-in .ensures) at (root-at .ensures)))
 
 pub cangrieb-root-spec : {M : Type 1} → statement M
 cangrieb-root-spec =

@@ -13,7 +13,10 @@ head-in-requires : tie.Need-head-in-requires
 head-in-requires c κs = search needs
 
 mark-at-requires : tie.Need-mark-at-requires
-mark-at-requires c κs = rw (c .before .before .before .before .head-in .ensures) (c .before .before .before .before .before .before .fits2 .ensures)
+mark-at-requires c κs =
+    let head-in = c .before .before .before .before .head-in in
+    let fits2 = c .before .before .before .before .before .before .fits2 in
+    rw (head-in .ensures) (fits2 .ensures)
 
 head-words-requires : tie.Need-head-words-requires
 head-words-requires c κs = search needs
@@ -26,7 +29,10 @@ same-length c = search needs
 
 returns : tie.Need-returns
 unfolding setMarkCall
-returns c = rw (c .answer-of .ensures, c .before .head-words .ensures) (ap leftOf (rw (c .before .before .before .before .before .before .before .before .before .before .head-in .ensures) at (c .before .before .before .before .before .mark-at .ensures)))
+returns c =
+    let mark-at = c .before .before .before .before .before .mark-at in
+    let head-in = c .before .before .before .before .before .before .before .before .before .before .head-in in
+    rw (c .answer-of .ensures, c .before .head-words .ensures) (ap leftOf (rw (head-in .ensures) at (mark-at .ensures)))
 
 pub cangrieb-set-mark-spec : {M : Type 1} → statement M
 cangrieb-set-mark-spec =

@@ -12,7 +12,11 @@ head-in-requires : tie.Need-head-in-requires
 head-in-requires c κs = search needs
 
 store-at-requires : tie.Need-store-at-requires
-store-at-requires c κs = rw (c .before .before .before .before .before .before .head-in .ensures) (c .before .before .before .before .before .before .before .before .fits2 .ensures, rw (c .before .before .before .before .before .before .head-in .ensures) at (c .before .before .before .before .if1 .taken))
+store-at-requires c κs =
+    let if1 = c .before .before .before .before .if1 in
+    let head-in = c .before .before .before .before .before .before .head-in in
+    let fits2 = c .before .before .before .before .before .before .before .before .fits2 in
+    rw (head-in .ensures) (fits2 .ensures, rw (head-in .ensures) at (if1 .taken))
 
 put-held-requires : tie.Need-put-held-requires
 put-held-requires c κs = search needs
@@ -24,10 +28,17 @@ same-length : tie.Need-same-length
 same-length c = search needs
 
 returns : tie.Need-returns
-returns c = rw (c .answer-of .ensures, c .before .put-held .ensures) (ap leftOf (rw (c .before .before .before .before .before .before .before .before .before .before .before .before .before .head-in .ensures) at (c .before .before .before .before .before .before .store-at .ensures)))
+returns c =
+    let store-at = c .before .before .before .before .before .before .store-at in
+    let head-in = c .before .before .before .before .before .before .before .before .before .before .before .before .before .head-in in
+    rw (c .answer-of .ensures, c .before .put-held .ensures) (ap leftOf (rw (head-in .ensures) at (store-at .ensures)))
 
 store-on-requires : tie.Need-store-on-requires
-store-on-requires c κs = rw (c .before .before .before .before .before .before .head-in .ensures) (c .before .before .before .before .before .before .before .before .fits2 .ensures, rw (c .before .before .before .before .before .before .head-in .ensures) at (c .before .before .before .before .if1 .left))
+store-on-requires c κs =
+    let if1 = c .before .before .before .before .if1 in
+    let head-in = c .before .before .before .before .before .before .head-in in
+    let fits2 = c .before .before .before .before .before .before .before .before .fits2 in
+    rw (head-in .ensures) (fits2 .ensures, rw (head-in .ensures) at (if1 .left))
 
 head-words-requires : tie.Need-head-words-requires
 head-words-requires c κs = search needs
@@ -39,7 +50,10 @@ same-length-2 : tie.Need-same-length-2
 same-length-2 c = search needs
 
 returns-2 : tie.Need-returns-2
-returns-2 c = rw (c .answer-of2 .ensures, c .before .head-words .ensures) (ap leftOf (rw (c .before .before .before .before .before .before .before .before .before .before .before .before .head-in .ensures) at (c .before .before .before .before .before .store-on .ensures)))
+returns-2 c =
+    let store-on = c .before .before .before .before .before .store-on in
+    let head-in = c .before .before .before .before .before .before .before .before .before .before .before .before .head-in in
+    rw (c .answer-of2 .ensures, c .before .head-words .ensures) (ap leftOf (rw (head-in .ensures) at (store-on .ensures)))
 
 pub cangrieb-store-spec : {M : Type 1} → statement M
 cangrieb-store-spec =

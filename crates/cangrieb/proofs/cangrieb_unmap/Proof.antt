@@ -12,7 +12,9 @@ head-in-requires : tie.Need-head-in-requires
 head-in-requires c κs = search needs
 
 unmap-at-requires : tie.Need-unmap-at-requires
-unmap-at-requires c κs = rw (c .before .head-in .ensures) (c .before .before .before .fits2 .ensures)
+unmap-at-requires c κs =
+    let fits2 = c .before .before .before .fits2 in
+    rw (c .before .head-in .ensures) (fits2 .ensures)
 
 put-tables-requires : tie.Need-put-tables-requires
 put-tables-requires c κs = search needs
@@ -24,7 +26,10 @@ same-length : tie.Need-same-length
 same-length c = search needs
 
 returns : tie.Need-returns
-returns c = rw (c .answer-of .ensures, c .before .put-tables .ensures) (ap leftOf (rw (c .before .before .before .before .before .before .before .head-in .ensures) at (c .before .before .before .before .before .unmap-at .ensures)))
+returns c =
+    let unmap-at = c .before .before .before .before .before .unmap-at in
+    let head-in = c .before .before .before .before .before .before .before .head-in in
+    rw (c .answer-of .ensures, c .before .put-tables .ensures) (ap leftOf (rw (head-in .ensures) at (unmap-at .ensures)))
 
 pub cangrieb-unmap-spec : {M : Type 1} → statement M
 cangrieb-unmap-spec =

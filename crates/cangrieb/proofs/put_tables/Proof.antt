@@ -38,7 +38,10 @@ array-write-words-9 : tie.Need-array-write-words-9
 array-write-words-9 c = search needs
 
 returns : tie.Need-returns
-returns c = put-tables (c .before .before .words-in .result) (c .before .before .before .before .args .x) (search needs) ∙ ap (λ ws. headWords (headRemapped (headIn ws) (c .before .before .before .before .args .x))) (c .before .before .words-in .ensures)
+returns c =
+    let words-in = c .before .before .words-in in
+    let args = c .before .before .before .before .args in
+    put-tables (words-in .result) (args .x) (search needs) ∙ ap (λ ws. headWords (headRemapped (headIn ws) (args .x))) (words-in .ensures)
 
 pub put-tables-spec : {M : Type 1} → statement M
 put-tables-spec =

@@ -100,7 +100,9 @@ returns c =
     sym (up-out (config (args .layout)) (args .mem .now) (loop .links) (loop .t) (loop .place) (loop .number) (loop-test .taken) out) ∙ loop .inv .4
 
 returns-2 : tie.Need-returns-2 Inv-loop μ-loop
-returns-2 c = let z : c .before .loop .links ≡ 0 = omega arith in rw (z, up-none) at (c .before .loop .inv .4)
+returns-2 c =
+    let loop = c .before .loop in
+    let z : loop .links ≡ 0 = omega arith in rw (z, up-none) at (loop .inv .4)
 
 pub prefix-of-spec : {M : Type 1} → statement M
 prefix-of-spec =

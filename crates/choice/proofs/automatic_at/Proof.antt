@@ -61,9 +61,10 @@ loop-again c = (omega arith, rw (ne-eqb _ _ (λ e. c .if1 .left (sym e))) at (tu
 returns-2 : tie.Need-returns-2 Inv-loop μ-loop
 unfolding automaticAt
 returns-2 c =
+    let loop = c .before .loop in
     let args = c .before .before .before .args in
-    let end : c .before .loop .i ≡ args .count = omega arith in
-    sym (sym (c .before .loop .inv .1) ∙ rw (end, slice-empty))
+    let end : loop .i ≡ args .count = omega arith in
+    sym (sym (loop .inv .1) ∙ rw (end, slice-empty))
 
 pub automatic-at-spec : {M : Type 1} → statement M
 automatic-at-spec =

@@ -19,7 +19,9 @@ returns c =
 
 returns-2 : tie.Need-returns-2
 unfolding choiceFits orderFits
-returns-2 c = rw (c .before .before .before .if1 .taken, c .before .if2 .left)
+returns-2 c =
+    let if1 = c .before .before .before .if1 in
+    rw (if1 .taken, c .before .if2 .left)
 
 returns-3 : tie.Need-returns-3
 unfolding choiceFits
@@ -31,7 +33,9 @@ returns-4 c = rw (c .before .before .if3 .left, lt-leb _ 64 (c .if4 .taken))
 
 returns-5 : tie.Need-returns-5
 unfolding choiceFits
-returns-5 c = rw (c .before .before .before .if3 .left, le-leb _ 64 (c .before .if4 .left), ← c .order-fits .ensures) (sym (and-true (c .order-fits .result)))
+returns-5 c =
+    let if3 = c .before .before .before .if3 in
+    rw (if3 .left, le-leb _ 64 (c .before .if4 .left), ← c .order-fits .ensures) (sym (and-true (c .order-fits .result)))
 
 pub fits-spec : {M : Type 1} → statement M
 fits-spec =

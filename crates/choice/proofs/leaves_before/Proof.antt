@@ -16,7 +16,9 @@ told : (c : tie.After-charges2) →
     let a = c .before .charges .result in
     let b = c .charges2 .result in
     leavesBefore (args .levels) (args .ring .now) (args .t) (args .place .now) (args .one) (args .other) ≡ (ltb a b || (eqb a b && ltb p q))
-told c = rw (← c .before .before .before .prefix-at .ensures, ← c .before .before .prefix-at2 .ensures, ← c .before .charges .ensures, ← c .charges2 .ensures)
+told c =
+    let prefix-at = c .before .before .before .prefix-at in
+    rw (← prefix-at .ensures, ← c .before .before .prefix-at2 .ensures, ← c .before .charges .ensures, ← c .charges2 .ensures)
 
 returns : tie.Need-returns
 returns c = sym (rw (lt-ltb _ _ (c .if1 .taken)) at (told (c .before)))

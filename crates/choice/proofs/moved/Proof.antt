@@ -48,17 +48,22 @@ loop-less c = search needs
 
 loop-again : tie.Need-loop-again Inv-loop μ-loop
 loop-again c =
-    let xs = c .before .before .before .before .before .before .before .args .order .now in
-    let long : length xs ≡ 64 = c .before .before .before .before .before .whole .ensures in
-    let g = again (c .before .before .before .before .before .before .before .args .old .now) (c .before .before .before .before .before .before .before .args .place .now) (c .before .before .before .before .before .before .before .args .set) in
-    let word = mapped-word g xs (c .before .before .before .before .loop .i) (omega (arith, long)) in
-    let turn = mapped-turn g xs (c .before .before .before .before .loop .i) (omega (arith, long)) in
-    (omega arith, rw (turn, ← word, ← c .before .before .before .before .loop .inv .1, c .place-of .ensures))
+    let loop = c .before .before .before .before .loop in
+    let whole = c .before .before .before .before .before .whole in
+    let args = c .before .before .before .before .before .before .before .args in
+    let xs = args .order .now in
+    let long : length xs ≡ 64 = whole .ensures in
+    let g = again (args .old .now) (args .place .now) (args .set) in
+    let word = mapped-word g xs (loop .i) (omega (arith, long)) in
+    let turn = mapped-turn g xs (loop .i) (omega (arith, long)) in
+    (omega arith, rw (turn, ← word, ← loop .inv .1, c .place-of .ensures))
 
 returns : tie.Need-returns Inv-loop μ-loop
 returns c =
-    let end : c .before .loop .i ≡ c .before .before .before .before .args .count = omega arith in
-    (rw end at (c .before .loop .inv .1)) ∙ mapped-is (c .before .before .before .before .args .count) (c .before .before .before .before .args .order .now) (c .before .before .before .before .args .old .now) (c .before .before .before .before .args .place .now) (c .before .before .before .before .args .set)
+    let loop = c .before .loop in
+    let args = c .before .before .before .before .args in
+    let end : loop .i ≡ args .count = omega arith in
+    (rw end at (loop .inv .1)) ∙ mapped-is (args .count) (args .order .now) (args .old .now) (args .place .now) (args .set)
 
 pub moved-spec : {M : Type 1} → statement M
 moved-spec =

@@ -87,9 +87,10 @@ loop-again c =
 returns-2 : tie.Need-returns-2 Inv-loop μ-loop
 unfolding orderFits
 returns-2 c =
+    let loop = c .before .loop in
     let args = c .before .before .before .args in
-    let end : c .before .loop .i ≡ args .count = omega arith in
-    sym (sym (c .before .loop .inv .2) ∙ rw (end, slice-empty))
+    let end : loop .i ≡ args .count = omega arith in
+    sym (sym (loop .inv .2) ∙ rw (end, slice-empty))
 
 pub order-fits-spec : {M : Type 1} → statement M
 order-fits-spec =

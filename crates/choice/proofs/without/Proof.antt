@@ -19,7 +19,8 @@ whole-requires c κs = search needs
 
 loop-holds : tie.Need-loop-holds Inv-loop μ-loop
 loop-holds c =
-    let none = packed-none (c .before .before .args .place) (c .before .before .args .order .now) in
+    let args = c .before .before .args in
+    let none = packed-none (args .place) (args .order .now) in
     (omega arith, omega arith, sym (none .0), sym (none .1))
 
 mul-at : tie.Need-mul-at Inv-loop μ-loop
@@ -45,11 +46,14 @@ loop-less c = search needs
 
 loop-again : tie.Need-loop-again Inv-loop μ-loop
 loop-again c =
-    let xs = c .before .before .before .before .before .before .args .order .now in
-    let long : length xs ≡ 64 = c .before .before .before .before .whole .ensures in
-    let word : getD (c .before .before .before .loop .order) (c .before .before .before .loop .i) 0 ≡ getD xs (c .before .before .before .loop .i) 0 = rw (c .before .before .before .loop .inv .3) (packed-word (c .before .before .before .before .before .before .args .place) xs (c .before .before .before .loop .i) (omega arith)) in
-    let skip = packed-skip (c .before .before .before .before .before .before .args .place) xs (c .before .before .before .loop .i) (omega (arith, long)) in
-    let put = packed-put (c .before .before .before .before .before .before .args .place) xs (c .before .before .before .loop .i) (omega (arith, long)) (omega arith) in
+    let loop = c .before .before .before .loop in
+    let whole = c .before .before .before .before .whole in
+    let args = c .before .before .before .before .before .before .args in
+    let xs = args .order .now in
+    let long : length xs ≡ 64 = whole .ensures in
+    let word : getD (loop .order) (loop .i) 0 ≡ getD xs (loop .i) 0 = rw (loop .inv .3) (packed-word (args .place) xs (loop .i) (omega arith)) in
+    let skip = packed-skip (args .place) xs (loop .i) (omega (arith, long)) in
+    let put = packed-put (args .place) xs (loop .i) (omega (arith, long)) (omega arith) in
     ⊎-elim
     (λ w. let p = put (λ e. w .0 .taken (word ∙ e)) in (omega arith, omega arith, omega (arith, p .0), cc (p .1)))
     (λ w. let p = skip (sym word ∙ w .0 .left) in (omega arith, omega arith, omega (arith, p .0), cc (p .1)))
@@ -57,9 +61,11 @@ loop-again c =
 
 returns : tie.Need-returns Inv-loop μ-loop
 returns c =
-    let is = packed-is (c .before .before .before .before .args .place) (c .before .before .before .before .args .order .now) (c .before .before .before .before .args .count) in
-    let end : c .before .loop .i ≡ c .before .before .before .before .args .count = omega arith in
-    ((rw end at (c .before .loop .inv .2)) ∙ is .0, (rw end at (c .before .loop .inv .3)) ∙ is .1)
+    let loop = c .before .loop in
+    let args = c .before .before .before .before .args in
+    let is = packed-is (args .place) (args .order .now) (args .count) in
+    let end : loop .i ≡ args .count = omega arith in
+    ((rw end at (loop .inv .2)) ∙ is .0, (rw end at (loop .inv .3)) ∙ is .1)
 
 pub without-spec : {M : Type 1} → statement M
 without-spec =

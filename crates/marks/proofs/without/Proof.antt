@@ -17,8 +17,10 @@ power-requires c κs = search needs
 
 sub-result : tie.Need-sub-result
 sub-result c =
-    let found = place-found (c .before .before .before .args .place .now) (c .before .before .before .args .key) (c .before .before .before .args .set) (rw (c .before .before .place-of .ensures) at (c .before .if1 .taken)) in
-    let low : 2 ^ (c .before .before .place-of .result) ≤ c .before .before .before .args .set = rw (c .before .before .place-of .ensures) (clear-bit _ _ (found .0) .0) in
+    let place-of = c .before .before .place-of in
+    let args = c .before .before .before .args in
+    let found = place-found (args .place .now) (args .key) (args .set) (rw (place-of .ensures) at (c .before .if1 .taken)) in
+    let low : 2 ^ (place-of .result) ≤ args .set = rw (place-of .ensures) (clear-bit _ _ (found .0) .0) in
     omega (arith, c .power .ensures)
 
 returns : tie.Need-returns

@@ -21,49 +21,82 @@ choices-fit-requires : tie.Need-choices-fit-requires
 choices-fit-requires c κs = search needs
 
 returns : tie.Need-returns
-returns c = sym (fits-choices _ _ (sym (rw (c .before .before .layout-in .ensures) at (c .before .choices-fit .ensures)) ∙ not-true (c .before .choices-fit .result) (c .if1 .taken)))
+returns c =
+    let choices-fit = c .before .choices-fit in
+    sym (fits-choices _ _ (sym (rw (c .before .before .layout-in .ensures) at (choices-fit .ensures)) ∙ not-true (choices-fit .result) (c .if1 .taken)))
 
 sizes-fit-requires : tie.Need-sizes-fit-requires
 sizes-fit-requires c κs = search needs
 
 returns-2 : tie.Need-returns-2
 returns-2 c =
-    let l = headIn (c .before .before .before .before .before .before .args .w .now) .layout in
-    let chosen : choicesFit l ≡ true = sym (rw (c .before .before .before .before .layout-in .ensures) at (c .before .before .before .choices-fit .ensures)) ∙ not-false (c .before .before .before .choices-fit .result) (c .before .before .if1 .left) in
-    let small : getD (c .before .before .before .before .before .before .args .w .now) 15 0 < 2 ^ 64 = omega (arith, c .before .before .before .before .before .set-in .ensures) in
-    fits-by _ _ _ small chosen (rw (chosen, ← (rw (c .before .before .before .before .layout-in .ensures) at (c .before .sizes-fit .ensures)), not-true (c .before .sizes-fit .result) (c .if2 .taken)))
+    let sizes-fit = c .before .sizes-fit in
+    let choices-fit = c .before .before .before .choices-fit in
+    let layout-in = c .before .before .before .before .layout-in in
+    let set-in = c .before .before .before .before .before .set-in in
+    let args = c .before .before .before .before .before .before .args in
+    let l = headIn (args .w .now) .layout in
+    let chosen : choicesFit l ≡ true = sym (rw (layout-in .ensures) at (choices-fit .ensures)) ∙ not-false (choices-fit .result) (c .before .before .if1 .left) in
+    let small : getD (args .w .now) 15 0 < 2 ^ 64 = omega (arith, set-in .ensures) in
+    fits-by _ _ _ small chosen (rw (chosen, ← (rw (layout-in .ensures) at (sizes-fit .ensures)), not-true (sizes-fit .result) (c .if2 .taken)))
 
 element-copy-out-t12 : tie.Need-element-copy-out-t12
 element-copy-out-t12 c = search needs
 
 frame-fits-requires : tie.Need-frame-fits-requires
 frame-fits-requires c κs =
-    let l = headIn (c .before .before .before .before .before .before .before .args .w .now) .layout in
-    let chosen : choicesFit l ≡ true = sym (rw (c .before .before .before .before .before .layout-in .ensures) at (c .before .before .before .before .choices-fit .ensures)) ∙ not-false (c .before .before .before .before .choices-fit .result) (c .before .before .before .if1 .left) in
-    let sized : sizesFit l (c .before .before .before .before .before .before .before .args .len) ≡ true = sym (rw (c .before .before .before .before .before .layout-in .ensures) at (c .before .before .sizes-fit .ensures)) ∙ not-false (c .before .before .sizes-fit .result) (c .before .if2 .left) in
-    rw (c .before .before .before .before .before .layout-in .ensures) (sized-layout (sizes-say l (c .before .before .before .before .before .before .before .args .len) chosen sized))
+    let sizes-fit = c .before .before .sizes-fit in
+    let if1 = c .before .before .before .if1 in
+    let choices-fit = c .before .before .before .before .choices-fit in
+    let layout-in = c .before .before .before .before .before .layout-in in
+    let args = c .before .before .before .before .before .before .before .args in
+    let l = headIn (args .w .now) .layout in
+    let chosen : choicesFit l ≡ true = sym (rw (layout-in .ensures) at (choices-fit .ensures)) ∙ not-false (choices-fit .result) (if1 .left) in
+    let sized : sizesFit l (args .len) ≡ true = sym (rw (layout-in .ensures) at (sizes-fit .ensures)) ∙ not-false (sizes-fit .result) (c .before .if2 .left) in
+    rw (layout-in .ensures) (sized-layout (sizes-say l (args .len) chosen sized))
 
 returns-3 : tie.Need-returns-3
 returns-3 c =
-    let l = headIn (c .before .before .before .before .before .before .before .before .before .args .w .now) .layout in
-    let chosen : choicesFit l ≡ true = sym (rw (c .before .before .before .before .before .before .before .layout-in .ensures) at (c .before .before .before .before .before .before .choices-fit .ensures)) ∙ not-false (c .before .before .before .before .before .before .choices-fit .result) (c .before .before .before .before .before .if1 .left) in
-    let small : getD (c .before .before .before .before .before .before .before .before .before .args .w .now) 15 0 < 2 ^ 64 = omega (arith, c .before .before .before .before .before .before .before .before .set-in .ensures) in
-    let sized : sizesFit l (c .before .before .before .before .before .before .before .before .before .args .len) ≡ true = sym (rw (c .before .before .before .before .before .before .before .layout-in .ensures) at (c .before .before .before .before .sizes-fit .ensures)) ∙ not-false (c .before .before .before .before .sizes-fit .result) (c .before .before .before .if2 .left) in
-    fits-by _ _ _ small chosen (rw (chosen, sized, ← (rw (c .before .before .before .before .before .before .before .layout-in .ensures) at (c .before .frame-fits .ensures)), not-true (c .before .frame-fits .result) (c .if3 .taken)))
+    let frame-fits = c .before .frame-fits in
+    let if2 = c .before .before .before .if2 in
+    let sizes-fit = c .before .before .before .before .sizes-fit in
+    let if1 = c .before .before .before .before .before .if1 in
+    let choices-fit = c .before .before .before .before .before .before .choices-fit in
+    let layout-in = c .before .before .before .before .before .before .before .layout-in in
+    let set-in = c .before .before .before .before .before .before .before .before .set-in in
+    let args = c .before .before .before .before .before .before .before .before .before .args in
+    let l = headIn (args .w .now) .layout in
+    let chosen : choicesFit l ≡ true = sym (rw (layout-in .ensures) at (choices-fit .ensures)) ∙ not-false (choices-fit .result) (if1 .left) in
+    let small : getD (args .w .now) 15 0 < 2 ^ 64 = omega (arith, set-in .ensures) in
+    let sized : sizesFit l (args .len) ≡ true = sym (rw (layout-in .ensures) at (sizes-fit .ensures)) ∙ not-false (sizes-fit .result) (if2 .left) in
+    fits-by _ _ _ small chosen (rw (chosen, sized, ← (rw (layout-in .ensures) at (frame-fits .ensures)), not-true (frame-fits .result) (c .if3 .taken)))
 
 fits-requires : tie.Need-fits-requires
 fits-requires c κs =
-    let l = headIn (c .before .before .before .before .before .before .before .before .before .args .w .now) .layout in
-    let chosen : choicesFit l ≡ true = sym (rw (c .before .before .before .before .before .before .before .layout-in .ensures) at (c .before .before .before .before .before .before .choices-fit .ensures)) ∙ not-false (c .before .before .before .before .before .before .choices-fit .result) (c .before .before .before .before .before .if1 .left) in
-    rw (c .before .before .before .before .before .before .before .layout-in .ensures) (omega (arith, choices-levels l chosen))
+    let if1 = c .before .before .before .before .before .if1 in
+    let choices-fit = c .before .before .before .before .before .before .choices-fit in
+    let layout-in = c .before .before .before .before .before .before .before .layout-in in
+    let args = c .before .before .before .before .before .before .before .before .before .args in
+    let l = headIn (args .w .now) .layout in
+    let chosen : choicesFit l ≡ true = sym (rw (layout-in .ensures) at (choices-fit .ensures)) ∙ not-false (choices-fit .result) (if1 .left) in
+    rw (layout-in .ensures) (omega (arith, choices-levels l chosen))
 
 returns-4 : tie.Need-returns-4
 returns-4 c =
-    let l = headIn (c .before .before .before .before .before .before .before .before .before .before .before .args .w .now) .layout in
-    let chosen : choicesFit l ≡ true = sym (rw (c .before .before .before .before .before .before .before .before .before .layout-in .ensures) at (c .before .before .before .before .before .before .before .before .choices-fit .ensures)) ∙ not-false (c .before .before .before .before .before .before .before .before .choices-fit .result) (c .before .before .before .before .before .before .before .if1 .left) in
-    let small : getD (c .before .before .before .before .before .before .before .before .before .before .before .args .w .now) 15 0 < 2 ^ 64 = omega (arith, c .before .before .before .before .before .before .before .before .before .before .set-in .ensures) in
-    let sized : sizesFit l (c .before .before .before .before .before .before .before .before .before .before .before .args .len) ≡ true = sym (rw (c .before .before .before .before .before .before .before .before .before .layout-in .ensures) at (c .before .before .before .before .before .before .sizes-fit .ensures)) ∙ not-false (c .before .before .before .before .before .before .sizes-fit .result) (c .before .before .before .before .before .if2 .left) in
-    fits-by _ _ _ small chosen (rw (chosen, sized, ← (rw (c .before .before .before .before .before .before .before .before .before .layout-in .ensures) at (c .before .before .before .frame-fits .ensures)), not-false (c .before .before .before .frame-fits .result) (c .before .before .if3 .left), ← (rw (c .before .before .before .before .before .before .before .before .before .layout-in .ensures, c .before .before .before .before .before .before .before .before .before .before .set-in .ensures) at (c .before .fits2 .ensures)), not-true (c .before .fits2 .result) (c .if4 .taken)))
+    let fits2 = c .before .fits2 in
+    let frame-fits = c .before .before .before .frame-fits in
+    let if2 = c .before .before .before .before .before .if2 in
+    let sizes-fit = c .before .before .before .before .before .before .sizes-fit in
+    let if1 = c .before .before .before .before .before .before .before .if1 in
+    let choices-fit = c .before .before .before .before .before .before .before .before .choices-fit in
+    let layout-in = c .before .before .before .before .before .before .before .before .before .layout-in in
+    let set-in = c .before .before .before .before .before .before .before .before .before .before .set-in in
+    let args = c .before .before .before .before .before .before .before .before .before .before .before .args in
+    let l = headIn (args .w .now) .layout in
+    let chosen : choicesFit l ≡ true = sym (rw (layout-in .ensures) at (choices-fit .ensures)) ∙ not-false (choices-fit .result) (if1 .left) in
+    let small : getD (args .w .now) 15 0 < 2 ^ 64 = omega (arith, set-in .ensures) in
+    let sized : sizesFit l (args .len) ≡ true = sym (rw (layout-in .ensures) at (sizes-fit .ensures)) ∙ not-false (sizes-fit .result) (if2 .left) in
+    fits-by _ _ _ small chosen (rw (chosen, sized, ← (rw (layout-in .ensures) at (frame-fits .ensures)), not-false (frame-fits .result) (c .before .before .if3 .left), ← (rw (layout-in .ensures, set-in .ensures) at (fits2 .ensures)), not-true (fits2 .result) (c .if4 .taken)))
 
 tally-in-requires : tie.Need-tally-in-requires
 tally-in-requires c κs = search needs
@@ -73,11 +106,23 @@ fits-requires-2 c κs = search needs
 
 returns-5 : tie.Need-returns-5
 returns-5 c =
-    let l = headIn (c .before .before .before .before .before .before .before .before .before .before .before .before .before .before .args .w .now) .layout in
-    let chosen : choicesFit l ≡ true = sym (rw (c .before .before .before .before .before .before .before .before .before .before .before .before .layout-in .ensures) at (c .before .before .before .before .before .before .before .before .before .before .before .choices-fit .ensures)) ∙ not-false (c .before .before .before .before .before .before .before .before .before .before .before .choices-fit .result) (c .before .before .before .before .before .before .before .before .before .before .if1 .left) in
-    let small : getD (c .before .before .before .before .before .before .before .before .before .before .before .before .before .before .args .w .now) 15 0 < 2 ^ 64 = omega (arith, c .before .before .before .before .before .before .before .before .before .before .before .before .before .set-in .ensures) in
-    let sized : sizesFit l (c .before .before .before .before .before .before .before .before .before .before .before .before .before .before .args .len) ≡ true = sym (rw (c .before .before .before .before .before .before .before .before .before .before .before .before .layout-in .ensures) at (c .before .before .before .before .before .before .before .before .before .sizes-fit .ensures)) ∙ not-false (c .before .before .before .before .before .before .before .before .before .sizes-fit .result) (c .before .before .before .before .before .before .before .before .if2 .left) in
-    fits-by _ _ _ small chosen (rw (chosen, sized, ← (rw (c .before .before .before .before .before .before .before .before .before .before .before .before .layout-in .ensures) at (c .before .before .before .before .before .before .frame-fits .ensures)), not-false (c .before .before .before .before .before .before .frame-fits .result) (c .before .before .before .before .before .if3 .left), ← (rw (c .before .before .before .before .before .before .before .before .before .before .before .before .layout-in .ensures, c .before .before .before .before .before .before .before .before .before .before .before .before .before .set-in .ensures) at (c .before .before .before .before .fits2 .ensures)), not-false (c .before .before .before .before .fits2 .result) (c .before .before .before .if4 .left), ← (rw (c .before .before .tally-in .ensures, c .before .before .before .before .before .before .before .before .before .before .before .before .before .set-in .ensures) at (c .before .fits3 .ensures)), not-true (c .before .fits3 .result) (c .if5 .taken)))
+    let fits3 = c .before .fits3 in
+    let if4 = c .before .before .before .if4 in
+    let fits2 = c .before .before .before .before .fits2 in
+    let if3 = c .before .before .before .before .before .if3 in
+    let frame-fits = c .before .before .before .before .before .before .frame-fits in
+    let if2 = c .before .before .before .before .before .before .before .before .if2 in
+    let sizes-fit = c .before .before .before .before .before .before .before .before .before .sizes-fit in
+    let if1 = c .before .before .before .before .before .before .before .before .before .before .if1 in
+    let choices-fit = c .before .before .before .before .before .before .before .before .before .before .before .choices-fit in
+    let layout-in = c .before .before .before .before .before .before .before .before .before .before .before .before .layout-in in
+    let set-in = c .before .before .before .before .before .before .before .before .before .before .before .before .before .set-in in
+    let args = c .before .before .before .before .before .before .before .before .before .before .before .before .before .before .args in
+    let l = headIn (args .w .now) .layout in
+    let chosen : choicesFit l ≡ true = sym (rw (layout-in .ensures) at (choices-fit .ensures)) ∙ not-false (choices-fit .result) (if1 .left) in
+    let small : getD (args .w .now) 15 0 < 2 ^ 64 = omega (arith, set-in .ensures) in
+    let sized : sizesFit l (args .len) ≡ true = sym (rw (layout-in .ensures) at (sizes-fit .ensures)) ∙ not-false (sizes-fit .result) (if2 .left) in
+    fits-by _ _ _ small chosen (rw (chosen, sized, ← (rw (layout-in .ensures) at (frame-fits .ensures)), not-false (frame-fits .result) (if3 .left), ← (rw (layout-in .ensures, set-in .ensures) at (fits2 .ensures)), not-false (fits2 .result) (if4 .left), ← (rw (c .before .before .tally-in .ensures, set-in .ensures) at (fits3 .ensures)), not-true (fits3 .result) (c .if5 .taken)))
 
 element-copy-out-t12-2 : tie.Need-element-copy-out-t12-2
 element-copy-out-t12-2 c = search needs
@@ -87,18 +132,38 @@ pools-in-requires c κs = search needs
 
 tables-fit-requires : tie.Need-tables-fit-requires
 tables-fit-requires c κs =
-    let l = headIn (c .before .before .before .before .before .before .before .before .before .before .before .before .before .before .before .before .args .w .now) .layout in
-    let chosen : choicesFit l ≡ true = sym (rw (c .before .before .before .before .before .before .before .before .before .before .before .before .before .before .layout-in .ensures) at (c .before .before .before .before .before .before .before .before .before .before .before .before .before .choices-fit .ensures)) ∙ not-false (c .before .before .before .before .before .before .before .before .before .before .before .before .before .choices-fit .result) (c .before .before .before .before .before .before .before .before .before .before .before .before .if1 .left) in
-    let sized : sizesFit l (c .before .before .before .before .before .before .before .before .before .before .before .before .before .before .before .before .args .len) ≡ true = sym (rw (c .before .before .before .before .before .before .before .before .before .before .before .before .before .before .layout-in .ensures) at (c .before .before .before .before .before .before .before .before .before .before .before .sizes-fit .ensures)) ∙ not-false (c .before .before .before .before .before .before .before .before .before .before .before .sizes-fit .result) (c .before .before .before .before .before .before .before .before .before .before .if2 .left) in
-    rw (c .before .before .before .before .before .before .before .before .before .before .before .before .before .before .layout-in .ensures) (sized-layout (sizes-say l (c .before .before .before .before .before .before .before .before .before .before .before .before .before .before .before .before .args .len) chosen sized))
+    let if2 = c .before .before .before .before .before .before .before .before .before .before .if2 in
+    let sizes-fit = c .before .before .before .before .before .before .before .before .before .before .before .sizes-fit in
+    let if1 = c .before .before .before .before .before .before .before .before .before .before .before .before .if1 in
+    let choices-fit = c .before .before .before .before .before .before .before .before .before .before .before .before .before .choices-fit in
+    let layout-in = c .before .before .before .before .before .before .before .before .before .before .before .before .before .before .layout-in in
+    let args = c .before .before .before .before .before .before .before .before .before .before .before .before .before .before .before .before .args in
+    let l = headIn (args .w .now) .layout in
+    let chosen : choicesFit l ≡ true = sym (rw (layout-in .ensures) at (choices-fit .ensures)) ∙ not-false (choices-fit .result) (if1 .left) in
+    let sized : sizesFit l (args .len) ≡ true = sym (rw (layout-in .ensures) at (sizes-fit .ensures)) ∙ not-false (sizes-fit .result) (if2 .left) in
+    rw (layout-in .ensures) (sized-layout (sizes-say l (args .len) chosen sized))
 
 returns-6 : tie.Need-returns-6
 returns-6 c =
-    let l = headIn (c .before .before .before .before .before .before .before .before .before .before .before .before .before .before .before .before .before .args .w .now) .layout in
-    let chosen : choicesFit l ≡ true = sym (rw (c .before .before .before .before .before .before .before .before .before .before .before .before .before .before .before .layout-in .ensures) at (c .before .before .before .before .before .before .before .before .before .before .before .before .before .before .choices-fit .ensures)) ∙ not-false (c .before .before .before .before .before .before .before .before .before .before .before .before .before .before .choices-fit .result) (c .before .before .before .before .before .before .before .before .before .before .before .before .before .if1 .left) in
-    let small : getD (c .before .before .before .before .before .before .before .before .before .before .before .before .before .before .before .before .before .args .w .now) 15 0 < 2 ^ 64 = omega (arith, c .before .before .before .before .before .before .before .before .before .before .before .before .before .before .before .before .set-in .ensures) in
-    let sized : sizesFit l (c .before .before .before .before .before .before .before .before .before .before .before .before .before .before .before .before .before .args .len) ≡ true = sym (rw (c .before .before .before .before .before .before .before .before .before .before .before .before .before .before .before .layout-in .ensures) at (c .before .before .before .before .before .before .before .before .before .before .before .before .sizes-fit .ensures)) ∙ not-false (c .before .before .before .before .before .before .before .before .before .before .before .before .sizes-fit .result) (c .before .before .before .before .before .before .before .before .before .before .before .if2 .left) in
-    fits-by _ _ _ small chosen (rw (chosen, sized, ← (rw (c .before .before .before .before .before .before .before .before .before .before .before .before .before .before .before .layout-in .ensures) at (c .before .before .before .before .before .before .before .before .before .frame-fits .ensures)), not-false (c .before .before .before .before .before .before .before .before .before .frame-fits .result) (c .before .before .before .before .before .before .before .before .if3 .left), ← (rw (c .before .before .before .before .before .before .before .before .before .before .before .before .before .before .before .layout-in .ensures, c .before .before .before .before .before .before .before .before .before .before .before .before .before .before .before .before .set-in .ensures) at (c .before .before .before .before .before .before .before .fits2 .ensures)), not-false (c .before .before .before .before .before .before .before .fits2 .result) (c .before .before .before .before .before .before .if4 .left), ← (rw (c .before .before .before .before .before .tally-in .ensures, c .before .before .before .before .before .before .before .before .before .before .before .before .before .before .before .before .set-in .ensures) at (c .before .before .before .before .fits3 .ensures)), not-false (c .before .before .before .before .fits3 .result) (c .before .before .before .if5 .left)) (rw (c .before .before .before .before .before .before .before .before .before .before .before .before .before .before .before .layout-in .ensures, c .before .pools-in .ensures) at (c .tables-fit .ensures)))
+    let if5 = c .before .before .before .if5 in
+    let fits3 = c .before .before .before .before .fits3 in
+    let tally-in = c .before .before .before .before .before .tally-in in
+    let if4 = c .before .before .before .before .before .before .if4 in
+    let fits2 = c .before .before .before .before .before .before .before .fits2 in
+    let if3 = c .before .before .before .before .before .before .before .before .if3 in
+    let frame-fits = c .before .before .before .before .before .before .before .before .before .frame-fits in
+    let if2 = c .before .before .before .before .before .before .before .before .before .before .before .if2 in
+    let sizes-fit = c .before .before .before .before .before .before .before .before .before .before .before .before .sizes-fit in
+    let if1 = c .before .before .before .before .before .before .before .before .before .before .before .before .before .if1 in
+    let choices-fit = c .before .before .before .before .before .before .before .before .before .before .before .before .before .before .choices-fit in
+    let layout-in = c .before .before .before .before .before .before .before .before .before .before .before .before .before .before .before .layout-in in
+    let set-in = c .before .before .before .before .before .before .before .before .before .before .before .before .before .before .before .before .set-in in
+    let args = c .before .before .before .before .before .before .before .before .before .before .before .before .before .before .before .before .before .args in
+    let l = headIn (args .w .now) .layout in
+    let chosen : choicesFit l ≡ true = sym (rw (layout-in .ensures) at (choices-fit .ensures)) ∙ not-false (choices-fit .result) (if1 .left) in
+    let small : getD (args .w .now) 15 0 < 2 ^ 64 = omega (arith, set-in .ensures) in
+    let sized : sizesFit l (args .len) ≡ true = sym (rw (layout-in .ensures) at (sizes-fit .ensures)) ∙ not-false (sizes-fit .result) (if2 .left) in
+    fits-by _ _ _ small chosen (rw (chosen, sized, ← (rw (layout-in .ensures) at (frame-fits .ensures)), not-false (frame-fits .result) (if3 .left), ← (rw (layout-in .ensures, set-in .ensures) at (fits2 .ensures)), not-false (fits2 .result) (if4 .left), ← (rw (tally-in .ensures, set-in .ensures) at (fits3 .ensures)), not-false (fits3 .result) (if5 .left)) (rw (layout-in .ensures, c .before .pools-in .ensures) at (c .tables-fit .ensures)))
 
 pub fits-spec : {M : Type 1} → statement M
 fits-spec =

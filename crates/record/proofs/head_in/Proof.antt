@@ -21,7 +21,10 @@ tally-in-requires : tie.Need-tally-in-requires
 tally-in-requires c κs = search needs
 
 returns : tie.Need-returns
-returns c = rw (c .before .before .before .before .before .layout-in .ensures, c .before .before .before .before .pools-in .ensures, c .tally-in .ensures, c .before .set-in .ensures)
+returns c =
+    let pools-in = c .before .before .before .before .pools-in in
+    let layout-in = c .before .before .before .before .before .layout-in in
+    rw (layout-in .ensures, pools-in .ensures, c .tally-in .ensures, c .before .set-in .ensures)
 
 pub head-in-spec : {M : Type 1} → statement M
 head-in-spec =

@@ -18,19 +18,31 @@ enum-known-page c = search needs
 
 read-bytes-requires : tie.Need-read-bytes-requires
 read-bytes-requires c κs =
-    let found = sym (c .before .before .before .before .before .path-held .ensures) ∙ c .before .before .before .page .given .1 in
-    (path-small (config (c .before .before .before .before .before .before .before .before .before .before .args .space .layout)) (c .before .before .before .before .before .before .before .before .before .before .args .space .top) (c .before .before .before .before .before .before .before .before .before .before .args .mem .now) (c .before .before .before .before .before .before .before .before .before .before .args .held) (c .before .before .before .before .before .before .before .before .before .before .args .root .0) false (c .before .before .before .before .before .before .before .before .before .before .args .address .0) (c .before .before .before .before .before .before .before .before .before .before .args .depth) (c .before .before .before .before .before .before .before .before .before .before .pre .0 .3) (held-small (config (c .before .before .before .before .before .before .before .before .before .before .args .space .layout)) (c .before .before .before .before .before .before .before .before .before .before .args .held) (c .before .before .before .before .before .before .before .before .before .before .pre .1) (c .before .before .before .before .before .before .before .before .before .before .pre .0 .3)) _ _ found, c .before .before .before .before .before .before .before .before .before .before .pre .2)
+    let page = c .before .before .before .page in
+    let path-held = c .before .before .before .before .before .path-held in
+    let args = c .before .before .before .before .before .before .before .before .before .before .args in
+    let pre = c .before .before .before .before .before .before .before .before .before .before .pre in
+    let found = sym (path-held .ensures) ∙ page .given .1 in
+    (path-small (config (args .space .layout)) (args .space .top) (args .mem .now) (args .held) (args .root .0) false (args .address .0) (args .depth) (pre .0 .3) (held-small (config (args .space .layout)) (args .held) (pre .1) (pre .0 .3)) _ _ found, pre .2)
 
 same-length : tie.Need-same-length
 same-length c = search needs
 
 returns : tie.Need-returns
 returns c =
-    let found = sym (c .before .before .before .before .before .before .path-held .ensures) ∙ c .before .before .before .before .page .given .1 in
-    rw (c .read-bytes .ensures) (load-page (config (c .before .before .before .before .before .before .before .before .before .before .before .args .space .layout)) (c .before .before .before .before .before .before .before .before .before .before .before .args .space .top) (c .before .before .before .before .before .before .before .before .before .before .before .args .mem .now) (c .before .before .before .before .before .before .before .before .before .before .before .args .held) (c .before .before .before .before .before .before .before .before .before .before .before .args .root .0) (c .before .before .before .before .before .before .before .before .before .before .before .args .address .0) (c .before .before .before .before .before .before .before .before .before .before .before .args .width) (c .before .before .before .before .before .before .before .before .before .before .before .args .depth) _ _ (c .before .before .if2 .taken) found)
+    let page = c .before .before .before .before .page in
+    let path-held = c .before .before .before .before .before .before .path-held in
+    let args = c .before .before .before .before .before .before .before .before .before .before .before .args in
+    let found = sym (path-held .ensures) ∙ page .given .1 in
+    rw (c .read-bytes .ensures) (load-page (config (args .space .layout)) (args .space .top) (args .mem .now) (args .held) (args .root .0) (args .address .0) (args .width) (args .depth) _ _ (c .before .before .if2 .taken) found)
 
 load-through-requires : tie.Need-load-through-requires
-load-through-requires c κs = (c .before .before .before .before .before .before .before .before .before .before .pre .0, c .before .before .before .before .before .before .before .before .before .before .pre .1, c .before .before .before .before .before .before .before .before .before .before .pre .2, c .before .before .before .before .before .before .before .if1 .taken, sym (c .before .before .before .before .before .path-held .ensures) ∙ c .before .before .before .page .given .1)
+load-through-requires c κs =
+    let page = c .before .before .before .page in
+    let path-held = c .before .before .before .before .before .path-held in
+    let if1 = c .before .before .before .before .before .before .before .if1 in
+    let pre = c .before .before .before .before .before .before .before .before .before .before .pre in
+    (pre .0, pre .1, pre .2, if1 .taken, sym (path-held .ensures) ∙ page .given .1)
 
 same-length-2 : tie.Need-same-length-2
 same-length-2 c = search needs
@@ -53,13 +65,18 @@ same-length-3 c = search needs
 returns-3 : tie.Need-returns-3
 unfolding loadOf
 returns-3 c =
-    let broken = sym (c .before .before .before .path-held .ensures) ∙ c .before .enum-told .given .1 in
-    rw (c .refused .ensures) (sym (ap (loadFrom (config (c .before .before .before .before .before .before .before .before .args .space .layout)) (c .before .before .before .before .before .before .before .before .args .space .top) (c .before .before .before .before .before .before .before .before .args .root .0) (c .before .before .before .before .before .before .before .before .args .held) (c .before .before .before .before .before .before .before .before .args .address .0) (c .before .before .before .before .before .before .before .before .args .width)) (path-broken (config (c .before .before .before .before .before .before .before .before .args .space .layout)) (c .before .before .before .before .before .before .before .before .args .space .top) (c .before .before .before .before .before .before .before .before .args .mem .now) (c .before .before .before .before .before .before .before .before .args .held) (c .before .before .before .before .before .before .before .before .args .root .0) false (c .before .before .before .before .before .before .before .before .args .address .0) (c .before .before .before .before .before .before .before .before .args .depth) (c .before .before .before .before .before .if1 .taken) broken)))
+    let path-held = c .before .before .before .path-held in
+    let if1 = c .before .before .before .before .before .if1 in
+    let args = c .before .before .before .before .before .before .before .before .args in
+    let broken = sym (path-held .ensures) ∙ c .before .enum-told .given .1 in
+    rw (c .refused .ensures) (sym (ap (loadFrom (config (args .space .layout)) (args .space .top) (args .root .0) (args .held) (args .address .0) (args .width)) (path-broken (config (args .space .layout)) (args .space .top) (args .mem .now) (args .held) (args .root .0) false (args .address .0) (args .depth) (if1 .taken) broken)))
 
 load-unserved-requires : tie.Need-load-unserved-requires
 load-unserved-requires c κs =
-    let none = ⊎-elim (λ w. path-missed (config (c .before .before .before .before .args .space .layout)) (c .before .before .before .before .args .space .top) (c .before .before .before .before .args .mem .now) (c .before .before .before .before .args .held) (c .before .before .before .before .args .root .0) false (c .before .before .before .before .args .address .0) (c .before .before .before .before .args .depth) _ (w .0 .taken) (sym (w .2 .ensures) ∙ w .4 .given .1)) (λ w. path-none (config (c .before .before .before .before .args .space .layout)) (c .before .before .before .before .args .space .top) (c .before .before .before .before .args .mem .now) (c .before .before .before .before .args .held) (c .before .before .before .before .args .root .0) false (c .before .before .before .before .args .address .0) (c .before .before .before .before .args .depth) (w .left)) (c .before .if1 .came) in
-    (c .before .before .before .before .pre .0, c .before .before .before .before .pre .1, c .before .before .before .before .pre .2, none)
+    let args = c .before .before .before .before .args in
+    let pre = c .before .before .before .before .pre in
+    let none = ⊎-elim (λ w. path-missed (config (args .space .layout)) (args .space .top) (args .mem .now) (args .held) (args .root .0) false (args .address .0) (args .depth) _ (w .0 .taken) (sym (w .2 .ensures) ∙ w .4 .given .1)) (λ w. path-none (config (args .space .layout)) (args .space .top) (args .mem .now) (args .held) (args .root .0) false (args .address .0) (args .depth) (w .left)) (c .before .if1 .came) in
+    (pre .0, pre .1, pre .2, none)
 
 same-length-4 : tie.Need-same-length-4
 same-length-4 c = search needs

@@ -20,17 +20,23 @@ bitless-requires c κs = search needs
 
 direct-requires : tie.Need-direct-requires
 direct-requires c κs =
-    let inside = path-small (config (c .before .before .before .before .args .space .layout)) (c .before .before .before .before .args .space .top) (c .before .before .before .before .args .mem .now) (c .before .before .before .before .args .held) (c .before .before .before .before .args .root .0) false (c .before .before .before .before .args .address .0) (c .before .before .before .before .args .depth) (c .before .before .before .before .pre .0 .3) (held-small (config (c .before .before .before .before .args .space .layout)) (c .before .before .before .before .args .held) (c .before .before .before .before .pre .1) (c .before .before .before .before .pre .0 .3)) _ _ (c .before .before .before .before .pre .4) in
-    (c .before .before .before .before .pre .0, c .before .before .before .before .pre .3, inside)
+    let args = c .before .before .before .before .args in
+    let pre = c .before .before .before .before .pre in
+    let inside = path-small (config (args .space .layout)) (args .space .top) (args .mem .now) (args .held) (args .root .0) false (args .address .0) (args .depth) (pre .0 .3) (held-small (config (args .space .layout)) (args .held) (pre .1) (pre .0 .3)) _ _ (pre .4) in
+    (pre .0, pre .3, inside)
 
 exit-of-requires : tie.Need-exit-of-requires
 exit-of-requires c κs = search needs
 
 loaded-requires : tie.Need-loaded-requires
 loaded-requires c κs =
-    let none = bitless-none (config (c .before .before .before .before .before .before .before .args .space .layout)) (c .before .before .before .before .before .before .before .args .space .top) (c .before .before .before .before .before .before .before .args .mem .now) false (c .before .before .before .before .before .before .before .args .address .0) (c .before .before .before .before .before .before .before .args .depth) (c .before .before .before .before .before .before .before .args .page .0) (c .before .before .before .before .before .before .before .args .writable) (sym (c .before .before .before .before .before .bitless .ensures) ∙ c .before .before .before .before .if1 .taken) in
-    let went = path-plainly (config (c .before .before .before .before .before .before .before .args .space .layout)) (c .before .before .before .before .before .before .before .args .space .top) (c .before .before .before .before .before .before .before .args .mem .now) (c .before .before .before .before .before .before .before .args .held) (c .before .before .before .before .before .before .before .args .root .0) false (c .before .before .before .before .before .before .before .args .address .0) (c .before .before .before .before .before .before .before .args .depth) _ _ none (c .before .before .before .before .before .before .before .pre .3) (c .before .before .before .before .before .before .before .pre .4) in
-    (subst ReachesFrame (sym (c .before .before .direct .ensures)) (reaches-as (config (c .before .before .before .before .before .before .before .args .space .layout)) (c .before .before .before .before .before .before .before .args .space .top) (c .before .before .before .before .before .before .before .args .mem .now) (c .before .before .before .before .before .before .before .args .held) (c .before .before .before .before .before .before .before .args .root .0) false (c .before .before .before .before .before .before .before .args .address .0) (c .before .before .before .before .before .before .before .args .depth) (c .before .before .before .before .before .before .before .pre .1) _ (c .before .before .before .before .before .before .before .pre .0 .3) went), c .before .before .before .before .before .before .before .pre .2)
+    let if1 = c .before .before .before .before .if1 in
+    let bitless = c .before .before .before .before .before .bitless in
+    let args = c .before .before .before .before .before .before .before .args in
+    let pre = c .before .before .before .before .before .before .before .pre in
+    let none = bitless-none (config (args .space .layout)) (args .space .top) (args .mem .now) false (args .address .0) (args .depth) (args .page .0) (args .writable) (sym (bitless .ensures) ∙ if1 .taken) in
+    let went = path-plainly (config (args .space .layout)) (args .space .top) (args .mem .now) (args .held) (args .root .0) false (args .address .0) (args .depth) _ _ none (pre .3) (pre .4) in
+    (subst ReachesFrame (sym (c .before .before .direct .ensures)) (reaches-as (config (args .space .layout)) (args .space .top) (args .mem .now) (args .held) (args .root .0) false (args .address .0) (args .depth) (pre .1) _ (pre .0 .3) went), pre .2)
 
 same-length : tie.Need-same-length
 same-length c = search needs
@@ -38,33 +44,48 @@ same-length c = search needs
 returns : tie.Need-returns
 unfolding loadOf
 returns c =
-    let none = bitless-none (config (c .before .before .before .before .before .before .before .before .args .space .layout)) (c .before .before .before .before .before .before .before .before .args .space .top) (c .before .before .before .before .before .before .before .before .args .mem .now) false (c .before .before .before .before .before .before .before .before .args .address .0) (c .before .before .before .before .before .before .before .before .args .depth) (c .before .before .before .before .before .before .before .before .args .page .0) (c .before .before .before .before .before .before .before .before .args .writable) (sym (c .before .before .before .before .before .before .bitless .ensures) ∙ c .before .before .before .before .before .if1 .taken) in
-    let went = path-plainly (config (c .before .before .before .before .before .before .before .before .args .space .layout)) (c .before .before .before .before .before .before .before .before .args .space .top) (c .before .before .before .before .before .before .before .before .args .mem .now) (c .before .before .before .before .before .before .before .before .args .held) (c .before .before .before .before .before .before .before .before .args .root .0) false (c .before .before .before .before .before .before .before .before .args .address .0) (c .before .before .before .before .before .before .before .before .args .depth) _ _ none (c .before .before .before .before .before .before .before .before .pre .3) (c .before .before .before .before .before .before .before .before .pre .4) in
-    let end = c .before .before .before .direct .result in
-    c .loaded .ensures ∙ load-plainly (config (c .before .before .before .before .before .before .before .before .args .space .layout)) (c .before .before .before .before .before .before .before .before .args .space .top) (c .before .before .before .before .before .before .before .before .args .root .0) (c .before .before .before .before .before .before .before .before .args .held) (c .before .before .before .before .before .before .before .before .args .held) (c .before .before .before .before .before .before .before .before .args .address .0) (c .before .before .before .before .before .before .before .before .args .width) (c .before .before .exit-of .result) end (c .before .before .before .before .before .before .before .before .args .mem .now)
-    ∙ ap (λ e. loadFrom (config (c .before .before .before .before .before .before .before .before .args .space .layout)) (c .before .before .before .before .before .before .before .before .args .space .top) (c .before .before .before .before .before .before .before .before .args .root .0) (c .before .before .before .before .before .before .before .before .args .held) (c .before .before .before .before .before .before .before .before .args .address .0) (c .before .before .before .before .before .before .before .before .args .width) (yields (translation (c .before .before .before .before .before .before .before .before .args .held) e end false) (c .before .before .before .before .before .before .before .before .args .mem .now))) (c .before .before .exit-of .ensures)
-    ∙ ap (λ r. loadFrom (config (c .before .before .before .before .before .before .before .before .args .space .layout)) (c .before .before .before .before .before .before .before .before .args .space .top) (c .before .before .before .before .before .before .before .before .args .root .0) (c .before .before .before .before .before .before .before .before .args .held) (c .before .before .before .before .before .before .before .before .args .address .0) (c .before .before .before .before .before .before .before .before .args .width) (yields (translation (c .before .before .before .before .before .before .before .before .args .held) (exitBy r) r false) (c .before .before .before .before .before .before .before .before .args .mem .now))) (c .before .before .before .direct .ensures) ∙ sym (ap (loadFrom (config (c .before .before .before .before .before .before .before .before .args .space .layout)) (c .before .before .before .before .before .before .before .before .args .space .top) (c .before .before .before .before .before .before .before .before .args .root .0) (c .before .before .before .before .before .before .before .before .args .held) (c .before .before .before .before .before .before .before .before .args .address .0) (c .before .before .before .before .before .before .before .before .args .width)) went)
+    let exit-of = c .before .before .exit-of in
+    let direct = c .before .before .before .direct in
+    let if1 = c .before .before .before .before .before .if1 in
+    let bitless = c .before .before .before .before .before .before .bitless in
+    let args = c .before .before .before .before .before .before .before .before .args in
+    let pre = c .before .before .before .before .before .before .before .before .pre in
+    let none = bitless-none (config (args .space .layout)) (args .space .top) (args .mem .now) false (args .address .0) (args .depth) (args .page .0) (args .writable) (sym (bitless .ensures) ∙ if1 .taken) in
+    let went = path-plainly (config (args .space .layout)) (args .space .top) (args .mem .now) (args .held) (args .root .0) false (args .address .0) (args .depth) _ _ none (pre .3) (pre .4) in
+    let end = direct .result in
+    c .loaded .ensures ∙ load-plainly (config (args .space .layout)) (args .space .top) (args .root .0) (args .held) (args .held) (args .address .0) (args .width) (exit-of .result) end (args .mem .now)
+    ∙ ap (λ e. loadFrom (config (args .space .layout)) (args .space .top) (args .root .0) (args .held) (args .address .0) (args .width) (yields (translation (args .held) e end false) (args .mem .now))) (exit-of .ensures)
+    ∙ ap (λ r. loadFrom (config (args .space .layout)) (args .space .top) (args .root .0) (args .held) (args .address .0) (args .width) (yields (translation (args .held) (exitBy r) r false) (args .mem .now))) (direct .ensures) ∙ sym (ap (loadFrom (config (args .space .layout)) (args .space .top) (args .root .0) (args .held) (args .address .0) (args .width)) went)
 
 direct-trail-requires : tie.Need-direct-trail-requires
 direct-trail-requires c κs =
-    let inside = path-small (config (c .before .before .before .before .args .space .layout)) (c .before .before .before .before .args .space .top) (c .before .before .before .before .args .mem .now) (c .before .before .before .before .args .held) (c .before .before .before .before .args .root .0) false (c .before .before .before .before .args .address .0) (c .before .before .before .before .args .depth) (c .before .before .before .before .pre .0 .3) (held-small (config (c .before .before .before .before .args .space .layout)) (c .before .before .before .before .args .held) (c .before .before .before .before .pre .1) (c .before .before .before .before .pre .0 .3)) _ _ (c .before .before .before .before .pre .4) in
-    (c .before .before .before .before .pre .0, c .before .before .before .before .pre .3, inside)
+    let args = c .before .before .before .before .args in
+    let pre = c .before .before .before .before .pre in
+    let inside = path-small (config (args .space .layout)) (args .space .top) (args .mem .now) (args .held) (args .root .0) false (args .address .0) (args .depth) (pre .0 .3) (held-small (config (args .space .layout)) (args .held) (pre .1) (pre .0 .3)) _ _ (pre .4) in
+    (pre .0, pre .3, inside)
 
 lacking-requires : tie.Need-lacking-requires
 lacking-requires c κs =
-    let inside = path-small (config (c .before .before .before .before .before .before .before .before .args .space .layout)) (c .before .before .before .before .before .before .before .before .args .space .top) (c .before .before .before .before .before .before .before .before .args .mem .now) (c .before .before .before .before .before .before .before .before .args .held) (c .before .before .before .before .before .before .before .before .args .root .0) false (c .before .before .before .before .before .before .before .before .args .address .0) (c .before .before .before .before .before .before .before .before .args .depth) (c .before .before .before .before .before .before .before .before .pre .0 .3) (held-small (config (c .before .before .before .before .before .before .before .before .args .space .layout)) (c .before .before .before .before .before .before .before .before .args .held) (c .before .before .before .before .before .before .before .before .pre .1) (c .before .before .before .before .before .before .before .before .pre .0 .3)) _ _ (c .before .before .before .before .before .before .before .before .pre .4) in
-    (omega (arith, c .before .before .before .before .before .before .before .before .pre .0 .0, c .before .before .before .before .before .before .before .before .pre .3), trail-framed (config (c .before .before .before .before .before .before .before .before .args .space .layout)) (c .before .before .before .before .before .before .before .before .args .space .top) (c .before .before .before .before .before .before .before .before .args .mem .now) false (c .before .before .before .before .before .before .before .before .args .address .0) (c .before .before .before .before .before .before .before .before .args .depth) (c .before .before .before .before .before .before .before .before .args .page .0) (c .before .before .before .before .before .before .before .before .args .writable) (c .before .before .before .direct-trail .result) (c .before .before .before .direct-trail .ensures) (c .before .before .before .before .before .before .before .before .pre .0 .3) (omega (arith, c .before .before .before .before .before .before .before .before .pre .0 .0, c .before .before .before .before .before .before .before .before .pre .3)) inside)
+    let direct-trail = c .before .before .before .direct-trail in
+    let args = c .before .before .before .before .before .before .before .before .args in
+    let pre = c .before .before .before .before .before .before .before .before .pre in
+    let inside = path-small (config (args .space .layout)) (args .space .top) (args .mem .now) (args .held) (args .root .0) false (args .address .0) (args .depth) (pre .0 .3) (held-small (config (args .space .layout)) (args .held) (pre .1) (pre .0 .3)) _ _ (pre .4) in
+    (omega (arith, pre .0 .0, pre .3), trail-framed (config (args .space .layout)) (args .space .top) (args .mem .now) false (args .address .0) (args .depth) (args .page .0) (args .writable) (direct-trail .result) (direct-trail .ensures) (pre .0 .3) (omega (arith, pre .0 .0, pre .3)) inside)
 
 exit-of-requires-2 : tie.Need-exit-of-requires-2
 exit-of-requires-2 c κs = search needs
 
 loaded-requires-2 : tie.Need-loaded-requires-2
 loaded-requires-2 c κs =
-    let inside = path-small (config (c .before .before .before .before .before .before .before .before .before .before .before .before .args .space .layout)) (c .before .before .before .before .before .before .before .before .before .before .before .before .args .space .top) (c .before .before .before .before .before .before .before .before .before .before .before .before .args .mem .now) (c .before .before .before .before .before .before .before .before .before .before .before .before .args .held) (c .before .before .before .before .before .before .before .before .before .before .before .before .args .root .0) false (c .before .before .before .before .before .before .before .before .before .before .before .before .args .address .0) (c .before .before .before .before .before .before .before .before .before .before .before .before .args .depth) (c .before .before .before .before .before .before .before .before .before .before .before .before .pre .0 .3) (held-small (config (c .before .before .before .before .before .before .before .before .before .before .before .before .args .space .layout)) (c .before .before .before .before .before .before .before .before .before .before .before .before .args .held) (c .before .before .before .before .before .before .before .before .before .before .before .before .pre .1) (c .before .before .before .before .before .before .before .before .before .before .before .before .pre .0 .3)) _ _ (c .before .before .before .before .before .before .before .before .before .before .before .before .pre .4) in
-    let none = sym (c .before .before .before .lacking .ensures ∙ trail-lacking (config (c .before .before .before .before .before .before .before .before .before .before .before .before .args .space .layout)) (c .before .before .before .before .before .before .before .before .before .before .before .before .args .space .top) (c .before .before .before .before .before .before .before .before .before .before .before .before .args .mem .now) false (c .before .before .before .before .before .before .before .before .before .before .before .before .args .address .0) (c .before .before .before .before .before .before .before .before .before .before .before .before .args .depth) (c .before .before .before .before .before .before .before .before .before .before .before .before .args .page .0) (c .before .before .before .before .before .before .before .before .before .before .before .before .args .writable) (c .before .before .before .before .before .before .before .direct-trail .result) (c .before .before .before .before .before .before .before .direct-trail .ensures) (c .before .before .before .before .before .before .before .before .before .before .before .before .pre .0 .3) (omega (arith, c .before .before .before .before .before .before .before .before .before .before .before .before .pre .0 .0, c .before .before .before .before .before .before .before .before .before .before .before .before .pre .3)) inside) ∙ not-true (c .before .before .before .lacking .result) (c .before .before .if2 .taken) in
-    let came = trail-came (config (c .before .before .before .before .before .before .before .before .before .before .before .before .args .space .layout)) (c .before .before .before .before .before .before .before .before .before .before .before .before .args .space .top) (c .before .before .before .before .before .before .before .before .before .before .before .before .args .mem .now) false (c .before .before .before .before .before .before .before .before .before .before .before .before .args .address .0) (c .before .before .before .before .before .before .before .before .before .before .before .before .args .depth) (c .before .before .before .before .before .before .before .before .before .before .before .before .args .page .0) (c .before .before .before .before .before .before .before .before .before .before .before .before .args .writable) (c .before .before .before .before .before .before .before .direct-trail .result) (c .before .before .before .before .before .before .before .direct-trail .ensures) in
-    let went = path-plainly (config (c .before .before .before .before .before .before .before .before .before .before .before .before .args .space .layout)) (c .before .before .before .before .before .before .before .before .before .before .before .before .args .space .top) (c .before .before .before .before .before .before .before .before .before .before .before .before .args .mem .now) (c .before .before .before .before .before .before .before .before .before .before .before .before .args .held) (c .before .before .before .before .before .before .before .before .before .before .before .before .args .root .0) false (c .before .before .before .before .before .before .before .before .before .before .before .before .args .address .0) (c .before .before .before .before .before .before .before .before .before .before .before .before .args .depth) _ _ none (c .before .before .before .before .before .before .before .before .before .before .before .before .pre .3) (c .before .before .before .before .before .before .before .before .before .before .before .before .pre .4) in
-    (subst ReachesFrame (sym came) (reaches-as (config (c .before .before .before .before .before .before .before .before .before .before .before .before .args .space .layout)) (c .before .before .before .before .before .before .before .before .before .before .before .before .args .space .top) (c .before .before .before .before .before .before .before .before .before .before .before .before .args .mem .now) (c .before .before .before .before .before .before .before .before .before .before .before .before .args .held) (c .before .before .before .before .before .before .before .before .before .before .before .before .args .root .0) false (c .before .before .before .before .before .before .before .before .before .before .before .before .args .address .0) (c .before .before .before .before .before .before .before .before .before .before .before .before .args .depth) (c .before .before .before .before .before .before .before .before .before .before .before .before .pre .1) _ (c .before .before .before .before .before .before .before .before .before .before .before .before .pre .0 .3) went), c .before .before .before .before .before .before .before .before .before .before .before .before .pre .2)
+    let lacking = c .before .before .before .lacking in
+    let direct-trail = c .before .before .before .before .before .before .before .direct-trail in
+    let args = c .before .before .before .before .before .before .before .before .before .before .before .before .args in
+    let pre = c .before .before .before .before .before .before .before .before .before .before .before .before .pre in
+    let inside = path-small (config (args .space .layout)) (args .space .top) (args .mem .now) (args .held) (args .root .0) false (args .address .0) (args .depth) (pre .0 .3) (held-small (config (args .space .layout)) (args .held) (pre .1) (pre .0 .3)) _ _ (pre .4) in
+    let none = sym (lacking .ensures ∙ trail-lacking (config (args .space .layout)) (args .space .top) (args .mem .now) false (args .address .0) (args .depth) (args .page .0) (args .writable) (direct-trail .result) (direct-trail .ensures) (pre .0 .3) (omega (arith, pre .0 .0, pre .3)) inside) ∙ not-true (lacking .result) (c .before .before .if2 .taken) in
+    let came = trail-came (config (args .space .layout)) (args .space .top) (args .mem .now) false (args .address .0) (args .depth) (args .page .0) (args .writable) (direct-trail .result) (direct-trail .ensures) in
+    let went = path-plainly (config (args .space .layout)) (args .space .top) (args .mem .now) (args .held) (args .root .0) false (args .address .0) (args .depth) _ _ none (pre .3) (pre .4) in
+    (subst ReachesFrame (sym came) (reaches-as (config (args .space .layout)) (args .space .top) (args .mem .now) (args .held) (args .root .0) false (args .address .0) (args .depth) (pre .1) _ (pre .0 .3) went), pre .2)
 
 same-length-2 : tie.Need-same-length-2
 same-length-2 c = search needs
@@ -72,14 +93,20 @@ same-length-2 c = search needs
 returns-2 : tie.Need-returns-2
 unfolding loadOf
 returns-2 c =
-    let inside = path-small (config (c .before .before .before .before .before .before .before .before .before .before .before .before .before .args .space .layout)) (c .before .before .before .before .before .before .before .before .before .before .before .before .before .args .space .top) (c .before .before .before .before .before .before .before .before .before .before .before .before .before .args .mem .now) (c .before .before .before .before .before .before .before .before .before .before .before .before .before .args .held) (c .before .before .before .before .before .before .before .before .before .before .before .before .before .args .root .0) false (c .before .before .before .before .before .before .before .before .before .before .before .before .before .args .address .0) (c .before .before .before .before .before .before .before .before .before .before .before .before .before .args .depth) (c .before .before .before .before .before .before .before .before .before .before .before .before .before .pre .0 .3) (held-small (config (c .before .before .before .before .before .before .before .before .before .before .before .before .before .args .space .layout)) (c .before .before .before .before .before .before .before .before .before .before .before .before .before .args .held) (c .before .before .before .before .before .before .before .before .before .before .before .before .before .pre .1) (c .before .before .before .before .before .before .before .before .before .before .before .before .before .pre .0 .3)) _ _ (c .before .before .before .before .before .before .before .before .before .before .before .before .before .pre .4) in
-    let none = sym (c .before .before .before .before .lacking .ensures ∙ trail-lacking (config (c .before .before .before .before .before .before .before .before .before .before .before .before .before .args .space .layout)) (c .before .before .before .before .before .before .before .before .before .before .before .before .before .args .space .top) (c .before .before .before .before .before .before .before .before .before .before .before .before .before .args .mem .now) false (c .before .before .before .before .before .before .before .before .before .before .before .before .before .args .address .0) (c .before .before .before .before .before .before .before .before .before .before .before .before .before .args .depth) (c .before .before .before .before .before .before .before .before .before .before .before .before .before .args .page .0) (c .before .before .before .before .before .before .before .before .before .before .before .before .before .args .writable) (c .before .before .before .before .before .before .before .before .direct-trail .result) (c .before .before .before .before .before .before .before .before .direct-trail .ensures) (c .before .before .before .before .before .before .before .before .before .before .before .before .before .pre .0 .3) (omega (arith, c .before .before .before .before .before .before .before .before .before .before .before .before .before .pre .0 .0, c .before .before .before .before .before .before .before .before .before .before .before .before .before .pre .3)) inside) ∙ not-true (c .before .before .before .before .lacking .result) (c .before .before .before .if2 .taken) in
-    let came = trail-came (config (c .before .before .before .before .before .before .before .before .before .before .before .before .before .args .space .layout)) (c .before .before .before .before .before .before .before .before .before .before .before .before .before .args .space .top) (c .before .before .before .before .before .before .before .before .before .before .before .before .before .args .mem .now) false (c .before .before .before .before .before .before .before .before .before .before .before .before .before .args .address .0) (c .before .before .before .before .before .before .before .before .before .before .before .before .before .args .depth) (c .before .before .before .before .before .before .before .before .before .before .before .before .before .args .page .0) (c .before .before .before .before .before .before .before .before .before .before .before .before .before .args .writable) (c .before .before .before .before .before .before .before .before .direct-trail .result) (c .before .before .before .before .before .before .before .before .direct-trail .ensures) in
-    let went = path-plainly (config (c .before .before .before .before .before .before .before .before .before .before .before .before .before .args .space .layout)) (c .before .before .before .before .before .before .before .before .before .before .before .before .before .args .space .top) (c .before .before .before .before .before .before .before .before .before .before .before .before .before .args .mem .now) (c .before .before .before .before .before .before .before .before .before .before .before .before .before .args .held) (c .before .before .before .before .before .before .before .before .before .before .before .before .before .args .root .0) false (c .before .before .before .before .before .before .before .before .before .before .before .before .before .args .address .0) (c .before .before .before .before .before .before .before .before .before .before .before .before .before .args .depth) _ _ none (c .before .before .before .before .before .before .before .before .before .before .before .before .before .pre .3) (c .before .before .before .before .before .before .before .before .before .before .before .before .before .pre .4) in
-    let end = c .before .before .before .before .before .before .before .before .direct-trail .result .walked in
-    c .loaded2 .ensures ∙ load-plainly (config (c .before .before .before .before .before .before .before .before .before .before .before .before .before .args .space .layout)) (c .before .before .before .before .before .before .before .before .before .before .before .before .before .args .space .top) (c .before .before .before .before .before .before .before .before .before .before .before .before .before .args .root .0) (c .before .before .before .before .before .before .before .before .before .before .before .before .before .args .held) (c .before .before .before .before .before .before .before .before .before .before .before .before .before .args .held) (c .before .before .before .before .before .before .before .before .before .before .before .before .before .args .address .0) (c .before .before .before .before .before .before .before .before .before .before .before .before .before .args .width) (c .before .before .exit-of2 .result) end (c .before .before .before .before .before .before .before .before .before .before .before .before .before .args .mem .now)
-    ∙ ap (λ e. loadFrom (config (c .before .before .before .before .before .before .before .before .before .before .before .before .before .args .space .layout)) (c .before .before .before .before .before .before .before .before .before .before .before .before .before .args .space .top) (c .before .before .before .before .before .before .before .before .before .before .before .before .before .args .root .0) (c .before .before .before .before .before .before .before .before .before .before .before .before .before .args .held) (c .before .before .before .before .before .before .before .before .before .before .before .before .before .args .address .0) (c .before .before .before .before .before .before .before .before .before .before .before .before .before .args .width) (yields (translation (c .before .before .before .before .before .before .before .before .before .before .before .before .before .args .held) e end false) (c .before .before .before .before .before .before .before .before .before .before .before .before .before .args .mem .now))) (c .before .before .exit-of2 .ensures)
-    ∙ ap (λ r. loadFrom (config (c .before .before .before .before .before .before .before .before .before .before .before .before .before .args .space .layout)) (c .before .before .before .before .before .before .before .before .before .before .before .before .before .args .space .top) (c .before .before .before .before .before .before .before .before .before .before .before .before .before .args .root .0) (c .before .before .before .before .before .before .before .before .before .before .before .before .before .args .held) (c .before .before .before .before .before .before .before .before .before .before .before .before .before .args .address .0) (c .before .before .before .before .before .before .before .before .before .before .before .before .before .args .width) (yields (translation (c .before .before .before .before .before .before .before .before .before .before .before .before .before .args .held) (exitBy r) r false) (c .before .before .before .before .before .before .before .before .before .before .before .before .before .args .mem .now))) came ∙ sym (ap (loadFrom (config (c .before .before .before .before .before .before .before .before .before .before .before .before .before .args .space .layout)) (c .before .before .before .before .before .before .before .before .before .before .before .before .before .args .space .top) (c .before .before .before .before .before .before .before .before .before .before .before .before .before .args .root .0) (c .before .before .before .before .before .before .before .before .before .before .before .before .before .args .held) (c .before .before .before .before .before .before .before .before .before .before .before .before .before .args .address .0) (c .before .before .before .before .before .before .before .before .before .before .before .before .before .args .width)) went)
+    let exit-of2 = c .before .before .exit-of2 in
+    let if2 = c .before .before .before .if2 in
+    let lacking = c .before .before .before .before .lacking in
+    let direct-trail = c .before .before .before .before .before .before .before .before .direct-trail in
+    let args = c .before .before .before .before .before .before .before .before .before .before .before .before .before .args in
+    let pre = c .before .before .before .before .before .before .before .before .before .before .before .before .before .pre in
+    let inside = path-small (config (args .space .layout)) (args .space .top) (args .mem .now) (args .held) (args .root .0) false (args .address .0) (args .depth) (pre .0 .3) (held-small (config (args .space .layout)) (args .held) (pre .1) (pre .0 .3)) _ _ (pre .4) in
+    let none = sym (lacking .ensures ∙ trail-lacking (config (args .space .layout)) (args .space .top) (args .mem .now) false (args .address .0) (args .depth) (args .page .0) (args .writable) (direct-trail .result) (direct-trail .ensures) (pre .0 .3) (omega (arith, pre .0 .0, pre .3)) inside) ∙ not-true (lacking .result) (if2 .taken) in
+    let came = trail-came (config (args .space .layout)) (args .space .top) (args .mem .now) false (args .address .0) (args .depth) (args .page .0) (args .writable) (direct-trail .result) (direct-trail .ensures) in
+    let went = path-plainly (config (args .space .layout)) (args .space .top) (args .mem .now) (args .held) (args .root .0) false (args .address .0) (args .depth) _ _ none (pre .3) (pre .4) in
+    let end = direct-trail .result .walked in
+    c .loaded2 .ensures ∙ load-plainly (config (args .space .layout)) (args .space .top) (args .root .0) (args .held) (args .held) (args .address .0) (args .width) (exit-of2 .result) end (args .mem .now)
+    ∙ ap (λ e. loadFrom (config (args .space .layout)) (args .space .top) (args .root .0) (args .held) (args .address .0) (args .width) (yields (translation (args .held) e end false) (args .mem .now))) (exit-of2 .ensures)
+    ∙ ap (λ r. loadFrom (config (args .space .layout)) (args .space .top) (args .root .0) (args .held) (args .address .0) (args .width) (yields (translation (args .held) (exitBy r) r false) (args .mem .now))) came ∙ sym (ap (loadFrom (config (args .space .layout)) (args .space .top) (args .root .0) (args .held) (args .address .0) (args .width)) went)
 
 judged-requires : tie.Need-judged-requires
 judged-requires c κs = search needs
@@ -89,12 +116,18 @@ settle-requires c κs = c .before .before .before .before .before .before .befor
 
 loaded-requires-3 : tie.Need-loaded-requires-3
 loaded-requires-3 c κs =
-    let inside = path-small (config (c .before .before .before .before .before .before .before .before .before .before .before .before .before .before .before .before .before .before .args .space .layout)) (c .before .before .before .before .before .before .before .before .before .before .before .before .before .before .before .before .before .before .args .space .top) (c .before .before .before .before .before .before .before .before .before .before .before .before .before .before .before .before .before .before .args .mem .now) (c .before .before .before .before .before .before .before .before .before .before .before .before .before .before .before .before .before .before .args .held) (c .before .before .before .before .before .before .before .before .before .before .before .before .before .before .before .before .before .before .args .root .0) false (c .before .before .before .before .before .before .before .before .before .before .before .before .before .before .before .before .before .before .args .address .0) (c .before .before .before .before .before .before .before .before .before .before .before .before .before .before .before .before .before .before .args .depth) (c .before .before .before .before .before .before .before .before .before .before .before .before .before .before .before .before .before .before .pre .0 .3) (held-small (config (c .before .before .before .before .before .before .before .before .before .before .before .before .before .before .before .before .before .before .args .space .layout)) (c .before .before .before .before .before .before .before .before .before .before .before .before .before .before .before .before .before .before .args .held) (c .before .before .before .before .before .before .before .before .before .before .before .before .before .before .before .before .before .before .pre .1) (c .before .before .before .before .before .before .before .before .before .before .before .before .before .before .before .before .before .before .pre .0 .3)) _ _ (c .before .before .before .before .before .before .before .before .before .before .before .before .before .before .before .before .before .before .pre .4) in
-    let some = sym (c .before .before .before .before .before .before .before .before .before .lacking .ensures ∙ trail-lacking (config (c .before .before .before .before .before .before .before .before .before .before .before .before .before .before .before .before .before .before .args .space .layout)) (c .before .before .before .before .before .before .before .before .before .before .before .before .before .before .before .before .before .before .args .space .top) (c .before .before .before .before .before .before .before .before .before .before .before .before .before .before .before .before .before .before .args .mem .now) false (c .before .before .before .before .before .before .before .before .before .before .before .before .before .before .before .before .before .before .args .address .0) (c .before .before .before .before .before .before .before .before .before .before .before .before .before .before .before .before .before .before .args .depth) (c .before .before .before .before .before .before .before .before .before .before .before .before .before .before .before .before .before .before .args .page .0) (c .before .before .before .before .before .before .before .before .before .before .before .before .before .before .before .before .before .before .args .writable) (c .before .before .before .before .before .before .before .before .before .before .before .before .before .direct-trail .result) (c .before .before .before .before .before .before .before .before .before .before .before .before .before .direct-trail .ensures) (c .before .before .before .before .before .before .before .before .before .before .before .before .before .before .before .before .before .before .pre .0 .3) (omega (arith, c .before .before .before .before .before .before .before .before .before .before .before .before .before .before .before .before .before .before .pre .0 .0, c .before .before .before .before .before .before .before .before .before .before .before .before .before .before .before .before .before .before .pre .3)) inside) ∙ not-false (c .before .before .before .before .before .before .before .before .before .lacking .result) (c .before .before .before .before .before .before .before .before .if2 .left) in
-    let came = trail-came (config (c .before .before .before .before .before .before .before .before .before .before .before .before .before .before .before .before .before .before .args .space .layout)) (c .before .before .before .before .before .before .before .before .before .before .before .before .before .before .before .before .before .before .args .space .top) (c .before .before .before .before .before .before .before .before .before .before .before .before .before .before .before .before .before .before .args .mem .now) false (c .before .before .before .before .before .before .before .before .before .before .before .before .before .before .before .before .before .before .args .address .0) (c .before .before .before .before .before .before .before .before .before .before .before .before .before .before .before .before .before .before .args .depth) (c .before .before .before .before .before .before .before .before .before .before .before .before .before .before .before .before .before .before .args .page .0) (c .before .before .before .before .before .before .before .before .before .before .before .before .before .before .before .before .before .before .args .writable) (c .before .before .before .before .before .before .before .before .before .before .before .before .before .direct-trail .result) (c .before .before .before .before .before .before .before .before .before .before .before .before .before .direct-trail .ensures) in
-    let went = path-judged (config (c .before .before .before .before .before .before .before .before .before .before .before .before .before .before .before .before .before .before .args .space .layout)) (c .before .before .before .before .before .before .before .before .before .before .before .before .before .before .before .before .before .before .args .space .top) (c .before .before .before .before .before .before .before .before .before .before .before .before .before .before .before .before .before .before .args .mem .now) (c .before .before .before .before .before .before .before .before .before .before .before .before .before .before .before .before .before .before .args .held) (c .before .before .before .before .before .before .before .before .before .before .before .before .before .before .before .before .before .before .args .root .0) false (c .before .before .before .before .before .before .before .before .before .before .before .before .before .before .before .before .before .before .args .address .0) (c .before .before .before .before .before .before .before .before .before .before .before .before .before .before .before .before .before .before .args .depth) _ _ some (c .before .before .before .before .before .before .before .before .before .before .before .before .before .before .before .before .before .before .pre .3) (c .before .before .before .before .before .before .before .before .before .before .before .before .before .before .before .before .before .before .pre .4) in
-    let leads = c .before .before .before .before .before .before .judged .ensures ∙ ap (judgedBy (c .before .before .before .before .before .before .before .before .before .before .before .before .before .before .before .before .before .before .args .held) true _) came in
-    (subst (λ (o : Translated). ReachesFrame (o .walked)) (sym leads) (reaches-as (config (c .before .before .before .before .before .before .before .before .before .before .before .before .before .before .before .before .before .before .args .space .layout)) (c .before .before .before .before .before .before .before .before .before .before .before .before .before .before .before .before .before .before .args .space .top) (c .before .before .before .before .before .before .before .before .before .before .before .before .before .before .before .before .before .before .args .mem .now) (c .before .before .before .before .before .before .before .before .before .before .before .before .before .before .before .before .before .before .args .held) (c .before .before .before .before .before .before .before .before .before .before .before .before .before .before .before .before .before .before .args .root .0) false (c .before .before .before .before .before .before .before .before .before .before .before .before .before .before .before .before .before .before .args .address .0) (c .before .before .before .before .before .before .before .before .before .before .before .before .before .before .before .before .before .before .args .depth) (c .before .before .before .before .before .before .before .before .before .before .before .before .before .before .before .before .before .before .pre .1) _ (c .before .before .before .before .before .before .before .before .before .before .before .before .before .before .before .before .before .before .pre .0 .3) went), c .before .before .before .before .before .before .before .before .before .before .before .before .before .before .before .before .before .before .pre .2)
+    let judged = c .before .before .before .before .before .before .judged in
+    let if2 = c .before .before .before .before .before .before .before .before .if2 in
+    let lacking = c .before .before .before .before .before .before .before .before .before .lacking in
+    let direct-trail = c .before .before .before .before .before .before .before .before .before .before .before .before .before .direct-trail in
+    let args = c .before .before .before .before .before .before .before .before .before .before .before .before .before .before .before .before .before .before .args in
+    let pre = c .before .before .before .before .before .before .before .before .before .before .before .before .before .before .before .before .before .before .pre in
+    let inside = path-small (config (args .space .layout)) (args .space .top) (args .mem .now) (args .held) (args .root .0) false (args .address .0) (args .depth) (pre .0 .3) (held-small (config (args .space .layout)) (args .held) (pre .1) (pre .0 .3)) _ _ (pre .4) in
+    let some = sym (lacking .ensures ∙ trail-lacking (config (args .space .layout)) (args .space .top) (args .mem .now) false (args .address .0) (args .depth) (args .page .0) (args .writable) (direct-trail .result) (direct-trail .ensures) (pre .0 .3) (omega (arith, pre .0 .0, pre .3)) inside) ∙ not-false (lacking .result) (if2 .left) in
+    let came = trail-came (config (args .space .layout)) (args .space .top) (args .mem .now) false (args .address .0) (args .depth) (args .page .0) (args .writable) (direct-trail .result) (direct-trail .ensures) in
+    let went = path-judged (config (args .space .layout)) (args .space .top) (args .mem .now) (args .held) (args .root .0) false (args .address .0) (args .depth) _ _ some (pre .3) (pre .4) in
+    let leads = judged .ensures ∙ ap (judgedBy (args .held) true _) came in
+    (subst (λ (o : Translated). ReachesFrame (o .walked)) (sym leads) (reaches-as (config (args .space .layout)) (args .space .top) (args .mem .now) (args .held) (args .root .0) false (args .address .0) (args .depth) (pre .1) _ (pre .0 .3) went), pre .2)
 
 same-length-3 : tie.Need-same-length-3
 same-length-3 c = search needs
@@ -102,15 +135,22 @@ same-length-3 c = search needs
 returns-3 : tie.Need-returns-3
 unfolding loadOf
 returns-3 c =
-    let inside = path-small (config (c .before .before .before .before .before .before .before .before .before .before .before .before .before .before .before .before .before .before .before .args .space .layout)) (c .before .before .before .before .before .before .before .before .before .before .before .before .before .before .before .before .before .before .before .args .space .top) (c .before .before .before .before .before .before .before .before .before .before .before .before .before .before .before .before .before .before .before .args .mem .now) (c .before .before .before .before .before .before .before .before .before .before .before .before .before .before .before .before .before .before .before .args .held) (c .before .before .before .before .before .before .before .before .before .before .before .before .before .before .before .before .before .before .before .args .root .0) false (c .before .before .before .before .before .before .before .before .before .before .before .before .before .before .before .before .before .before .before .args .address .0) (c .before .before .before .before .before .before .before .before .before .before .before .before .before .before .before .before .before .before .before .args .depth) (c .before .before .before .before .before .before .before .before .before .before .before .before .before .before .before .before .before .before .before .pre .0 .3) (held-small (config (c .before .before .before .before .before .before .before .before .before .before .before .before .before .before .before .before .before .before .before .args .space .layout)) (c .before .before .before .before .before .before .before .before .before .before .before .before .before .before .before .before .before .before .before .args .held) (c .before .before .before .before .before .before .before .before .before .before .before .before .before .before .before .before .before .before .before .pre .1) (c .before .before .before .before .before .before .before .before .before .before .before .before .before .before .before .before .before .before .before .pre .0 .3)) _ _ (c .before .before .before .before .before .before .before .before .before .before .before .before .before .before .before .before .before .before .before .pre .4) in
-    let some = sym (c .before .before .before .before .before .before .before .before .before .before .lacking .ensures ∙ trail-lacking (config (c .before .before .before .before .before .before .before .before .before .before .before .before .before .before .before .before .before .before .before .args .space .layout)) (c .before .before .before .before .before .before .before .before .before .before .before .before .before .before .before .before .before .before .before .args .space .top) (c .before .before .before .before .before .before .before .before .before .before .before .before .before .before .before .before .before .before .before .args .mem .now) false (c .before .before .before .before .before .before .before .before .before .before .before .before .before .before .before .before .before .before .before .args .address .0) (c .before .before .before .before .before .before .before .before .before .before .before .before .before .before .before .before .before .before .before .args .depth) (c .before .before .before .before .before .before .before .before .before .before .before .before .before .before .before .before .before .before .before .args .page .0) (c .before .before .before .before .before .before .before .before .before .before .before .before .before .before .before .before .before .before .before .args .writable) (c .before .before .before .before .before .before .before .before .before .before .before .before .before .before .direct-trail .result) (c .before .before .before .before .before .before .before .before .before .before .before .before .before .before .direct-trail .ensures) (c .before .before .before .before .before .before .before .before .before .before .before .before .before .before .before .before .before .before .before .pre .0 .3) (omega (arith, c .before .before .before .before .before .before .before .before .before .before .before .before .before .before .before .before .before .before .before .pre .0 .0, c .before .before .before .before .before .before .before .before .before .before .before .before .before .before .before .before .before .before .before .pre .3)) inside) ∙ not-false (c .before .before .before .before .before .before .before .before .before .before .lacking .result) (c .before .before .before .before .before .before .before .before .before .if2 .left) in
-    let came = trail-came (config (c .before .before .before .before .before .before .before .before .before .before .before .before .before .before .before .before .before .before .before .args .space .layout)) (c .before .before .before .before .before .before .before .before .before .before .before .before .before .before .before .before .before .before .before .args .space .top) (c .before .before .before .before .before .before .before .before .before .before .before .before .before .before .before .before .before .before .before .args .mem .now) false (c .before .before .before .before .before .before .before .before .before .before .before .before .before .before .before .before .before .before .before .args .address .0) (c .before .before .before .before .before .before .before .before .before .before .before .before .before .before .before .before .before .before .before .args .depth) (c .before .before .before .before .before .before .before .before .before .before .before .before .before .before .before .before .before .before .before .args .page .0) (c .before .before .before .before .before .before .before .before .before .before .before .before .before .before .before .before .before .before .before .args .writable) (c .before .before .before .before .before .before .before .before .before .before .before .before .before .before .direct-trail .result) (c .before .before .before .before .before .before .before .before .before .before .before .before .before .before .direct-trail .ensures) in
-    let went = path-judged (config (c .before .before .before .before .before .before .before .before .before .before .before .before .before .before .before .before .before .before .before .args .space .layout)) (c .before .before .before .before .before .before .before .before .before .before .before .before .before .before .before .before .before .before .before .args .space .top) (c .before .before .before .before .before .before .before .before .before .before .before .before .before .before .before .before .before .before .before .args .mem .now) (c .before .before .before .before .before .before .before .before .before .before .before .before .before .before .before .before .before .before .before .args .held) (c .before .before .before .before .before .before .before .before .before .before .before .before .before .before .before .before .before .before .before .args .root .0) false (c .before .before .before .before .before .before .before .before .before .before .before .before .before .before .before .before .before .before .before .args .address .0) (c .before .before .before .before .before .before .before .before .before .before .before .before .before .before .before .before .before .before .before .args .depth) _ _ some (c .before .before .before .before .before .before .before .before .before .before .before .before .before .before .before .before .before .before .before .pre .3) (c .before .before .before .before .before .before .before .before .before .before .before .before .before .before .before .before .before .before .before .pre .4) in
-    let leads = c .before .before .before .before .before .before .before .judged .ensures ∙ ap (judgedBy (c .before .before .before .before .before .before .before .before .before .before .before .before .before .before .before .before .before .before .before .args .held) true _) came in
+    let settle = c .before .before .before .before .settle in
+    let judged = c .before .before .before .before .before .before .before .judged in
+    let if2 = c .before .before .before .before .before .before .before .before .before .if2 in
+    let lacking = c .before .before .before .before .before .before .before .before .before .before .lacking in
+    let direct-trail = c .before .before .before .before .before .before .before .before .before .before .before .before .before .before .direct-trail in
+    let args = c .before .before .before .before .before .before .before .before .before .before .before .before .before .before .before .before .before .before .before .args in
+    let pre = c .before .before .before .before .before .before .before .before .before .before .before .before .before .before .before .before .before .before .before .pre in
+    let inside = path-small (config (args .space .layout)) (args .space .top) (args .mem .now) (args .held) (args .root .0) false (args .address .0) (args .depth) (pre .0 .3) (held-small (config (args .space .layout)) (args .held) (pre .1) (pre .0 .3)) _ _ (pre .4) in
+    let some = sym (lacking .ensures ∙ trail-lacking (config (args .space .layout)) (args .space .top) (args .mem .now) false (args .address .0) (args .depth) (args .page .0) (args .writable) (direct-trail .result) (direct-trail .ensures) (pre .0 .3) (omega (arith, pre .0 .0, pre .3)) inside) ∙ not-false (lacking .result) (if2 .left) in
+    let came = trail-came (config (args .space .layout)) (args .space .top) (args .mem .now) false (args .address .0) (args .depth) (args .page .0) (args .writable) (direct-trail .result) (direct-trail .ensures) in
+    let went = path-judged (config (args .space .layout)) (args .space .top) (args .mem .now) (args .held) (args .root .0) false (args .address .0) (args .depth) _ _ some (pre .3) (pre .4) in
+    let leads = judged .ensures ∙ ap (judgedBy (args .held) true _) came in
     c .loaded3 .ensures
-    ∙ ap (λ m. loadBy (c .before .before .before .before .before .before .before .before .before .before .before .before .before .before .before .before .before .before .before .args .held) (c .before .before .before .before .before .before .before .before .before .before .before .before .before .before .before .before .before .before .before .args .address .0) (c .before .before .before .before .before .before .before .before .before .before .before .before .before .before .before .before .before .before .before .args .width) (λ x. x) (yields (translation (c .before .before .before .before .before .before .before .judged .result .held) (c .before .before .before .before .before .before .before .judged .result .exits) (c .before .before .before .before .before .before .before .judged .result .walked) false) m) (c .before .before .before .before .before .before .before .judged .result .walked)) (c .before .before .before .before .settle .ensures)
-    ∙ load-said (config (c .before .before .before .before .before .before .before .before .before .before .before .before .before .before .before .before .before .before .before .args .space .layout)) (c .before .before .before .before .before .before .before .before .before .before .before .before .before .before .before .before .before .before .before .args .space .top) (c .before .before .before .before .before .before .before .before .before .before .before .before .before .before .before .before .before .before .before .args .root .0) (c .before .before .before .before .before .before .before .before .before .before .before .before .before .before .before .before .before .before .before .args .held) (c .before .before .before .before .before .before .before .judged .result .held) (c .before .before .before .before .before .before .before .before .before .before .before .before .before .before .before .before .before .before .before .args .address .0) (c .before .before .before .before .before .before .before .before .before .before .before .before .before .before .before .before .before .before .before .args .width) (c .before .before .before .before .before .before .before .judged .result .exits) (c .before .before .before .before .before .before .before .judged .result .walked) (c .before .before .before .before .before .before .before .judged .result .sets) (c .before .before .before .before .before .before .before .before .before .before .before .before .before .before .before .before .before .before .before .args .mem .now)
-    ∙ ap (λ (o : Translated). loadFrom (config (c .before .before .before .before .before .before .before .before .before .before .before .before .before .before .before .before .before .before .before .args .space .layout)) (c .before .before .before .before .before .before .before .before .before .before .before .before .before .before .before .before .before .before .before .args .space .top) (c .before .before .before .before .before .before .before .before .before .before .before .before .before .before .before .before .before .before .before .args .root .0) (c .before .before .before .before .before .before .before .before .before .before .before .before .before .before .before .before .before .before .before .args .held) (c .before .before .before .before .before .before .before .before .before .before .before .before .before .before .before .before .before .before .before .args .address .0) (c .before .before .before .before .before .before .before .before .before .before .before .before .before .before .before .before .before .before .before .args .width) (yields o (c .before .before .before .before .before .before .before .before .before .before .before .before .before .before .before .before .before .before .before .args .mem .now))) leads ∙ sym (ap (loadFrom (config (c .before .before .before .before .before .before .before .before .before .before .before .before .before .before .before .before .before .before .before .args .space .layout)) (c .before .before .before .before .before .before .before .before .before .before .before .before .before .before .before .before .before .before .before .args .space .top) (c .before .before .before .before .before .before .before .before .before .before .before .before .before .before .before .before .before .before .before .args .root .0) (c .before .before .before .before .before .before .before .before .before .before .before .before .before .before .before .before .before .before .before .args .held) (c .before .before .before .before .before .before .before .before .before .before .before .before .before .before .before .before .before .before .before .args .address .0) (c .before .before .before .before .before .before .before .before .before .before .before .before .before .before .before .before .before .before .before .args .width)) went)
+    ∙ ap (λ m. loadBy (args .held) (args .address .0) (args .width) (λ x. x) (yields (translation (judged .result .held) (judged .result .exits) (judged .result .walked) false) m) (judged .result .walked)) (settle .ensures)
+    ∙ load-said (config (args .space .layout)) (args .space .top) (args .root .0) (args .held) (judged .result .held) (args .address .0) (args .width) (judged .result .exits) (judged .result .walked) (judged .result .sets) (args .mem .now)
+    ∙ ap (λ (o : Translated). loadFrom (config (args .space .layout)) (args .space .top) (args .root .0) (args .held) (args .address .0) (args .width) (yields o (args .mem .now))) leads ∙ sym (ap (loadFrom (config (args .space .layout)) (args .space .top) (args .root .0) (args .held) (args .address .0) (args .width)) went)
 
 pub load-through-spec : {M : Type 1} → statement M
 load-through-spec =

@@ -18,7 +18,11 @@ settle-requires : tie.Need-settle-requires
 settle-requires c κs = search needs
 
 loaded-requires : tie.Need-loaded-requires
-loaded-requires c κs = (subst (λ (o : After Translated). ReachesFrame (o .result .walked)) (sym (c .before .before .before .before .before .before .before .before .unserved .ensures)) (reaches-as (config (c .before .before .before .before .before .before .before .before .before .before .before .args .space .layout)) (c .before .before .before .before .before .before .before .before .before .before .before .args .space .top) (c .before .before .before .before .before .before .before .before .before .before .before .args .mem .now) (c .before .before .before .before .before .before .before .before .before .before .before .args .held) (c .before .before .before .before .before .before .before .before .before .before .before .args .root .0) false (c .before .before .before .before .before .before .before .before .before .before .before .args .address .0) (c .before .before .before .before .before .before .before .before .before .before .before .args .depth) (c .before .before .before .before .before .before .before .before .before .before .before .pre .1) _ (c .before .before .before .before .before .before .before .before .before .before .before .pre .0 .3) (c .before .before .before .before .before .before .before .before .before .before .before .pre .3)), c .before .before .before .before .before .before .before .before .before .before .before .pre .2)
+loaded-requires c κs =
+    let unserved = c .before .before .before .before .before .before .before .before .unserved in
+    let args = c .before .before .before .before .before .before .before .before .before .before .before .args in
+    let pre = c .before .before .before .before .before .before .before .before .before .before .before .pre in
+    (subst (λ (o : After Translated). ReachesFrame (o .result .walked)) (sym (unserved .ensures)) (reaches-as (config (args .space .layout)) (args .space .top) (args .mem .now) (args .held) (args .root .0) false (args .address .0) (args .depth) (pre .1) _ (pre .0 .3) (pre .3)), pre .2)
 
 same-length : tie.Need-same-length
 same-length c = search needs
@@ -26,10 +30,14 @@ same-length c = search needs
 returns : tie.Need-returns
 unfolding loadOf
 returns c =
+    let settle = c .before .before .before .before .settle in
+    let unserved = c .before .before .before .before .before .before .before .before .before .unserved in
+    let args = c .before .before .before .before .before .before .before .before .before .before .before .before .args in
+    let pre = c .before .before .before .before .before .before .before .before .before .before .before .before .pre in
     c .loaded .ensures
-    ∙ ap (λ m. loadBy (c .before .before .before .before .before .before .before .before .before .before .before .before .args .held) (c .before .before .before .before .before .before .before .before .before .before .before .before .args .address .0) (c .before .before .before .before .before .before .before .before .before .before .before .before .args .width) (λ x. x) (yields (translation (c .before .before .before .before .before .before .before .before .before .unserved .result .held) (c .before .before .before .before .before .before .before .before .before .unserved .result .exits) (c .before .before .before .before .before .before .before .before .before .unserved .result .walked) false) m) (c .before .before .before .before .before .before .before .before .before .unserved .result .walked)) (c .before .before .before .before .settle .ensures)
-    ∙ load-said (config (c .before .before .before .before .before .before .before .before .before .before .before .before .args .space .layout)) (c .before .before .before .before .before .before .before .before .before .before .before .before .args .space .top) (c .before .before .before .before .before .before .before .before .before .before .before .before .args .root .0) (c .before .before .before .before .before .before .before .before .before .before .before .before .args .held) (c .before .before .before .before .before .before .before .before .before .unserved .result .held) (c .before .before .before .before .before .before .before .before .before .before .before .before .args .address .0) (c .before .before .before .before .before .before .before .before .before .before .before .before .args .width) (c .before .before .before .before .before .before .before .before .before .unserved .result .exits) (c .before .before .before .before .before .before .before .before .before .unserved .result .walked) (c .before .before .before .before .before .before .before .before .before .unserved .result .sets) _
-    ∙ ap (loadFrom (config (c .before .before .before .before .before .before .before .before .before .before .before .before .args .space .layout)) (c .before .before .before .before .before .before .before .before .before .before .before .before .args .space .top) (c .before .before .before .before .before .before .before .before .before .before .before .before .args .root .0) (c .before .before .before .before .before .before .before .before .before .before .before .before .args .held) (c .before .before .before .before .before .before .before .before .before .before .before .before .args .address .0) (c .before .before .before .before .before .before .before .before .before .before .before .before .args .width)) (c .before .before .before .before .before .before .before .before .before .unserved .ensures ∙ sym (c .before .before .before .before .before .before .before .before .before .before .before .before .pre .3))
+    ∙ ap (λ m. loadBy (args .held) (args .address .0) (args .width) (λ x. x) (yields (translation (unserved .result .held) (unserved .result .exits) (unserved .result .walked) false) m) (unserved .result .walked)) (settle .ensures)
+    ∙ load-said (config (args .space .layout)) (args .space .top) (args .root .0) (args .held) (unserved .result .held) (args .address .0) (args .width) (unserved .result .exits) (unserved .result .walked) (unserved .result .sets) _
+    ∙ ap (loadFrom (config (args .space .layout)) (args .space .top) (args .root .0) (args .held) (args .address .0) (args .width)) (unserved .ensures ∙ sym (pre .3))
 
 pub load-unserved-spec : {M : Type 1} → statement M
 load-unserved-spec =

@@ -15,8 +15,9 @@ same-length c = search needs
 
 returns : tie.Need-returns
 returns c =
+    let store-plainly = c .before .before .before .store-plainly in
     let args = c .before .before .before .before .before .before .args in
-    plainly-stores (config (args .space .layout)) (args .space .top) (args .mem .now) (args .held) (args .root .0) (args .address .0) (args .width) (args .depth) (args .value) _ (ap (λ b. yields b (c .before .before .before .store-plainly .last .0)) (sym (c .if1 .taken)) ∙ c .before .before .before .store-plainly .ensures)
+    plainly-stores (config (args .space .layout)) (args .space .top) (args .mem .now) (args .held) (args .root .0) (args .address .0) (args .width) (args .depth) (args .value) _ (ap (λ b. yields b (store-plainly .last .0)) (sym (c .if1 .taken)) ∙ store-plainly .ensures)
 
 store-translated-requires : tie.Need-store-translated-requires
 store-translated-requires c κs = search needs
@@ -26,8 +27,10 @@ same-length-2 c = search needs
 
 returns-2 : tie.Need-returns-2
 returns-2 c =
+    let if1 = c .before .before .before .before .if1 in
+    let store-plainly = c .before .before .before .before .before .before .before .store-plainly in
     let args = c .before .before .before .before .before .before .before .before .before .before .args in
-    let kept = plainly-keeps (config (args .space .layout)) (args .mem .now) (args .held) (args .address .0) (args .width) (args .depth) (args .value) _ (ap (λ b. yields b (c .before .before .before .before .before .before .before .store-plainly .last .0)) (sym (c .before .before .before .before .if1 .left)) ∙ c .before .before .before .before .before .before .before .store-plainly .ensures) in
+    let kept = plainly-keeps (config (args .space .layout)) (args .mem .now) (args .held) (args .address .0) (args .width) (args .depth) (args .value) _ (ap (λ b. yields b (store-plainly .last .0)) (sym (if1 .left)) ∙ store-plainly .ensures) in
     rw (kept) at (c .before .before .store-translated .ensures)
 
 pub store-spec : {M : Type 1} → statement M

@@ -28,13 +28,20 @@ same-length c = search needs
 
 returns-2 : tie.Need-returns-2
 unfolding plainlyOf
-returns-2 c = rw (eq-eqb (c .before .before .before .before .before .before .before .before .before .before .args .depth) 0 (c .before .before .before .before .before .before .before .before .if1 .left), sym (c .before .before .before .before .before .before .path-held .ensures) ∙ c .before .before .before .before .page .given .1, sym (c .before .watched .ensures) ∙ c .if2 .taken) refl
+returns-2 c =
+    let page = c .before .before .before .before .page in
+    let path-held = c .before .before .before .before .before .before .path-held in
+    let if1 = c .before .before .before .before .before .before .before .before .if1 in
+    let args = c .before .before .before .before .before .before .before .before .before .before .args in
+    rw (eq-eqb (args .depth) 0 (if1 .left), sym (path-held .ensures) ∙ page .given .1, sym (c .before .watched .ensures) ∙ c .if2 .taken) refl
 
 put-bytes-requires : tie.Need-put-bytes-requires
 put-bytes-requires c κs =
+    let page = c .before .before .before .before .before .page in
+    let path-held = c .before .before .before .before .before .before .before .path-held in
     let args = c .before .before .before .before .before .before .before .before .before .before .before .args in
     let pre = c .before .before .before .before .before .before .before .before .before .before .before .pre in
-    (path-small (config (args .layout)) 0 (args .mem .now) (args .held) 0 true (args .address .0) (args .depth) (pre .0 .3) (held-small (config (args .layout)) (args .held) (pre .1) (pre .0 .3)) _ _ (sym (c .before .before .before .before .before .before .before .path-held .ensures) ∙ c .before .before .before .before .before .page .given .1), pre .2)
+    (path-small (config (args .layout)) 0 (args .mem .now) (args .held) 0 true (args .address .0) (args .depth) (pre .0 .3) (held-small (config (args .layout)) (args .held) (pre .1) (pre .0 .3)) _ _ (sym (path-held .ensures) ∙ page .given .1), pre .2)
 
 enum-known-reads : tie.Need-enum-known-reads
 enum-known-reads c = search needs
@@ -47,21 +54,35 @@ same-length-2 c = search needs
 
 returns-3 : tie.Need-returns-3
 unfolding plainlyOf
-returns-3 c = rw (eq-eqb (c .before .before .before .before .before .before .before .before .before .before .before .before .before .before .args .depth) 0 (c .before .before .before .before .before .before .before .before .before .before .before .before .if1 .left), sym (c .before .before .before .before .before .before .before .before .before .before .path-held .ensures) ∙ c .before .before .before .before .before .before .before .before .page .given .1, sym (c .before .before .before .before .before .watched .ensures) ∙ c .before .before .before .before .if2 .left, c .before .before .put-bytes .ensures) refl
+returns-3 c =
+    let if2 = c .before .before .before .before .if2 in
+    let watched = c .before .before .before .before .before .watched in
+    let page = c .before .before .before .before .before .before .before .before .page in
+    let path-held = c .before .before .before .before .before .before .before .before .before .before .path-held in
+    let if1 = c .before .before .before .before .before .before .before .before .before .before .before .before .if1 in
+    let args = c .before .before .before .before .before .before .before .before .before .before .before .before .before .before .args in
+    rw (eq-eqb (args .depth) 0 (if1 .left), sym (path-held .ensures) ∙ page .given .1, sym (watched .ensures) ∙ if2 .left, c .before .before .put-bytes .ensures) refl
 
 same-length-3 : tie.Need-same-length-3
 same-length-3 c = search needs
 
 returns-4 : tie.Need-returns-4
 unfolding plainlyOf
-returns-4 c = rw (eq-eqb (c .before .before .before .before .before .before .before .args .depth) 0 (c .before .before .before .before .before .if1 .left), sym (c .before .before .before .path-held .ensures) ∙ c .before .reads .given .1) refl
+returns-4 c =
+    let path-held = c .before .before .before .path-held in
+    let if1 = c .before .before .before .before .before .if1 in
+    let args = c .before .before .before .before .before .before .before .args in
+    rw (eq-eqb (args .depth) 0 (if1 .left), sym (path-held .ensures) ∙ c .before .reads .given .1) refl
 
 same-length-4 : tie.Need-same-length-4
 same-length-4 c = search needs
 
 returns-5 : tie.Need-returns-5
 unfolding plainlyOf
-returns-5 c = rw (eq-eqb (c .before .before .before .before .before .before .args .depth) 0 (c .before .before .before .before .if1 .left), sym (c .before .before .path-held .ensures) ∙ c .enum-told .given .1) refl
+returns-5 c =
+    let if1 = c .before .before .before .before .if1 in
+    let args = c .before .before .before .before .before .before .args in
+    rw (eq-eqb (args .depth) 0 (if1 .left), sym (c .before .before .path-held .ensures) ∙ c .enum-told .given .1) refl
 
 pub store-plainly-spec : {M : Type 1} → statement M
 store-plainly-spec =

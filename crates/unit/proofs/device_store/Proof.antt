@@ -11,7 +11,10 @@ fits-requires : tie.Need-fits-requires
 fits-requires c κs = search needs
 
 device-store-at-requires : tie.Need-device-store-at-requires
-device-store-at-requires c κs = rw (c .before .before .before .before .before .before .head .ensures) (c .before .before .before .before .before .fits2 .ensures)
+device-store-at-requires c κs =
+    let fits2 = c .before .before .before .before .before .fits2 in
+    let head = c .before .before .before .before .before .before .head in
+    rw (head .ensures) (fits2 .ensures)
 
 served-requires : tie.Need-served-requires
 served-requires c κs = search needs
@@ -20,7 +23,10 @@ same-length : tie.Need-same-length
 same-length c = search needs
 
 returns : tie.Need-returns
-returns c = promised (rw (c .served .ensures) (rw (c .before .before .before .before .before .before .before .before .before .before .head .ensures) at (c .before .before .before .device-store-at .ensures)))
+returns c =
+    let device-store-at = c .before .before .before .device-store-at in
+    let head = c .before .before .before .before .before .before .before .before .before .before .head in
+    promised (rw (c .served .ensures) (rw (head .ensures) at (device-store-at .ensures)))
 
 pub device-store-spec : {M : Type 1} → statement M
 device-store-spec =

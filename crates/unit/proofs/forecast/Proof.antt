@@ -11,10 +11,15 @@ fits-requires : tie.Need-fits-requires
 fits-requires c κs = search needs
 
 forecast-at-requires : tie.Need-forecast-at-requires
-forecast-at-requires c κs = rw (c .before .before .before .before .before .head .ensures) (c .before .before .before .before .fits2 .ensures)
+forecast-at-requires c κs =
+    let fits2 = c .before .before .before .before .fits2 in
+    let head = c .before .before .before .before .before .head in
+    rw (head .ensures) (fits2 .ensures)
 
 returns : tie.Need-returns
-returns c = promised (rw (c .before .before .before .before .before .before .head .ensures) at (c .forecast-at .ensures))
+returns c =
+    let head = c .before .before .before .before .before .before .head in
+    promised (rw (head .ensures) at (c .forecast-at .ensures))
 
 pub forecast-spec : {M : Type 1} → statement M
 forecast-spec = tie.close (tie.spec head-requires fits-requires forecast-at-requires returns)

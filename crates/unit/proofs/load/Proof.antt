@@ -11,7 +11,10 @@ fits-requires : tie.Need-fits-requires
 fits-requires c κs = search needs
 
 load-at-requires : tie.Need-load-at-requires
-load-at-requires c κs = rw (c .before .before .before .before .before .before .head .ensures) (c .before .before .before .before .before .fits2 .ensures)
+load-at-requires c κs =
+    let fits2 = c .before .before .before .before .before .fits2 in
+    let head = c .before .before .before .before .before .before .head in
+    rw (head .ensures) (fits2 .ensures)
 
 windowed-requires : tie.Need-windowed-requires
 windowed-requires c κs = search needs
@@ -20,7 +23,10 @@ same-length : tie.Need-same-length
 same-length c = search needs
 
 returns : tie.Need-returns
-returns c = promised (rw (c .windowed .ensures) (rw (c .before .before .before .before .before .before .before .before .before .before .head .ensures) at (c .before .before .before .load-at .ensures)))
+returns c =
+    let load-at = c .before .before .before .load-at in
+    let head = c .before .before .before .before .before .before .before .before .before .before .head in
+    promised (rw (c .windowed .ensures) (rw (head .ensures) at (load-at .ensures)))
 
 pub load-spec : {M : Type 1} → statement M
 load-spec =

@@ -11,7 +11,10 @@ fits-requires : tie.Need-fits-requires
 fits-requires c κs = search needs
 
 root-at-requires : tie.Need-root-at-requires
-root-at-requires c κs = rw (c .before .before .before .before .before .before .head .ensures) (c .before .before .before .before .before .fits2 .ensures)
+root-at-requires c κs =
+    let fits2 = c .before .before .before .before .before .fits2 in
+    let head = c .before .before .before .before .before .before .head in
+    rw (head .ensures) (fits2 .ensures)
 
 turned-requires : tie.Need-turned-requires
 turned-requires c κs = search needs
@@ -20,7 +23,9 @@ same-length : tie.Need-same-length
 same-length c = search needs
 
 returns : tie.Need-returns
-returns c = promised (rw (c .turned .ensures) (rw (c .before .before .before .before .before .before .before .before .head .ensures) at (c .before .root-at .ensures)))
+returns c =
+    let head = c .before .before .before .before .before .before .before .before .head in
+    promised (rw (c .turned .ensures) (rw (head .ensures) at (c .before .root-at .ensures)))
 
 pub load-root-spec : {M : Type 1} → statement M
 load-root-spec =

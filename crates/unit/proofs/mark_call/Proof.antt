@@ -10,7 +10,10 @@ fits-requires : tie.Need-fits-requires
 fits-requires c κs = search needs
 
 mark-at-requires : tie.Need-mark-at-requires
-mark-at-requires c κs = rw (c .before .before .before .before .before .head .ensures) (c .before .before .before .before .fits2 .ensures)
+mark-at-requires c κs =
+    let fits2 = c .before .before .before .before .fits2 in
+    let head = c .before .before .before .before .before .head in
+    rw (head .ensures) (fits2 .ensures)
 
 replaced-requires : tie.Need-replaced-requires
 replaced-requires c κs = search needs
@@ -19,7 +22,10 @@ same-length : tie.Need-same-length
 same-length c = search needs
 
 returns : tie.Need-returns
-returns c = rw (c .replaced .ensures) (rw (c .before .before .before .before .before .before .before .before .before .head .ensures) at (c .before .before .before .mark-at .ensures))
+returns c =
+    let mark-at = c .before .before .before .mark-at in
+    let head = c .before .before .before .before .before .before .before .before .before .head in
+    rw (c .replaced .ensures) (rw (head .ensures) at (mark-at .ensures))
 
 pub mark-call-spec : {M : Type 1} → statement M
 mark-call-spec =

@@ -11,7 +11,11 @@ fits-requires : tie.Need-fits-requires
 fits-requires c κs = search needs
 
 store-at-requires : tie.Need-store-at-requires
-store-at-requires c κs = rw (c .before .before .before .before .before .before .head .ensures) (c .before .before .before .before .before .fits2 .ensures, c .before .before .before .before .before .before .before .if1 .taken)
+store-at-requires c κs =
+    let fits2 = c .before .before .before .before .before .fits2 in
+    let head = c .before .before .before .before .before .before .head in
+    let if1 = c .before .before .before .before .before .before .before .if1 in
+    rw (head .ensures) (fits2 .ensures, if1 .taken)
 
 served-requires : tie.Need-served-requires
 served-requires c κs = search needs
@@ -20,7 +24,10 @@ same-length : tie.Need-same-length
 same-length c = search needs
 
 returns : tie.Need-returns
-returns c = promised (rw (c .served .ensures) (rw (c .before .before .before .before .before .before .before .before .before .before .head .ensures) at (c .before .before .before .store-at .ensures)))
+returns c =
+    let store-at = c .before .before .before .store-at in
+    let head = c .before .before .before .before .before .before .before .before .before .before .head in
+    promised (rw (c .served .ensures) (rw (head .ensures) at (store-at .ensures)))
 
 head-requires-2 : tie.Need-head-requires-2
 head-requires-2 c κs = search needs
@@ -29,7 +36,11 @@ fits-requires-2 : tie.Need-fits-requires-2
 fits-requires-2 c κs = search needs
 
 store-on-requires : tie.Need-store-on-requires
-store-on-requires c κs = rw (c .before .before .before .before .before .head2 .ensures) (c .before .before .before .before .fits3 .ensures, c .before .before .before .before .before .before .before .before .before .if1 .left)
+store-on-requires c κs =
+    let fits3 = c .before .before .before .before .fits3 in
+    let head2 = c .before .before .before .before .before .head2 in
+    let if1 = c .before .before .before .before .before .before .before .before .before .if1 in
+    rw (head2 .ensures) (fits3 .ensures, if1 .left)
 
 replaced-requires : tie.Need-replaced-requires
 replaced-requires c κs = search needs
@@ -38,7 +49,10 @@ same-length-2 : tie.Need-same-length-2
 same-length-2 c = search needs
 
 returns-2 : tie.Need-returns-2
-returns-2 c = promised (rw (c .replaced .ensures) (rw (c .before .before .before .before .before .before .before .before .before .head2 .ensures) at (c .before .before .before .store-on .ensures)))
+returns-2 c =
+    let store-on = c .before .before .before .store-on in
+    let head2 = c .before .before .before .before .before .before .before .before .before .head2 in
+    promised (rw (c .replaced .ensures) (rw (head2 .ensures) at (store-on .ensures)))
 
 pub store-spec : {M : Type 1} → statement M
 store-spec =

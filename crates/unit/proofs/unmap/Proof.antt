@@ -11,7 +11,10 @@ fits-requires : tie.Need-fits-requires
 fits-requires c κs = search needs
 
 unmap-at-requires : tie.Need-unmap-at-requires
-unmap-at-requires c κs = rw (c .before .before .before .before .before .before .head .ensures) (c .before .before .before .before .before .fits2 .ensures)
+unmap-at-requires c κs =
+    let fits2 = c .before .before .before .before .before .fits2 in
+    let head = c .before .before .before .before .before .before .head in
+    rw (head .ensures) (fits2 .ensures)
 
 remapping-requires : tie.Need-remapping-requires
 remapping-requires c κs = search needs
@@ -20,7 +23,10 @@ same-length : tie.Need-same-length
 same-length c = search needs
 
 returns : tie.Need-returns
-returns c = promised (rw (c .remapping .ensures) (rw (c .before .before .before .before .before .before .before .before .before .before .head .ensures) at (c .before .before .before .unmap-at .ensures)))
+returns c =
+    let unmap-at = c .before .before .before .unmap-at in
+    let head = c .before .before .before .before .before .before .before .before .before .before .head in
+    promised (rw (c .remapping .ensures) (rw (head .ensures) at (unmap-at .ensures)))
 
 pub unmap-spec : {M : Type 1} → statement M
 unmap-spec =

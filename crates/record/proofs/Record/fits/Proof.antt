@@ -12,7 +12,10 @@ fits-requires : tie.Need-fits-requires
 fits-requires c κs = search needs
 
 returns : tie.Need-returns
-returns c = rw (c .fits2 .ensures, c .before .before .before .before .before .before .head-words .ensures, c .before .before .before .before .before .before .before .head .ensures)
+returns c =
+    let head-words = c .before .before .before .before .before .before .head-words in
+    let head = c .before .before .before .before .before .before .before .head in
+    rw (c .fits2 .ensures, head-words .ensures, head .ensures)
 
 pub fits-spec : {M : Type 1} → statement M
 fits-spec = tie.close (tie.spec head-requires head-words-requires fits-requires returns)
