@@ -22,21 +22,27 @@ Inv-loop mem store page steps tables left₀ depth₀ left depth =
 abbrev μ-loop : tie.MeasureT-loop
 μ-loop mem store page steps tables left₀ depth₀ left depth = left
 
+-- src/lib.rt:37:5
 loop-holds : tie.Need-loop-holds Inv-loop μ-loop
 loop-holds c = search needs
 
+-- src/lib.rt:38:9
 sub-left : tie.Need-sub-left Inv-loop μ-loop
 sub-left c = search needs
 
+-- src/lib.rt:39:17
 index-of-requires : tie.Need-index-of-requires Inv-loop μ-loop
 index-of-requires c κs = search needs
 
+-- src/lib.rt:40:37
 mul-word-in : tie.Need-mul-word-in Inv-loop μ-loop
 mul-word-in c = search needs
 
+-- src/lib.rt:40:37
 element-copy-out-word-in : tie.Need-element-copy-out-word-in Inv-loop μ-loop
 element-copy-out-word-in c = search needs
 
+-- src/lib.rt:40:13
 word-in-requires : tie.Need-word-in-requires Inv-loop μ-loop
 word-in-requires c κs =
     let pre = c .before .before .before .before .before .pre in
@@ -45,12 +51,15 @@ word-in-requires c κs =
     let args = c .before .before .before .before .before .args in
     (pre .1 (loop .depth), rw (index-of .ensures) (index-fits (loop .left - 1) (args .page)))
 
+-- src/lib.rt:41:29
 ends-requires : tie.Need-ends-requires Inv-loop μ-loop
 ends-requires c κs = search needs
 
+-- src/lib.rt:41:13
 has-bits-requires : tie.Need-has-bits-requires Inv-loop μ-loop
 has-bits-requires c κs = search needs
 
+-- src/lib.rt:42:13
 returns : tie.Need-returns Inv-loop μ-loop
 returns c =
     let if1 = c .if1 in
@@ -65,12 +74,15 @@ returns c =
     let has = has-bits .ensures ∙ ap₂ hasBits (ends .ensures) (word-in .ensures ∙ ap (wordIn (args .mem .now) (getD (args .tables .now) (loop .depth) 0)) (index-of .ensures)) in
     sym (rw (← has, not-true (has-bits .result) (if1 .taken)) at turn) ∙ loop .inv .2
 
+-- src/lib.rt:44:9
 add-depth : tie.Need-add-depth Inv-loop μ-loop
 add-depth c = search needs
 
+-- src/lib.rt:37:5
 loop-less : tie.Need-loop-less Inv-loop μ-loop
 loop-less c = search needs
 
+-- src/lib.rt:37:5
 loop-again : tie.Need-loop-again Inv-loop μ-loop
 loop-again c =
     let if1 = c .if1 in
@@ -85,6 +97,7 @@ loop-again c =
     let has = has-bits .ensures ∙ ap₂ hasBits (ends .ensures) (word-in .ensures ∙ ap (wordIn (args .mem .now) (getD (args .tables .now) (loop .depth) 0)) (index-of .ensures)) in
     (omega arith, omega arith, sym (rw (← has, not-false (has-bits .result) (if1 .left)) at turn) ∙ loop .inv .2)
 
+-- src/lib.rt:31:1
 returns-2 : tie.Need-returns-2 Inv-loop μ-loop
 unfolding lacks
 returns-2 c =

@@ -27,21 +27,27 @@ Inv-loop mem space store page steps tables left₀ depth₀ at₀ left depth at 
 abbrev μ-loop : tie.MeasureT-loop
 μ-loop mem space store page steps tables left₀ depth₀ at₀ left depth at = left
 
+-- src/lib.rt:88:5
 loop-holds : tie.Need-loop-holds Inv-loop μ-loop
 loop-holds c = search needs
 
+-- src/lib.rt:89:9
 sub-left : tie.Need-sub-left Inv-loop μ-loop
 sub-left c = search needs
 
+-- src/lib.rt:90:17
 index-of-requires : tie.Need-index-of-requires Inv-loop μ-loop
 index-of-requires c κs = search needs
 
+-- src/lib.rt:91:37
 mul-word-in : tie.Need-mul-word-in Inv-loop μ-loop
 mul-word-in c = search needs
 
+-- src/lib.rt:91:37
 element-copy-out-word-in : tie.Need-element-copy-out-word-in Inv-loop μ-loop
 element-copy-out-word-in c = search needs
 
+-- src/lib.rt:91:13
 word-in-requires : tie.Need-word-in-requires Inv-loop μ-loop
 word-in-requires c κs =
     let pre = c .before .before .before .before .before .pre in
@@ -50,15 +56,19 @@ word-in-requires c κs =
     let args = c .before .before .before .before .before .args in
     (pre .2 (loop .depth), rw (index-of .ensures) (index-fits (loop .left - 1) (args .page)))
 
+-- src/lib.rt:92:36
 ends-requires : tie.Need-ends-requires Inv-loop μ-loop
 ends-requires c κs = search needs
 
+-- src/lib.rt:92:13
 has-or-may-requires : tie.Need-has-or-may-requires Inv-loop μ-loop
 has-or-may-requires c κs = search needs
 
+-- src/lib.rt:94:24
 add-t21 : tie.Need-add-t21 Inv-loop μ-loop
 add-t21 c = search needs
 
+-- src/lib.rt:93:13
 returns : tie.Need-returns Inv-loop μ-loop
 returns c =
     let if1 = c .if1 in
@@ -74,15 +84,19 @@ returns c =
     let has = has-or-may .ensures ∙ ap₂ (λ x y. hasBits x y || mayWrite (placeOf (hostWalkOf (config (args .space .layout)) (args .space .top) (args .mem .now) (loop .at)))) (ends .ensures) word in
     sym (rw (← has, not-true (has-or-may .result) (if1 .taken)) at turn) ∙ loop .inv .2
 
+-- src/lib.rt:98:9
 frame-of-requires : tie.Need-frame-of-requires Inv-loop μ-loop
 frame-of-requires c κs = search needs
 
+-- src/lib.rt:99:9
 add-depth : tie.Need-add-depth Inv-loop μ-loop
 add-depth c = search needs
 
+-- src/lib.rt:88:5
 loop-less : tie.Need-loop-less Inv-loop μ-loop
 loop-less c = search needs
 
+-- src/lib.rt:88:5
 loop-again : tie.Need-loop-again Inv-loop μ-loop
 loop-again c =
     let frame-of = c .frame-of in
@@ -99,6 +113,7 @@ loop-again c =
     let has = has-or-may .ensures ∙ ap₂ (λ x y. hasBits x y || mayWrite (placeOf (hostWalkOf (config (args .space .layout)) (args .space .top) (args .mem .now) (loop .at)))) (ends .ensures) word in
     (omega arith, omega arith, rw (frame-of .ensures, word) (sym (rw (← has, not-false (has-or-may .result) (if1 .left)) at turn) ∙ loop .inv .2))
 
+-- src/lib.rt:73:1
 returns-2 : tie.Need-returns-2 Inv-loop μ-loop
 unfolding owedOf owed
 returns-2 c =

@@ -21,21 +21,27 @@ Inv-loop mem₀ store page steps tables left₀ depth₀ mem left depth =
 abbrev μ-loop : tie.MeasureT-loop
 μ-loop mem₀ store page steps tables left₀ depth₀ mem left depth = left
 
+-- src/lib.rt:102:5
 loop-holds : tie.Need-loop-holds Inv-loop μ-loop
 loop-holds c = search needs
 
+-- src/lib.rt:103:9
 sub-left : tie.Need-sub-left Inv-loop μ-loop
 sub-left c = search needs
 
+-- src/lib.rt:104:17
 index-of-requires : tie.Need-index-of-requires Inv-loop μ-loop
 index-of-requires c κs = search needs
 
+-- src/lib.rt:105:37
 mul-word-in : tie.Need-mul-word-in Inv-loop μ-loop
 mul-word-in c = search needs
 
+-- src/lib.rt:105:37
 element-copy-out-word-in : tie.Need-element-copy-out-word-in Inv-loop μ-loop
 element-copy-out-word-in c = search needs
 
+-- src/lib.rt:105:13
 word-in-requires : tie.Need-word-in-requires Inv-loop μ-loop
 word-in-requires c κs =
     let pre = c .before .before .before .before .before .before .pre in
@@ -44,18 +50,23 @@ word-in-requires c κs =
     let args = c .before .before .before .before .before .before .args in
     (pre .1 (loop .depth), rw (index-of .ensures) (index-fits (loop .left - 1) (args .page)))
 
+-- src/lib.rt:108:13
 mul-set-in : tie.Need-mul-set-in Inv-loop μ-loop
 mul-set-in c = search needs
 
+-- src/lib.rt:108:13
 element-copy-out-set-in : tie.Need-element-copy-out-set-in Inv-loop μ-loop
 element-copy-out-set-in c = search needs
 
+-- src/lib.rt:110:30
 ends-requires : tie.Need-ends-requires Inv-loop μ-loop
 ends-requires c κs = search needs
 
+-- src/lib.rt:110:13
 with-bits-requires : tie.Need-with-bits-requires Inv-loop μ-loop
 with-bits-requires c κs = search needs
 
+-- src/lib.rt:106:9
 set-in-requires : tie.Need-set-in-requires Inv-loop μ-loop
 set-in-requires c κs =
     let pre = c .before .before .before .before .before .before .before .before .before .before .before .pre in
@@ -64,12 +75,15 @@ set-in-requires c κs =
     let args = c .before .before .before .before .before .before .before .before .before .before .before .args in
     (pre .1 (loop .depth), rw (index-of .ensures) (index-fits (loop .left - 1) (args .page)))
 
+-- src/lib.rt:112:9
 add-depth : tie.Need-add-depth Inv-loop μ-loop
 add-depth c = search needs
 
+-- src/lib.rt:102:5
 loop-less : tie.Need-loop-less Inv-loop μ-loop
 loop-less c = search needs
 
+-- src/lib.rt:102:5
 loop-again : tie.Need-loop-again Inv-loop μ-loop
 loop-again c =
     let set-in = c .before .before .set-in in
@@ -85,9 +99,11 @@ loop-again c =
     (with-bits .ensures ∙ ap₂ withBits (ends .ensures) (word-in .ensures ∙ ap (wordIn (loop .mem) (getD (args .tables .now) (loop .depth) 0)) (index-of .ensures))) in
     (omega arith, omega arith, search needs, rw stored (sym turn ∙ loop .inv .3))
 
+-- src/lib.rt:96:1
 same-length : tie.Need-same-length Inv-loop μ-loop
 same-length c = search needs
 
+-- src/lib.rt:96:1
 returns : tie.Need-returns Inv-loop μ-loop
 returns c =
     let loop = c .before .loop in

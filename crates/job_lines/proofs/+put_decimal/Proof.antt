@@ -11,6 +11,8 @@ use borrow.Fn.PlainCycle.{Measures, is, falls, and}
 use Rattle.job_lines.proofs.put_decimal.Reads as put-decimal
 use Rattle.job_lines.proofs.put_decimal.Kinds as put-decimal-kinds
 use Rattle.job_lines.proofs.+put_decimal.Lts-put_decimal as put-decimal-lts
+use Rattle.job_lines.proofs.digit_of.Reads as digit-of-reads
+use Rattle.job_lines.proofs.put.Reads as put-reads
 use Rattle.job_lines.proofs.+put_decimal.{statement}
 use Rattle.job_lines.proofs.+put_decimal.Tie.{close}
 

@@ -12,6 +12,8 @@ use borrow.Fn.PlainCycle.{Measures, is, falls, and}
 use Rattle.job_lines.proofs.put_hex.Reads as put-hex
 use Rattle.job_lines.proofs.put_hex.Kinds as put-hex-kinds
 use Rattle.job_lines.proofs.+put_hex.Lts-put_hex as put-hex-lts
+use Rattle.job_lines.proofs.digit_of.Reads as digit-of-reads
+use Rattle.job_lines.proofs.put.Reads as put-reads
 use Rattle.job_lines.proofs.+put_hex.{statement}
 use Rattle.job_lines.proofs.+put_hex.Tie.{close}
 
