@@ -45,7 +45,7 @@ fn words_in(head: &[u64; 20]) -> [u64; 20]
     *head
 }
 
-// What is held takes the place of what was; a request changes no other word of a head.
+// What is held takes the place of what was; no other word of the head changes.
 fn put_held(head: &mut [u64; 20], held: Held)
     ensures { λ _. ⌜ now (head .exit) ≡ headWords (headHeld (headIn (now (head .entry))) held) ⌝ }
 {
