@@ -19,7 +19,7 @@ use Rattle.spec.specs.Refusal.{tests, refusal, openRefusal}
 use Rattle.spec.specs.Run.{State, told, answered, step, run, opened}
 use Rattle.spec.specs.Computing.{specifying}
 use Rattle.spec.specs.Guest.{code, equal}
-use Rattle.spec.specs.GuestChoice.{mapped, guest, times, low, thrice}
+use Rattle.spec.specs.GuestChoice.{mapped, guest, times, low, charges}
 use Rattle.spec.specs.Heard.{bare}
 use Rattle.record.specs.Record.{configBy}
 use Rattle.record.specs.Open.{refusalOf}
@@ -97,18 +97,14 @@ grants = refl
 begin : List Call
 begin = mapped (configBy (length memory) 4 5 false) 5 0 ++ guest
 
--- two charges to (0, 0, 0)
-twice : List Call
-twice = times 2 (loadWord 0 ∷ low ∷ [])
-
 -- (0, 0, 0) has an automatic mark, and n marks of the operator's are at prefixes that the guest does not use; with 63 the table is full
 beside : ℕ → List Call
-beside zero = thrice
+beside zero = charges 3
 beside (suc n) = beside n ++ (setMark (suc n * 2 ^ 39) 1 ∷ [])
 
 -- what has to be opened to compute a run
 booking : ℕ
-unfolding specifying afterBy stepBy loadChoosing storeChoosing setRefused clearRefused mapped guest times low thrice begin twice beside
+unfolding specifying afterBy stepBy loadChoosing storeChoosing setRefused clearRefused mapped guest times low charges begin beside
 booking = 0
 
 -- a unit that after such a beginning and the calls xs says one line to the call x, and the specification another
@@ -123,17 +119,17 @@ refuted u xs x wrong right w r t d = differ wrong right t (sym w ∙ demand-last
 pub faults-left-out-refuted : Demand-3 faultsLeftOut → ⊥
 unfolding booking faultsLeftOut
 faults-left-out-refuted =
-    refuted faultsLeftOut (twice ++ (loadWord 0 ∷ times 60 (loadWord (2 ^ 39) ∷ []) ++ (low ∷ []))) (loadWord 0) (value 0 8 1) (value 0 4 1) refl refl tt
+    refuted faultsLeftOut (charges 2 ++ (loadWord 0 ∷ times 60 (loadWord (2 ^ 39) ∷ []) ++ (low ∷ []))) (loadWord 0) (value 0 8 1) (value 0 4 1) refl refl tt
 
 -- two charges, a root load, and a third charge, the only one in the window: a load of 0 says 0 8 1, not 0 4 1
 pub root-keeps-window-refuted : Demand-3 rootKeepsWindow → ⊥
 unfolding booking rootKeepsWindow
-root-keeps-window-refuted = refuted rootKeepsWindow (twice ++ (root 0 ∷ loadWord 0 ∷ low ∷ [])) (loadWord 0) (value 0 8 1) (value 0 4 1) refl refl tt
+root-keeps-window-refuted = refuted rootKeepsWindow (charges 2 ++ (root 0 ∷ loadWord 0 ∷ low ∷ [])) (loadWord 0) (value 0 8 1) (value 0 4 1) refl refl tt
 
 -- three charges, and no mark before a fourth: a load of 0 says 0 4 1, not 0 8 1
 pub counted-before-refuted : Demand-3 countedBefore → ⊥
 unfolding booking countedBefore
-counted-before-refuted = refuted countedBefore thrice (loadWord 0) (value 0 4 1) (value 0 8 1) refl refl tt
+counted-before-refuted = refuted countedBefore (charges 3) (loadWord 0) (value 0 4 1) (value 0 8 1) refl refl tt
 
 -- ---- charges
 
@@ -162,7 +158,7 @@ devices-charge-refuted =
 -- two charges, and a third, which sets the mark: the store says done 4 2, not 4 1
 pub exit-for-a-mark-refuted : Demand-3 exitForAMark → ⊥
 unfolding booking exitForAMark
-exit-for-a-mark-refuted = refuted exitForAMark (twice ++ (loadWord 0 ∷ [])) low (done 4 2) (done 4 1) refl refl tt
+exit-for-a-mark-refuted = refuted exitForAMark (charges 2 ++ (loadWord 0 ∷ [])) low (done 4 2) (done 4 1) refl refl tt
 
 -- the table is full, one of its marks is automatic; three charges to (0, 0, 1) make that one leave. If it stays, a load of 0x200000 says 0 4 1,
 -- not 0 8 1
@@ -181,12 +177,12 @@ seven-too-early-refuted = refuted sevenTooEarly (beside 63) (setMark (2 ^ 46) 1)
 -- the operator sets the automatic mark of (0, 0, 0): no 6, not ok
 pub automatic-is-set-refuted : Demand-3 automaticIsSet → ⊥
 unfolding booking automaticIsSet
-automatic-is-set-refuted = refuted automaticIsSet thrice (setMark 0 1) (no 6) ok refl refl tt
+automatic-is-set-refuted = refuted automaticIsSet (charges 3) (setMark 0 1) (no 6) ok refl refl tt
 
 -- the operator clears it: ok, not no 6
 pub clears-automatic-refuted : Demand-3 clearsAutomatic → ⊥
 unfolding booking clearsAutomatic
-clears-automatic-refuted = refuted clearsAutomatic thrice (clearMark 0 1) ok (no 6) refl refl tt
+clears-automatic-refuted = refuted clearsAutomatic (charges 3) (clearMark 0 1) ok (no 6) refl refl tt
 
 -- ---- these three are seen: after the same calls with the choice off, which makes no mark, they say what the specification says
 
@@ -202,9 +198,9 @@ seven-too-early-seen = seen sevenTooEarly (beside 63) (setMark (2 ^ 46) 1) (no 7
 -- a mark at (0, 0, 0) set: no 6 and ok
 pub automatic-is-set-seen : ChoiceUnseen automaticIsSet → ⊥
 unfolding booking automaticIsSet
-automatic-is-set-seen = seen automaticIsSet thrice (setMark 0 1) (no 6) ok refl refl tt
+automatic-is-set-seen = seen automaticIsSet (charges 3) (setMark 0 1) (no 6) ok refl refl tt
 
 -- and cleared: ok and no 6
 pub clears-automatic-seen : ChoiceUnseen clearsAutomatic → ⊥
 unfolding booking clearsAutomatic
-clears-automatic-seen = seen clearsAutomatic thrice (clearMark 0 1) ok (no 6) refl refl tt
+clears-automatic-seen = seen clearsAutomatic (charges 3) (clearMark 0 1) ok (no 6) refl refl tt
