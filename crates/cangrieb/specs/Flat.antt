@@ -1,6 +1,6 @@
 -- A call's record and answer as the C interface has them: words in fixed order.
 -- Assumes nothing.
-use Prim.Native.Nat.{ℕ, _/_, _%_}
+use Prim.Native.Nat.{ℕ, _+_, _-_, _*_, _/_, _%_, _^_}
 use mathlib.Core.Bool.{not, _&&_, cond}
 use mathlib.Core.List.{List, [], _∷_}
 use lib.Dec.{eqb, leb, ltb}
@@ -84,7 +84,15 @@ abbrev pub lookupOf : Head → List ℕ → ℕ → Lookup
 lookupOf h place a = lookupIn (h .layout .levels) (record { set = h .set; place = place }) a
 
 abbrev pub noMark : FlatMark
-noMark = record { kind = 0; level = 0; prefix = 0; charges = 0 }
+noMark = record { kind = 0; level = 0; address = 0; charges = 0 }
+
+-- the low bits of an address of n levels, with every bit above them as the highest of them
+unfoldable pub legalOf : ℕ → ℕ → ℕ
+legalOf n low = cond (ltb low (2 ^ (11 + 9 * n))) low (2 ^ 64 - 2 ^ (12 + 9 * n) + low)
+
+-- the lowest address that a mark with the key k holds for: the indexes that it keeps, and 0 below them. Above level n − 1 it keeps none
+unfoldable pub lowestOf : ℕ → ℕ → ℕ
+lowestOf n k = cond (ltb n 6 && ltb (k % 8) n) (legalOf n (k / 8 % 2 ^ (9 * (n - k % 8)) * 2 ^ (12 + 9 * (k % 8)))) 0
 
 -- of a mark at the place i: 2 if it is automatic, else 1. A count above 64 is no count of marks
 unfoldable pub kindAt : ℕ → List ℕ → ℕ → ℕ
@@ -99,7 +107,7 @@ abbrev pub markWith : Record → ℕ → ℕ → FlatMark
 markWith r i k = record {
   kind = kindAt (r .guest .choice .tally .count) (r .guest .choice .order) i;
   level = k % 8;
-  prefix = k / 8;
+  address = lowestOf (r .layout .levels) k;
   charges = chargesAt (r .layout .levels) (r .guest .choice .ring) (r .guest .choice .tally) k;
 }
 

@@ -2,10 +2,11 @@
 // of the automatic choice, and the memory beside it; the answer is numbers. Nothing is asked of the caller but that those words are at
 // those places.
 ghost use mathlib.Core.Path.{_≡_};
+ghost use Prim.Native.Nat.{_+_, _*_, _^_, _<_};
 ghost use Rattle.words.specs.After.{yields};
 ghost use Rattle.calls.specs.Calls.{headHeld, headRemapped, openCall, loadCall, storeCall, deviceCall, rootCall, mapCall, unmapCall, setMarkCall, clearMarkCall, forecastCall};
 ghost use Rattle.record.specs.Words.{headIn, headWords};
-ghost use Rattle.cangrieb.specs.Flat.{headCharged, windowIn, recordIn, answerOf, flat, replyOf, leftOf, lookupOf, noMark, kindAt, chargesAt, markIn};
+ghost use Rattle.cangrieb.specs.Flat.{headCharged, windowIn, recordIn, answerOf, flat, replyOf, leftOf, lookupOf, noMark, kindAt, chargesAt, legalOf, lowestOf, markIn};
 use calls::Remapped;
 use calls::Reply;
 use choice::Tally;
@@ -26,13 +27,14 @@ pub struct FlatAnswer {
     pub exits: u64,
 }
 
-// What stands at a place of the marks. kind: 0 nothing, 1 a mark of the operator's, 2 an automatic one. charges: how many requests of the
-// window were charged to its prefix, for a mark of level 1 with the choice on; else 0, as all else where nothing stands.
+// What stands at a place of the marks. kind: 0 nothing, 1 a mark of the operator's, 2 an automatic one. address: the lowest that the mark
+// holds for. charges: how many requests of the window were charged to its prefix, for a mark of level 1 with the choice on; else 0, as
+// all else where nothing stands.
 #[repr(C)]
 pub struct FlatMark {
     pub kind: u64,
     pub level: u64,
-    pub prefix: u64,
+    pub address: u64,
     pub charges: u64,
 }
 
@@ -434,7 +436,7 @@ fn no_mark() -> FlatMark
     FlatMark {
         kind: 0,
         level: 0,
-        prefix: 0,
+        address: 0,
         charges: 0,
     }
 }
@@ -469,6 +471,33 @@ fn charges_of(ring: &[u64; 64], t: Tally, levels: u64, key: u64) -> u64
     choice::charges(ring, t, levels, key / 8)
 }
 
+// An address by its low bits: every bit above them is as the highest of them.
+fn legal(levels: u64, low: u64) -> u64
+    requires { ⌜ (levels < 6) × (low < 2 ^ (12 + 9 * levels)) ⌝ }
+    ensures { λ r. ⌜ r ≡ legalOf levels low ⌝ }
+{
+    if low < bits::power(11 + 9 * levels) {
+        return low;
+    }
+    let above = 0xFFFF_FFFF_FFFF_FFFF - (bits::power(12 + 9 * levels) - 1);
+    above + low
+}
+
+// The lowest address that a mark holds for, by its key.
+fn lowest_address(levels: u64, key: u64) -> u64
+    ensures { λ r. ⌜ r ≡ lowestOf levels key ⌝ }
+{
+    let level = key % 8;
+    if levels >= 6 {
+        return 0;
+    }
+    if level >= levels {
+        return 0;
+    }
+    let prefix = (key / 8) % bits::power(9 * (levels - level));
+    legal(levels, prefix * bits::power(12 + 9 * level))
+}
+
 // What stands at a place of the marks: nothing, a mark of the operator's, or an automatic one. It judges no record, and is no call of a run.
 #[no_mangle]
 pub extern "C" fn cangrieb_mark<'a>(
@@ -492,7 +521,7 @@ pub extern "C" fn cangrieb_mark<'a>(
     FlatMark {
         kind: kind_at(order, tally.count, at),
         level: key % 8,
-        prefix: key / 8,
+        address: lowest_address(h.layout.levels, key),
         charges: charges_of(ring, tally, h.layout.levels, key),
     }
 }

@@ -39,7 +39,7 @@ static void say_marks(int line, const struct cangrieb_record *unit)
         const char *whose = mark.kind == CANGRIEB_AUTOMATIC_MARK ? "automatic" : "operator's";
         if (mark.kind != CANGRIEB_NO_MARK)
             printf("%d %s mark at 0x%" PRIx64 " of level %" PRIu64 ", %" PRIu64 " charges\n", line, whose,
-                   cangrieb_mark_address(mark), mark.level, mark.charges);
+                   mark.address, mark.level, mark.charges);
     }
 }
 

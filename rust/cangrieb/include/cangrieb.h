@@ -107,7 +107,7 @@ enum cangrieb_mark_kind {
 struct cangrieb_mark {
     uint64_t kind;
     uint64_t level;   /* 1 to 5 */
-    uint64_t prefix;  /* the first 4 - level indexes of its addresses, as one number; of levels 4 and 5 it keeps none */
+    uint64_t address; /* the lowest that it holds for; with the level it names the mark to cangrieb_set_mark and _clear_mark */
     uint64_t charges; /* charges to it in the window; only level 1 has some, and none without the automatic choice */
 };
 
@@ -202,22 +202,15 @@ struct cangrieb_answer cangrieb_forecast(const struct cangrieb_head *head, const
 struct cangrieb_lookup cangrieb_depth(const struct cangrieb_head *head, const uint64_t place[64], uint64_t address);
 
 /* What stands at a place of the marks, 0 to 63. It too is no call to the unit and refuses nothing; of a record that a call would
-   refuse with 3 it means nothing. All marks in order, each as cangrieb_set_mark and cangrieb_clear_mark name it:
+   refuse with 3 it means nothing. All marks in order:
 
        for (uint64_t at = 0; at < 64; at++) {
            struct cangrieb_mark mark = cangrieb_mark(CANGRIEB_PARTS(unit), at);
            if (mark.kind != CANGRIEB_NO_MARK)
-               printf("%#" PRIx64 ", level %" PRIu64 "\n", cangrieb_mark_address(mark), mark.level);
+               printf("%#" PRIx64 ", level %" PRIu64 "\n", mark.address, mark.level);
        } */
 struct cangrieb_mark cangrieb_mark(const struct cangrieb_head *head, const uint64_t place[64], const uint64_t ring[64],
                                    const uint64_t order[64], uint64_t at);
-
-/* The lowest address that a mark holds for: its indexes in their places, bits 48 to 63 as bit 47. */
-static inline uint64_t cangrieb_mark_address(struct cangrieb_mark mark)
-{
-    uint64_t low = mark.level < 4 ? mark.prefix << (12 + 9 * mark.level) : 0;
-    return (low ^ UINT64_C(1) << 47) - (UINT64_C(1) << 47);
-}
 
 #ifdef __cplusplus
 }

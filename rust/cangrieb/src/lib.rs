@@ -316,21 +316,14 @@ impl Answer {
 impl Mark {
     /// None if nothing stands there.
     fn from_raw(raw: raw::Mark) -> Option<Mark> {
-        let raw::Mark { level, charges, .. } = raw;
+        let raw::Mark { level, address, charges, .. } = raw;
         let kind = match raw.kind {
             1 => Kind::Operator,
             2 => Kind::Automatic,
             _ => return None,
         };
-        Some(Mark { address: lowest_address(raw.prefix, level), level, kind, charges })
+        Some(Mark { address, level, kind, charges })
     }
-}
-
-/// The lowest address that begins with the indexes above a level. Bits 48 to 63 equal bit 47. A level of 6 or 7, which only
-/// a broken record has, gives some address too.
-fn lowest_address(prefix: u64, level: u64) -> u64 {
-    let low = prefix.checked_shl(12 + 9 * level.min(7) as u32).unwrap_or(0);
-    ((low << 16) as i64 >> 16) as u64
 }
 
 impl Fault {

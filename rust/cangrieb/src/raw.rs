@@ -32,8 +32,8 @@ pub struct Mark {
     pub kind: u64,
     /// Its level.
     pub level: u64,
-    /// The indexes that it keeps, as one number.
-    pub prefix: u64,
+    /// The lowest address that it holds for.
+    pub address: u64,
     /// The charges to it in the window.
     pub charges: u64,
 }

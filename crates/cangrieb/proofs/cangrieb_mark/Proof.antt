@@ -24,12 +24,13 @@ returns-2 c =
 returns-3 : tie.Need-returns-3
 unfolding markIn
 returns-3 c =
-    let head-in = c .before .before .before .before .before .before .before .head-in in
-    let if1 = c .before .before .before .before .before .if1 in
-    let if2 = c .before .before .before .if2 in
-    let kind-at = c .before .kind-at in
+    let head-in = c .before .before .before .before .before .before .before .before .head-in in
+    let if1 = c .before .before .before .before .before .before .if1 in
+    let if2 = c .before .before .before .before .if2 in
+    let kind-at = c .before .before .kind-at in
+    let lowest-address = c .before .lowest-address in
     let charges-of = c .charges-of in
-    rw (lt-ltb _ 64 (if1 .left), eq-eqb _ 1 (rw (head-in .ensures) at (if2 .left)), kind-at .ensures, charges-of .ensures, head-in .ensures)
+    rw (lt-ltb _ 64 (if1 .left), eq-eqb _ 1 (rw (head-in .ensures) at (if2 .left)), kind-at .ensures, lowest-address .ensures, charges-of .ensures, head-in .ensures)
 
 pub cangrieb-mark-spec : {M : Type 1} → statement M
 cangrieb-mark-spec =
@@ -43,6 +44,7 @@ cangrieb-mark-spec =
     returns-2
     (λ c. search needs)
     (λ c. search needs)
+    (λ c κs. search needs)
     (λ c κs. search needs)
     (λ c κs. search needs)
     returns-3)
