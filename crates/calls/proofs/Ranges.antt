@@ -1,16 +1,19 @@
 -- What the tests of a call give: the ranges that the functions below it ask for.
 -- Assumes nothing.
 use mathlib.Core.Path.{_≡_, sym, subst}
-use mathlib.Core.Bool.{Bool, true, false, _&&_}
+use mathlib.Core.Bool.{Bool, true, false, _&&_, _||_, and-eq-true-iff}
 use Prim.Native.Nat.{ℕ, _<_, _≤_}
 use native.Mathlib.Omega.{arith}
-use lib.Dec.{T}
+use lib.Dec.{T, eqb, leb}
+use lib.ListN.{take}
+use borrow.Author.Tests.{leb-true}
 use Rattle.spec.specs.Bytes.{widthFits, aligned}
 use Rattle.spec_laws.proofs.Bytes.{width-bounds, width-inside}
 use Rattle.spec_laws.proofs.Lists.{and-right}
-use Rattle.marks.specs.Table.{setRefusal, clearRefusal, number}
 use Rattle.marks.proofs.Ascending.{level-below}
-use Rattle.marks.proofs.Book.{keysOf, may-set, may-clear}
+use Rattle.choice.specs.Order.{orderFits, choiceFits}
+use Rattle.choice.proofs.Chosen.{may-set, may-clear}
+use Rattle.automatic.specs.Moves.{Ready}
 use Rattle.record.specs.declared.Record.{Record}
 use Rattle.record.specs.Record.{configOf, fitsOf}
 use Rattle.record.proofs.Rules.{sized-layout, fits-layout}
@@ -41,14 +44,22 @@ fits-inside legal a w d e =
     let t : T (widthFits w) = subst T (sym d) tt in
     (width-bounds w t .0, width-inside a w t (and-right legal (aligned a w) (subst T (sym e) tt)))
 
+-- what a mark's move is done with
+module _ (r : Record) (len : ℕ) (e : fitsOf r len ≡ true) where
+  pub fits-ready : Ready r
+  unfolding choiceFits
+  fits-ready =
+      let x = r .guest .choice in
+      let t = x .tally in
+      let marks = r .guest .marks in
+      let a = and-eq-true-iff (leb (t .on) 1 && leb (t .count) 64 && orderFits (marks .place) (marks .set) (take (t .count) (x .order))) (eqb (t .on) 1 || (eqb (t .count) 0 && eqb (t .charged) 0)) .0 (fits-layout r len e .chosen) in
+      let b = and-eq-true-iff (leb (t .on) 1 && leb (t .count) 64) (orderFits (marks .place) (marks .set) (take (t .count) (x .order))) .0 (a .0) in
+      let d = and-eq-true-iff (leb (t .on) 1) (leb (t .count) 64) .0 (b .0) in
+      (fits-sound r len e, fits-levels r len e, leb-true (t .count) 64 (d .1))
+
 -- a mark that is set or cleared has a level that a key can hold
-module _ (r : Record) (a level : ℕ) (few : r .layout .levels < 6) where
-  set-level : number (setRefusal (r .layout .levels) (keysOf (r .guest .marks)) a level) ≡ 0 → level < 8
-  set-level e = omega (arith, few, level-below (r .layout .levels) level (may-set (r .layout .levels) (r .guest .marks) a level e .fits))
-
-  clear-level : number (clearRefusal (r .layout .levels) (keysOf (r .guest .marks)) a level) ≡ 0 → level < 8
-  clear-level e = omega (arith, few, level-below (r .layout .levels) level (may-clear (r .layout .levels) (r .guest .marks) a level e .fits))
-
-  pub mark-level : (b : Bool) → markRefusal b r a level ≡ 0 → level < 8
-  mark-level true e = set-level e
-  mark-level false e = clear-level e
+pub mark-level : (b : Bool) (r : Record) (a level : ℕ) → r .layout .levels < 6 → markRefusal b r a level ≡ 0 → level < 8
+mark-level true r a level few e =
+    omega (arith, few, level-below (r .layout .levels) level (may-set (r .layout .levels) (r .guest .choice .tally) (r .guest .choice .order) (r .guest .marks) a level e .fits))
+mark-level false r a level few e =
+    omega (arith, few, level-below (r .layout .levels) level (may-clear (r .layout .levels) (r .guest .choice .tally) (r .guest .choice .order) (r .guest .marks) a level e .fits))

@@ -1,6 +1,6 @@
 -- The calls of the unit, as total definitions over any record, any memory and any numbers.
 -- Assumes nothing.
-use Prim.Native.Nat.{ℕ, _-_, _*_, _/_, _^_, _≤_}
+use Prim.Native.Nat.{ℕ, _+_, _-_, _*_, _^_, _<_, _≤_}
 use mathlib.Core.Path.{_≡_}
 use mathlib.Core.Bool.{Bool, true, false, not, _&&_, cond}
 use mathlib.Core.List.{List}
@@ -12,7 +12,7 @@ use Rattle.spec.specs.declared.Lookup.{Lookup}
 use Rattle.spec.specs.Answer.{line}
 use Rattle.spec.specs.Call.{Call, root, map, unmap, setMark, clearMark, load, store, device, forecast}
 use Rattle.spec.specs.Config.{Config}
-use Rattle.spec.specs.Entry.{pageOf, indexes}
+use Rattle.spec.specs.Entry.{wordOf, frameLimit}
 use Rattle.spec.specs.Bytes.{widthFits, aligned}
 use Rattle.spec.specs.Refusal.{addressFits, deviceFits, frameFits, forecastRoom}
 use Rattle.words.specs.After.{After, yields}
@@ -23,27 +23,42 @@ use Rattle.host.specs.declared.Change.{Change}
 use Rattle.layout.specs.declared.HostWalk.{HostWalk}
 use Rattle.layout.specs.declared.HostWalk.the-variants as host
 use Rattle.host.specs.declared.Space.{Space}
-use Rattle.layout.specs.Layout.{LayoutFits, page}
+use Rattle.layout.specs.Layout.{LayoutFits, config}
 use Rattle.host.specs.Walk.{hostWalkOf}
 use Rattle.host.specs.Map.{mapOf, unmapOf}
 use Rattle.marks.specs.declared.Marks.{Marks}
-use Rattle.marks.specs.Key.{keyAt}
-use Rattle.marks.specs.Table.{keys, lookupIn, withKey, withoutKey, setRefusal, clearRefusal, number}
+use Rattle.marks.specs.Table.{keys, lookupIn, number}
+use Rattle.choice.specs.declared.Tally.{Tally}
+use Rattle.choice.specs.Window.{requestedOf, emptiedOf}
+use Rattle.choice.specs.Refusal.{setRefusal, clearRefusal}
+use Rattle.shadow.specs.Watch.{watchedOf}
 use Rattle.drops.specs.declared.Cut.the-variants.{Names}
 use Rattle.drops.specs.declared.Left.{Left}
-use Rattle.drops.specs.Drop.{scanOf, dropPrefixOf}
+use Rattle.drops.specs.Drop.{scanOf}
+use Rattle.charge.specs.declared.Charge.{Charge}
+use Rattle.charge.specs.declared.Charge.the-variants as charge
+use Rattle.charge.specs.Charge.{chargedOf}
+use Rattle.automatic.specs.declared.Moved.{Moved}
+use Rattle.automatic.specs.Moves as automatic
+use Rattle.automatic.specs.Moves.{Move, setOf, clearedOf}
+use Rattle.walk.specs.declared.Walked.{Walked}
+use Rattle.walk.specs.declared.Walked.the-variants as walked
 use Rattle.record.specs.declared.Head.{Head}
 use Rattle.record.specs.declared.Record.{Record}
-use Rattle.record.specs.Record.{configOf, guestFrame, headOf, headRoot, headTables, withHead, withMarks, fitsOf}
+use Rattle.record.specs.Record.{configOf, guestFrame, recordBy, headOf, headRoot, headTables, headTally, withHead, fitsOf}
 use Rattle.record.specs.Open.{openOf}
 use Rattle.translate.specs.declared.Held.{Held}
 use Rattle.request.specs.declared.Served.{Served}
 use Rattle.translate.specs.declared.Translated.{Translated}
 use Rattle.translate.specs.Translate.{holding, translateOf}
-use Rattle.request.specs.Access.{loadOf, storeOf, deviceOf}
+use Rattle.request.specs.declared.Put.{Put}
+use Rattle.request.specs.Access as access
+use Rattle.request.specs.Access.{settledOf, droppedOf, bytesIn, loadOf, storeFrom, deviceOf}
 use Rattle.forecast.specs.Forecast.{forecastOf}
 use Rattle.calls.specs.declared.Reply.{Reply}
 use Rattle.calls.specs.declared.Turn.{Turn}
+use Rattle.calls.specs.declared.Owed.{Owed}
+use Rattle.calls.specs.declared.Remapped.{Remapped}
 
 -- ---- parts of a record
 
@@ -104,7 +119,44 @@ servedReply r s = record { unit = withHeld r (s .held); answer = s .answer }
 abbrev pub turnReply : Record → Turn → Reply
 turnReply r t = record { unit = withHead r (t .head); answer = t .answer }
 
--- a request that was served
+-- by the head that a call left, and the arrays
+abbrev pub turnIn : List ℕ → List ℕ → List ℕ → Turn → Reply
+turnIn place ring order t = record { unit = recordBy (t .head) place ring order; answer = t .answer }
+
+-- with the tables that a map or an unmap left
+abbrev pub headRemapped : Head → Remapped → Head
+headRemapped h x = headTables h (record { host = x .host; shadow = x .held .pool }) (x .held .frame)
+
+abbrev pub remapReply : Record → Remapped → Reply
+remapReply r x = record { unit = withHead r (headRemapped (headOf r) x); answer = x .answer }
+
+abbrev pub unmovedBy : Head → ℕ → Remapped
+unmovedBy h n = record { host = h .pools .host; held = heldIn h; answer = answer.Refused n }
+
+-- the tally of the automatic choice after a load or a store: it is in the window, unless it is refused
+abbrev pub tallyAfter : Answer → Tally → Tally
+tallyAfter answer.Ok t = requestedOf t
+tallyAfter (answer.Value v r e) t = requestedOf t
+tallyAfter (answer.Done r e) t = requestedOf t
+tallyAfter (answer.Faulted x r e) t = requestedOf t
+tallyAfter (answer.Refused n) t = t
+tallyAfter (answer.Figures r e n) t = requestedOf t
+
+-- with other paths held, and another tally
+abbrev pub headWindow : Head → Held → Tally → Head
+headWindow h x t = headTally (headHeld h x) t
+
+abbrev pub windowedTurn : Head → Served → Turn
+windowedTurn h s = record { head = headWindow h (s .held) (tallyAfter (s .answer) (h .tally)); answer = s .answer }
+
+abbrev pub windowedReply : Record → Served → Reply
+windowedReply r s = turnReply r (windowedTurn (headOf r) s)
+
+-- a load or a store that was served, and charged to nobody
+abbrev pub windowedBy : Record → After Served → After Reply
+windowedBy r s = yields (windowedReply r (s .result)) (s .memory)
+
+-- a device's store, which is in no window
 abbrev pub servedBy : Record → After Served → After Reply
 servedBy r s = yields (servedReply r (s .result)) (s .memory)
 
@@ -129,9 +181,9 @@ answerOf n = cond (eqb n 0) answer.Ok (answer.Refused n)
 abbrev pub openedBy : Record → ℕ → List ℕ → After Reply
 openedBy r n m = ended r (answerOf n) m
 
--- bits: whether it chooses accessed and dirty bits
-unfoldable pub openCall : List ℕ → ℕ → ℕ → Bool → After Reply
-openCall m h s bits = let t = openOf m h s bits in openedBy (t .result .unit) (t .result .refusal) (t .memory)
+-- bits, on: whether it chooses accessed and dirty bits, and the automatic choice
+unfoldable pub openCall : List ℕ → ℕ → ℕ → Bool → Bool → After Reply
+openCall m h s bits on = let t = openOf m h s bits on in openedBy (t .result .unit) (t .result .refusal) (t .memory)
 
 -- ---- load, store, device store
 
@@ -159,20 +211,84 @@ addressOk d c a w = cond d (deviceFits c a) (addressFits c a) && aligned a w
 
 unfoldable pub loadCall : Record → List ℕ → ℕ → ℕ → After Reply
 loadCall r m a w =
-    placed r m w (addressOk false (configOf r) a w) (servedBy r (loadOf (configOf r) (hostTop r) m (heldOf r) (rootOf r) a w (depthAt r a)))
+    placed r m w (addressOk false (configOf r) a w) (windowedBy r (loadOf (configOf r) (hostTop r) m (heldOf r) (rootOf r) a w (depthAt r a)))
+
+-- what a store to word i of host frame t is charged to, with these paths held: nobody if the frame is not watched
+unfoldable pub chargedIn : Config → Held → List ℕ → ℕ → ℕ → Charge
+chargedIn c h m t i = cond (watchedOf c m (h .pool .fresh) t) (chargedOf c m (h .pool .fresh) t i) charge.Nobody
+
+-- and nobody with the choice off
+unfoldable pub chargeAt : Record → Held → List ℕ → ℕ → ℕ → Charge
+chargeAt r h m t i = cond (eqb (r .guest .choice .tally .on) 0) charge.Nobody (chargedIn (configOf r) h m t i)
+
+-- after the charge of a store and the marks that it moved: its bits, then its bytes in host frame t. n references, e exits
+abbrev pub finishedBy : Record → ℕ → ℕ → ℕ → ℕ → ℕ → ℕ → (List ℕ → List ℕ) → After Move → After Reply
+finishedBy r a w v t n e set x =
+    cond (x .result .ok) (ended (x .result .unit) (answer.Done n e) (bytesIn (set (x .memory)) t a w v)) (refused r 11 (x .memory))
+
+-- after its own drops it is charged to p; held: what was held before them
+abbrev pub paidBy : Record → ℕ → ℕ → ℕ → ℕ → ℕ → ℕ → (List ℕ → List ℕ) → Held → ℕ → After Put → After Reply
+paidBy r a w v t n e set held p s =
+    cond (s .result .ok)
+    (finishedBy r a w v t n (e + s .result .exits) set (automatic.chargedOf (withHeld r (record { pool = s .result .pool; frame = held .frame })) (s .memory) p))
+    (refused r 11 (s .memory))
+
+-- a store of the value v that is charged, from its translation on. No guest word is changed before the last drop, so that damage has changed none
+unfoldable pub storeChargedOf : Record → List ℕ → ℕ → ℕ → ℕ → Owed → After Reply
+storeChargedOf r m a w v x =
+    paidBy r a w v (x .page .0) (x .reads) (x .exits) (settledOf (configOf r) (hostTop r) (rootOf r) true a (x .sets)) (x .held) (x .prefix)
+    (droppedOf (configOf r) m (x .held .pool) (x .page .0) (wordOf a))
+
+-- what is left to do of a store that came to a page, after n references, and is charged to p
+abbrev pub owing : Translated → HostPhysical → ℕ → ℕ → Owed
+owing o t n p = record { held = o .held; page = t; reads = n; exits = o .exits; sets = o .sets; prefix = p }
+
+-- a store that is charged to nobody
+abbrev pub plainStore : Record → ℕ → ℕ → ℕ → After Translated → After Reply
+plainStore r a w v o = windowedBy r (storeFrom (configOf r) (hostTop r) (rootOf r) (heldOf r) a w v o)
+
+abbrev pub storeBy : Record → ℕ → ℕ → ℕ → After Translated → HostPhysical → ℕ → Charge → After Reply
+storeBy r a w v o t n charge.Nobody = plainStore r a w v o
+storeBy r a w v o t n (charge.To p) = storeChargedOf r (o .memory) a w v (owing (o .result) t n p)
+storeBy r a w v o t n charge.Damaged = refused r 11 (o .memory)
+
+-- a store by what its translation came to
+abbrev pub storedBy : Record → ℕ → ℕ → ℕ → After Translated → Walked → After Reply
+storedBy r a w v o (walked.Arrived t y n) = storeBy r a w v o t n (chargeAt r (o .result .held) (o .memory) (t .0) (wordOf a))
+storedBy r a w v o (walked.Faulted x n) = plainStore r a w v o
+storedBy r a w v o walked.Damaged = plainStore r a w v o
+
+abbrev pub storedOf : Record → List ℕ → ℕ → ℕ → ℕ → After Reply
+storedOf r m a w v = let o = translatedOf r m true a in storedBy r a w v o (o .result .walked)
 
 unfoldable pub storeCall : Record → List ℕ → ℕ → ℕ → ℕ → After Reply
-storeCall r m a w v =
-    placed r m w (addressOk false (configOf r) a w) (servedBy r (storeOf (configOf r) (hostTop r) m (heldOf r) (rootOf r) a w (depthAt r a) v))
+storeCall r m a w v = placed r m w (addressOk false (configOf r) a w) (storedOf r m a w v)
+
+-- ---- a store in parts, with the choice on
+
+-- the ranges of what is left to do of a store that is charged
+abbrev pub OwedFits : Config → Owed → Type 0
+OwedFits c x = (x .held .pool .fresh ≤ c .shadows) × (x .page .0 < frameLimit) × (x .exits ≤ 65536) × (x .prefix < 2 ^ (9 * (c .levels - 1)))
+
+-- after the charge and the marks that it moved, with the head that they left
+abbrev pub settledTurn : Head → ℕ → ℕ → ℕ → Owed → ℕ → After Moved → After Turn
+settledTurn h a w v x e o =
+    let set : List ℕ → List ℕ = settledOf (config (h .layout)) (h .pools .host .top) (h .root .0) true a (x .sets) in
+    cond (o .result .ok)
+    (yields (record { head = o .result .head; answer = answer.Done (x .reads) e }) (bytesIn (set (o .memory)) (x .page .0) a w v))
+    (yields (record { head = h; answer = answer.Refused 11 }) (o .memory))
 
 unfoldable pub deviceCall : Record → List ℕ → ℕ → ℕ → ℕ → After Reply
 deviceCall r m a w v = placed r m w (addressOk true (configOf r) a w) (servedBy r (deviceOf (configOf r) (hostTop r) m (heldOf r) a w v))
 
 -- ---- root, map, unmap
 
--- a root is loaded: every path is dropped, the one in the record too
+-- a root is loaded: every path is dropped, the one in the record too, and the window is empty
+abbrev pub headRooted : Record → ℕ → Head
+headRooted r g = headTally (headRoot (headHeld (headOf r) nothing) g) (emptiedOf (r .guest .choice .tally))
+
 unfoldable pub rootCall : Record → List ℕ → ℕ → After Reply
-rootCall r m g = judged r m (cond (frameFits (configOf r) g) (ended (withHead r (headRoot (headHeld (headOf r) nothing) g)) answer.Ok m) (refused r 8 m))
+rootCall r m g = judged r m (cond (frameFits (configOf r) g) (ended (withHead r (headRooted r g)) answer.Ok m) (refused r 8 m))
 
 -- what a drop left; r is the record given, next the one after the drop, with the frame f held in it
 abbrev pub droppedBy : Record → Record → HostPhysical → After Left → After Reply
@@ -204,29 +320,27 @@ unmapCall r m g = judged r m (changedBy r g (hostWalkOf (configOf r) (hostTop r)
 
 -- ---- marks
 
--- the frame held in the record after a mark of level n, of N levels: it goes too where the mark keeps no index
-abbrev pub heldAfter : ℕ → ℕ → HostPhysical → HostPhysical
-heldAfter levels n f = cond (ltb n levels) f (page 0)
-
--- a mark of level n at the address a was set or cleared, which left the marks t: the paths that begin with its indexes are dropped
-unfoldable pub markedOf : Record → List ℕ → ℕ → ℕ → Marks → After Reply
-markedOf r m a n t =
-    droppedBy r (withMarks r t) (heldAfter (r .layout .levels) n (r .guest .held))
-    (dropPrefixOf (configOf r) (r .pools .shadow) m (indexes (r .layout .levels - n) (pageOf a / 2 ^ (9 * n))))
-
 abbrev pub keysOf : Record → List ℕ
 keysOf r = keys (r .guest .marks .place) (r .guest .marks .set)
 
--- a mark is set (b), or one that is set is cleared: why it is refused, and the marks after it
-abbrev pub markRefusal : Bool → Record → ℕ → ℕ → ℕ
-markRefusal b r a n = number (cond b (setRefusal (r .layout .levels) (keysOf r) a n) (clearRefusal (r .layout .levels) (keysOf r) a n))
+-- a mark is set (b), or one that is set is cleared: why it is refused, and what it leaves
+abbrev pub refusalIn : Bool → ℕ → Tally → List ℕ → Marks → ℕ → ℕ → ℕ
+refusalIn b levels t order marks a n = number (cond b (setRefusal levels t order marks a n) (clearRefusal levels t order marks a n))
 
-abbrev pub marksAfter : Bool → Marks → ℕ → Marks
-marksAfter b t k = cond b (withKey t k) (withoutKey t k)
+abbrev pub markRefusal : Bool → Record → ℕ → ℕ → ℕ
+markRefusal b r a n = refusalIn b (r .layout .levels) (r .guest .choice .tally) (r .guest .choice .order) (r .guest .marks) a n
+
+abbrev pub movedReply : Record → Move → Reply
+movedReply r x = cond (x .ok) (record { unit = x .unit; answer = answer.Ok }) (record { unit = r; answer = answer.Refused 11 })
+
+abbrev pub movedBy : Record → After Move → After Reply
+movedBy r x = yields (movedReply r (x .result)) (x .memory)
+
+abbrev pub markMoves : Bool → Record → List ℕ → ℕ → ℕ → After Move
+markMoves b r m a n = cond b (setOf r m a n) (clearedOf r m a n)
 
 abbrev pub markCall : Bool → Record → List ℕ → ℕ → ℕ → After Reply
-markCall b r m a n =
-    judged r m (cond (eqb (markRefusal b r a n) 0) (markedOf r m a n (marksAfter b (r .guest .marks) (keyAt (r .layout .levels) n a))) (refused r (markRefusal b r a n) m))
+markCall b r m a n = judged r m (cond (eqb (markRefusal b r a n) 0) (movedBy r (markMoves b r m a n)) (refused r (markRefusal b r a n) m))
 
 unfoldable pub setMarkCall : Record → List ℕ → ℕ → ℕ → After Reply
 setMarkCall r m a n = markCall true r m a n

@@ -23,7 +23,7 @@ use Rattle.record.specs.Open.{refusalOf}
 use Rattle.calls.specs.Calls.{depthAt, callOf}
 use Rattle.claims.specs.Run.{runOf}
 use Rattle.claims.proofs.Invariant.{Inv}
-use Rattle.claims.proofs.Demands.{Set, after-run, run-config}
+use Rattle.claims.proofs.Demands.{Beside, after-run, run-config}
 use Rattle.claims.specs.Plain.{Grants, GrantedWith, requestAt, isStore, grantedLine, plainWalk, AsWalked, Unrefused}
 use Rattle.claims.proofs.Plain.{deep, as-walked}
 use Rattle.words.specs.After.{After}
@@ -75,7 +75,7 @@ reads-line : (a w : ℕ) (v : Option ℕ) (e n x : ℕ) → readsOf (grantedLine
 reads-line a w none e n x = refl
 reads-line a w (some v) e n x = refl
 
-module _ (s : State) (r : Record) (m : List ℕ) (inv : Inv s r m) (covered : Set s r) (four : configOf r .levels ≡ 4) (a w : ℕ) (v : Option ℕ) where
+module _ (s : State) (r : Record) (m : List ℕ) (inv : Inv s r m) (beside : Beside s r) (four : configOf r .levels ≡ 4) (a w : ℕ) (v : Option ℕ) where
   abbrev e : After Reply
   e = callOf (requestAt a w v) r m
 
@@ -83,7 +83,7 @@ module _ (s : State) (r : Record) (m : List ℕ) (inv : Inv s r m) (covered : Se
   d = depth (s .book .marks) (addressIndexes (configOf r) a)
 
   reads : Grants (e .result .answer) → GrantedWith (4 + 4 * d) (e .result .answer) × (4 + 4 * d ≤ 24)
-  reads g = by (deep s r m inv covered a) (plainWalk r m (isStore v) a) (as-walked s r m inv covered a w v (unrefused (e .result .answer) g))
+  reads g = by (deep s r m inv beside a) (plainWalk r m (isStore v) a) (as-walked s r m inv beside a w v (unrefused (e .result .answer) g))
     where
       by : depthAt r a ≡ d → (y : Walked) → AsWalked r m a w v e y → GrantedWith (4 + 4 * d) (e .result .answer) × (4 + 4 * d ≤ 24)
       by k (walked.Arrived t y n) q =
@@ -93,20 +93,20 @@ module _ (s : State) (r : Record) (m : List ℕ) (inv : Inv s r m) (covered : Se
       by k (walked.Faulted y n) q = absurd (subst GrantsLine (q .says) (grants-line (e .result .answer) g))
       by k walked.Damaged q = absurd q
 
--- after a granted opening, on any memory, with bits or without, and any list of calls: a load or a store that is granted reports 4 + 4 · d
+-- after a granted opening, on any memory, whatever it chooses, and any list of calls: a load or a store that is granted reports 4 + 4 · d
 -- words, at most 24, where d is the depth of its address by the book's marks then set
-pub run-reads : (m : List ℕ) (h s : ℕ) (bits : Bool) (xs : List Call) → refusalOf (length m) h s bits ≡ 0 → (a w : ℕ) (v : Option ℕ)
-    → let u = runOf m h s bits xs in
+pub run-reads : (m : List ℕ) (h s : ℕ) (bits on : Bool) (xs : List Call) → refusalOf (length m) h s bits ≡ 0 → (a w : ℕ) (v : Option ℕ)
+    → let u = runOf m h s bits on xs in
     let e = callOf (requestAt a w v) (u .result .unit) (u .memory) in
     let c = configBy (length m) h s bits in
-    let d = depth ((after xs (opened c m)) .book .marks) (addressIndexes c a) in
+    let d = depth ((after xs (opened c on m)) .book .marks) (addressIndexes c a) in
     Grants (e .result .answer) → GrantedWith (4 + 4 * d) (e .result .answer) × (4 + 4 * d ≤ 24)
-run-reads m h s bits xs g a w v =
-    let u = runOf m h s bits xs in
+run-reads m h s bits on xs g a w v =
+    let u = runOf m h s bits on xs in
     let c = configBy (length m) h s bits in
-    let t = after xs (opened c m) in
-    let k = after-run m h s bits xs g in
-    let same = run-config m h s bits xs g in
+    let t = after xs (opened c on m) in
+    let k = after-run m h s bits on xs g in
+    let same = run-config m h s bits on xs g in
     let e = callOf (requestAt a w v) (u .result .unit) (u .memory) in
     subst (λ x. Grants (e .result .answer) → GrantedWith (4 + 4 * depth (t .book .marks) (addressIndexes x a)) (e .result .answer) × (4 + 4 * depth (t .book .marks) (addressIndexes x a) ≤ 24)) same
     (reads t (u .result .unit) (u .memory) (k .1) (k .2) (ap (λ x. x .levels) same) a w v)

@@ -39,7 +39,7 @@ use Rattle.claims.specs.Plain.{Unrefused}
 use Rattle.claims.proofs.Invariant.{Inv}
 use Rattle.claims.proofs.Found.{rules}
 use Rattle.claims.proofs.Requests.{page-in, device-in, load-step, store-step, device-step}
-use Rattle.claims.proofs.Demands.{Set, follows, after-run, run-config}
+use Rattle.claims.proofs.Demands.{Beside, follows, after-run, run-config}
 use Rattle.claims.proofs.Plain.{tests-passed, device-passed}
 use Rattle.claims.specs.Bytes.{byteOf, byteIn, firstByte, Loads, Stores, storeAt, storeComesTo, storeFinds, GrantedAt}
 use Rattle.spec_laws.proofs.Keeps.{InGuestArea}
@@ -85,7 +85,7 @@ module _ (ws : List ℕ) (k a w : ℕ) (in-word : a % 8 + w ≤ 8) where
 
 -- ---- one request, where the invariant holds
 
-module _ (s : State) (r : Record) (m : List ℕ) (inv : Inv s r m) (covered : Set s r) (a w : ℕ) where
+module _ (s : State) (r : Record) (m : List ℕ) (inv : Inv s r m) (beside : Beside s r) (a w : ℕ) where
   abbrev c : Config
   c = configOf r
 
@@ -134,58 +134,58 @@ module _ (s : State) (r : Record) (m : List ℕ) (inv : Inv s r m) (covered : Se
   load-bytes : (v k x : ℕ) → let e = callOf (load a w) r m in e .result .answer ≡ answer.Value v k x
       → GrantedAt (verdict c mach false a) (λ t. Loads (guestArea (e .result .unit) (e .memory)) (firstByte c t a) w v)
   load-bytes v k x e =
-      let t = tests-passed s r m inv covered a w none (subst Unrefused (sym e) tt) in
-      let f = follows (load a w) s r m inv covered in
-      let stepped = load-step s r m inv covered a w (t .0) (t .1) in
+      let t = tests-passed s r m inv beside a w none (subst Unrefused (sym e) tt) in
+      let f = follows (load a w) s r m inv beside in
+      let stepped = load-step s r m inv (beside .0) (beside .1) a w (t .0) (t .1) in
       loaded (in-word (t .0) (addressFits c a) (t .1)) (bitsSet c false mach (plain c mach false a)) v k x _ _ (verdict c mach false a)
       (sym (ap line e) ∙ f .says ∙ ap (λ o. o .0) stepped) _ (f .next .area ∙ ap (λ o. o .1 .machine .area) stepped)
 
   store-bytes : (d : Bool) (v k x : ℕ) → let e = callOf (storeAt d a w v) r m in e .result .answer ≡ answer.Done k x
       → GrantedAt (storeComesTo d c mach a) (λ t. Stores (storeFinds d c mach a) (guestArea (e .result .unit) (e .memory)) (firstByte c t a) w v)
   store-bytes false v k x e =
-      let t = tests-passed s r m inv covered a w (some v) (subst Unrefused (sym e) tt) in
-      let f = follows (store a w v) s r m inv covered in
-      let stepped = store-step s r m inv covered a w v (t .0) (t .1) in
+      let t = tests-passed s r m inv beside a w (some v) (subst Unrefused (sym e) tt) in
+      let f = follows (store a w v) s r m inv beside in
+      let stepped = store-step s r m inv (beside .0) (beside .1) a w v (t .0) (t .1) in
       written (in-word (t .0) (addressFits c a) (t .1)) (bitsSet c true mach (plain c mach true a)) (bits-more c true mach (plain c mach true a) .long) v k x _ _ (verdict c mach true a)
-      (λ p q. page-in s r m inv covered true a p (verdict-granted c mach true a p q))
+      (λ p q. page-in s r m inv (beside .0) (beside .1) true a p (verdict-granted c mach true a p q))
       (sym (ap line e) ∙ f .says ∙ ap (λ o. o .0) stepped) _ (f .next .area ∙ ap (λ o. o .1 .machine .area) stepped)
   store-bytes true v k x e =
-      let t = device-passed s r m inv covered a w v (subst Unrefused (sym e) tt) in
-      let f = follows (device a w v) s r m inv covered in
-      let stepped = device-step s r m inv covered a w v (t .0) (t .1) in
-      written (in-word (t .0) (deviceFits c a) (t .1)) mach refl v k x _ _ ((deviceWalk c mach a) .result) (device-in s r m inv covered a w v (t .1))
+      let t = device-passed s r m inv beside a w v (subst Unrefused (sym e) tt) in
+      let f = follows (device a w v) s r m inv beside in
+      let stepped = device-step s r m inv (beside .0) (beside .1) a w v (t .0) (t .1) in
+      written (in-word (t .0) (deviceFits c a) (t .1)) mach refl v k x _ _ ((deviceWalk c mach a) .result) (device-in s r m inv (beside .0) (beside .1) a w v (t .1))
       (sym (ap line e) ∙ f .says ∙ ap (λ o. o .0) stepped) _ (f .next .area ∙ ap (λ o. o .1 .machine .area) stepped)
 
 -- ---- Document 02, 4). After a granted opening on any memory and any list of calls
 
 -- a load that is granted yields its own bytes of the page that its walk comes to, the first lowest, and zeros above them; of the guest area
 -- as the load leaves it, which with bits off is as it was
-pub run-load-bytes : (m : List ℕ) (h s : ℕ) (bits : Bool) (xs : List Call) → refusalOf (length m) h s bits ≡ 0 → (a w v k x : ℕ)
-    → let u = runOf m h s bits xs in
+pub run-load-bytes : (m : List ℕ) (h s : ℕ) (bits on : Bool) (xs : List Call) → refusalOf (length m) h s bits ≡ 0 → (a w v k x : ℕ)
+    → let u = runOf m h s bits on xs in
     let c = configBy (length m) h s bits in
-    let mach = (after xs (opened c m)) .machine in
+    let mach = (after xs (opened c on m)) .machine in
     let e = callOf (load a w) (u .result .unit) (u .memory) in
     e .result .answer ≡ answer.Value v k x → GrantedAt (verdict c mach false a) (λ t. Loads (guestArea (e .result .unit) (e .memory)) (firstByte c t a) w v)
-run-load-bytes m h s bits xs g a w v k x done =
-    let u = runOf m h s bits xs in
-    let i = after-run m h s bits xs g in
-    let t = after xs (opened (configBy (length m) h s bits) m) in
+run-load-bytes m h s bits on xs g a w v k x done =
+    let u = runOf m h s bits on xs in
+    let i = after-run m h s bits on xs g in
+    let t = after xs (opened (configBy (length m) h s bits) on m) in
     let e = callOf (load a w) (u .result .unit) (u .memory) in
-    subst (λ y. GrantedAt (verdict y (t .machine) false a) (λ f. Loads (guestArea (e .result .unit) (e .memory)) (firstByte y f a) w v)) (run-config m h s bits xs g)
+    subst (λ y. GrantedAt (verdict y (t .machine) false a) (λ f. Loads (guestArea (e .result .unit) (e .memory)) (firstByte y f a) w v)) (run-config m h s bits on xs g)
     (load-bytes t (u .result .unit) (u .memory) (i .1) (i .2) a w v k x done)
 
 -- a store that is granted, a device's (d) too, leaves its own bytes there, and no other byte of the guest area that it finds is changed
-pub run-store-bytes : (m : List ℕ) (h s : ℕ) (bits : Bool) (xs : List Call) → refusalOf (length m) h s bits ≡ 0 → (d : Bool) (a w v k x : ℕ)
-    → let u = runOf m h s bits xs in
+pub run-store-bytes : (m : List ℕ) (h s : ℕ) (bits on : Bool) (xs : List Call) → refusalOf (length m) h s bits ≡ 0 → (d : Bool) (a w v k x : ℕ)
+    → let u = runOf m h s bits on xs in
     let c = configBy (length m) h s bits in
-    let mach = (after xs (opened c m)) .machine in
+    let mach = (after xs (opened c on m)) .machine in
     let e = callOf (storeAt d a w v) (u .result .unit) (u .memory) in
     e .result .answer ≡ answer.Done k x
     → GrantedAt (storeComesTo d c mach a) (λ t. Stores (storeFinds d c mach a) (guestArea (e .result .unit) (e .memory)) (firstByte c t a) w v)
-run-store-bytes m h s bits xs g d a w v k x done =
-    let u = runOf m h s bits xs in
-    let i = after-run m h s bits xs g in
-    let t = after xs (opened (configBy (length m) h s bits) m) in
+run-store-bytes m h s bits on xs g d a w v k x done =
+    let u = runOf m h s bits on xs in
+    let i = after-run m h s bits on xs g in
+    let t = after xs (opened (configBy (length m) h s bits) on m) in
     let e = callOf (storeAt d a w v) (u .result .unit) (u .memory) in
-    subst (λ y. GrantedAt (storeComesTo d y (t .machine) a) (λ f. Stores (storeFinds d y (t .machine) a) (guestArea (e .result .unit) (e .memory)) (firstByte y f a) w v)) (run-config m h s bits xs g)
+    subst (λ y. GrantedAt (storeComesTo d y (t .machine) a) (λ f. Stores (storeFinds d y (t .machine) a) (guestArea (e .result .unit) (e .memory)) (firstByte y f a) w v)) (run-config m h s bits on xs g)
     (store-bytes t (u .result .unit) (u .memory) (i .1) (i .2) a w d v k x done)

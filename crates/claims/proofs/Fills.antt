@@ -53,7 +53,7 @@ use Rattle.walk.specs.Memory.{memoryWorld, trailOf}
 use Rattle.spec_laws.proofs.Asks.{Guest, walk-asks}
 use Rattle.calls.specs.Calls.{hostTop, heldOf, headHeld, withHeld}
 use Rattle.claims.proofs.Invariant.{longer, topBy, frames, Inv, stands}
-use Rattle.claims.proofs.Moves.{fits-held, maps-beside, shadow-drop, invariant, shadow-on}
+use Rattle.claims.proofs.Moves.{fits-held, maps-beside, shadow-drop, invariant, shadow-on, still-chosen}
 use Rattle.claims.proofs.Bits.{walk-words}
 use Rattle.claims.proofs.Found as found
 use Rattle.words.specs.After.{After, yields}
@@ -258,7 +258,7 @@ module _ (s : State) (r : Record) (m : List ℕ) (inv : Inv s r m) (st : Bool) (
       filled-next = invariant after (withHeld r pool) (placed .memory)
           (subst (Fits (withHeld r pool)) (sym (placed .beside .len)) (fits-held (found.rules s r m inv) pool (holds-pool (placed .holds)) (found.rules s r m inv .held)))
           (inv .sorted) (inv .root) (maps-beside c (placed .beside) (inv .maps)) (shadow-drop c (placed .beside) ∙ inv .area)
-          fill-book fill-valid-all (inv .marks)
+          fill-book fill-valid-all (inv .marks) (still-chosen inv filled)
           (shadow-on filled mach mach ht ht m (placed .memory) (found.memory-stands s r m inv) memory-stands (found.root-small s r m inv) (found.root-small s r m inv) (found.few s r m inv)
           (all-map (Valid c mach) (Stays c mach mach) filled (stays-same c mach) fill-valid-all)
           (subst (λ x. Holds (shadowArea c) false (placed .pool) (placed .memory) (leafAt (entryOf c (framesAt c ht m x)) (longer filled)) (framesAt c ht m x)) (inv .root) (placed .holds)))
@@ -305,7 +305,7 @@ module _ (s : State) (r : Record) (m : List ℕ) (inv : Inv s r m) (st : Bool) (
       top-next : Inv after (withHeld r (holdingAt (r .pools .shadow) t)) m
       unfolding headHeld headTables
       top-next = record {
-        fits = fits-true (withHeld r (holdingAt (r .pools .shadow) t)) (length m) (fits-held (found.rules s r m inv) (holdingAt (r .pools .shadow) t) (found.rules s r m inv .shadow) (inr (new-here .1)));
+        fits = fits-true (withHeld r (holdingAt (r .pools .shadow) t)) (length m) (inv .sorted .word) (fits-held (found.rules s r m inv) (holdingAt (r .pools .shadow) t) (found.rules s r m inv .shadow) (inr (new-here .1)));
         sorted = inv .sorted;
         root = inv .root;
         maps = inv .maps;
@@ -313,6 +313,7 @@ module _ (s : State) (r : Record) (m : List ℕ) (inv : Inv s r m) (st : Bool) (
         book = fill-book;
         valid = fill-valid-all;
         marks = inv .marks;
+        chosen = still-chosen inv filled;
         shadow = subst (λ l. Holds (shadowArea c) false (r .pools .shadow) m (leafAt (entryOf c (frames r m)) l) (frames r m)) (sym not-longer) (inv .shadow);
         top = sym here ∙ sym (ap (topBy (frames r m [])) found-top);
       }

@@ -20,14 +20,16 @@ use Rattle.spec.specs.Walk.{World, Trace, Result, granted, failed, trace}
 use Rattle.spec.specs.Plain.{Place, walk, upper, directPart}
 use Rattle.spec.specs.Machine.{Machine, world}
 use Rattle.spec.specs.Book.{Held, Book, depth, find, paths, shadowTables}
+use Rattle.spec.specs.Choice.{entered, observed}
 use Rattle.spec.specs.Call.{forecast, addressIndexes, plain, machineStep}
-use Rattle.spec.specs.Count.{Counted, one, hostExit, serves, request, bookStep}
+use Rattle.spec.specs.Count.{Counted, one, hostExit, serves, request, windowed, bookStep}
 use Rattle.spec.specs.Bytes.{aligned}
 use Rattle.spec.specs.Refusal.{addressFits, forecastRoom, tests, refusal, firstFailed}
 use Rattle.spec.specs.Forecast.{Figures, served, servedBy, figuresOf}
 use Rattle.spec.specs.Run.{State, figuresLine, answered, step}
 use Rattle.spec_laws.proofs.Lists.{all-any}
 use Rattle.spec_laws.proofs.Indexes.{indexes-all}
+use Rattle.spec_laws.proofs.Choice.{none-held}
 use Rattle.spec.specs.Entry.{pageOf}
 use Rattle.spec_laws.proofs.Added.{standing, any-append, tables-added, tables-alone, standing-append}
 use Rattle.spec_laws.proofs.Keeps.{right-off, InGuestArea}
@@ -85,6 +87,15 @@ covered-off c m hs off = all-any (Covered c m) hs (λ h. record { five = λ on. 
 pub used-is : (s : State) (r : Record) (m : List ℕ) → Inv s r m → r .pools .shadow .used ≡ shadowTables (s .book .held)
 used-is s r m inv = tables-used (inv .shadow) (found.held-entries s r m inv) ∙ ap distinct (found.propers-longer (s .book .held))
 
+-- a load moves the window alone: marks stay too
+none-marks : (c : Config) (b : Book) → (observed c none b) .marks ≡ b .marks
+unfolding observed
+none-marks c b = go (b .choice)
+  where
+    go : (t : Bool) → cond t (entered none b) b .marks ≡ b .marks
+    go true = refl
+    go false = refl
+
 -- ---- with bits off
 module _ (s : State) (r : Record) (m : List ℕ) (inv : Inv s r m) (off : configOf r .bits ≡ false) where
   abbrev c : Config
@@ -127,6 +138,19 @@ module _ (s : State) (r : Record) (m : List ℕ) (inv : Inv s r m) (off : config
     pub keeps : Keeps room next (paths (k .book .held))
     pub few : next .count ≤ suc (o .paths .count)
     pub marks : k .book .marks ≡ s .book .marks
+
+  -- figures go by held paths and marks, not by the window
+  windowed-advances : (o : Outlook) (k : Counted) (e : After Next) → Advances o k e → Advances o (windowed c none k) e
+  windowed-advances o k e v =
+      let same-held : k .book .held ≡ (observed c none (k .book)) .held = sym (none-held c (k .book)) in
+      record {
+        next = v .next;
+        room = v .room;
+        done = v .done ∙ ap (λ hs. yields (Go (record { sum = added (o .sum) (k .references) (k .exits) (shadowTables hs); paths = v .next })) (v .room)) same-held;
+        keeps = subst (λ hs. Keeps (v .room) (v .next) (paths hs)) same-held (v .keeps);
+        few = v .few;
+        marks = none-marks c (k .book) ∙ v .marks;
+      }
 
   module _ (b : Book) (ks : List ℕ) (o : Outlook) (kept : Keeps ks (o .paths) (paths (b .held))) (same-marks : b .marks ≡ s .book .marks) (free : o .paths .count < forecastRoom) (a : ℕ) where
     abbrev deep : ℕ
@@ -360,8 +384,8 @@ module _ (s : State) (r : Record) (m : List ℕ) (inv : Inv s r m) (off : config
     unfolding served refusal tests bookStep addressOf
     address-advances e =
         subst (λ y. Advances o (servedBy c mach a b (firstFailed ((y, 4) ∷ []))) (cond y (loadOf c ht m hold (rootOf r) ks o a (depthAt r a)) (yields (Go o) ks))) (sym e)
-        (subst (λ ms. Advances o (request c mach b false a (depth ms is)) (loadOf c ht m hold (rootOf r) ks o a (depthAt r a))) (sym same-marks)
-        (subst (λ d. Advances o k (loadOf c ht m hold (rootOf r) ks o a d)) (sym (found.depth-is s r m inv a)) load-advances))
+        (subst (λ ms. Advances o (windowed c none (request c mach b false a (depth ms is))) (loadOf c ht m hold (rootOf r) ks o a (depthAt r a))) (sym same-marks)
+        (subst (λ d. Advances o (windowed c none k) (loadOf c ht m hold (rootOf r) ks o a d)) (sym (found.depth-is s r m inv a)) (windowed-advances o k _ load-advances)))
 
   -- ---- the list
 

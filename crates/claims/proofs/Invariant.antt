@@ -26,6 +26,7 @@ use Rattle.walk.proofs.Stands.{Stands}
 use Rattle.marks.specs.Reading.{marksOf}
 use Rattle.marks.proofs.Order.{SameMembers}
 use Rattle.marks.proofs.Book.{Sorted}
+use Rattle.choice.proofs.Chosen.{Chosen}
 use Rattle.record.specs.declared.Record.{Record}
 use Rattle.record.specs.Record.{configOf, fitsOf}
 use Rattle.shadow.specs.Held.{shadowArea}
@@ -56,6 +57,7 @@ pub record Inv (s : State) (r : Record) (m : List ℕ) : Type 0 where
   pub book : BookFits (configOf r) (s .book)
   pub valid : All (Valid (configOf r) (s .machine)) (s .book .held)
   pub marks : SameMembers (marksOf (r .layout .levels) (r .guest .marks)) (s .book .marks)
+  pub chosen : Chosen (configOf r) (r .guest .choice) (r .guest .marks) (s .book)
   pub shadow : Holds (shadowArea (configOf r)) false (r .pools .shadow) m (leafAt (entryOf (configOf r) (frames r m)) (longer (s .book .held))) (frames r m)
   pub top : r .guest .held .0 ≡ topBy (frames r m []) (find [] (s .book .held))
 

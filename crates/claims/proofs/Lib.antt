@@ -1,3 +1,4 @@
+pub mod Chosen
 pub mod Invariant
 pub mod Moves
 pub mod Paths
@@ -6,6 +7,7 @@ pub mod Bits
 pub mod Fills
 pub mod Translates
 pub mod Puts
+pub mod Appoints
 pub mod OwnBits
 pub mod Requests
 pub mod Remaps
@@ -15,6 +17,7 @@ pub mod Opens
 pub mod Demands
 pub mod WordsRead
 pub mod Counted
+pub mod SafeMoves
 pub mod Safety
 pub mod Plain
 pub mod ByDepth

@@ -52,17 +52,17 @@ looks-up s r m inv a =
       few = lookup-few c t (s .book) small (inv .sorted) (inv .marks) a;
     }
 
--- Document 02, 3). After a granted opening on any memory, with bits or without, and any list of calls, for every address: the search is the
+-- Document 02, 3). After a granted opening on any memory, whatever it chooses, and any list of calls, for every address: the search is the
 -- specification's among the record's marks in the order of their places, these are the book's, its depth is the book's, and it read all of
 -- them or, with one of level N + 1, at most N + 1
-pub run-lookup : (m : List ℕ) (h s : ℕ) (bits : Bool) (xs : List Call) → refusalOf (length m) h s bits ≡ 0 → (a : ℕ)
-    → let r = runOf m h s bits xs .result .unit in
+pub run-lookup : (m : List ℕ) (h s : ℕ) (bits on : Bool) (xs : List Call) → refusalOf (length m) h s bits ≡ 0 → (a : ℕ)
+    → let r = runOf m h s bits on xs .result .unit in
     let c = configBy (length m) h s bits in
-    LooksUp c ((after xs (opened c m)) .book) r a (lookupAt r a)
-run-lookup m h s bits xs g a =
-    let u = runOf m h s bits xs in
+    LooksUp c ((after xs (opened c on m)) .book) r a (lookupAt r a)
+run-lookup m h s bits on xs g a =
+    let u = runOf m h s bits on xs in
     let r = u .result .unit in
     let c = configBy (length m) h s bits in
-    let t = after xs (opened c m) in
-    let k = after-run m h s bits xs g in
-    subst (λ x. LooksUp x (t .book) r a (lookupAt r a)) (run-config m h s bits xs g) (looks-up t r (u .memory) (k .1) a)
+    let t = after xs (opened c on m) in
+    let k = after-run m h s bits on xs g in
+    subst (λ x. LooksUp x (t .book) r a (lookupAt r a)) (run-config m h s bits on xs g) (looks-up t r (u .memory) (k .1) a)

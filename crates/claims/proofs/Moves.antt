@@ -14,7 +14,7 @@ use Rattle.spec.specs.Config.{Config, guestBase, frameBits}
 use Rattle.spec.specs.Prefix.{same, keep}
 use Rattle.spec.specs.Plain.{Place}
 use Rattle.spec.specs.Machine.{Machine, Mapping, lookup, hostCost}
-use Rattle.spec.specs.Book.{Held, find}
+use Rattle.spec.specs.Book.{Held, find, holding}
 use Rattle.spec.specs.Answer as say
 use Rattle.spec.specs.Answer.{line}
 use Rattle.spec.specs.Call.{Call, machineStep}
@@ -37,9 +37,12 @@ use Rattle.walk.proofs.Stands.{Stands}
 use Rattle.marks.specs.Reading.{marksOf}
 use Rattle.marks.proofs.Order.{SameMembers}
 use Rattle.marks.proofs.Book.{Sorted}
+use Rattle.choice.specs.declared.Tally.{Tally}
+use Rattle.choice.specs.Order.{choiceFits}
+use Rattle.choice.proofs.Chosen.{Chosen, chosen-same}
 use Rattle.record.specs.declared.Record.{Record}
 use Rattle.entry.specs.declared.HostPhysical.{HostPhysical}
-use Rattle.record.specs.Record.{configOf, headTables}
+use Rattle.record.specs.Record.{configOf, headOf, headTables, headTally, withHead}
 use Rattle.translate.specs.declared.Held.{Held as Holding}
 use Rattle.record.proofs.Rules.{Table, Fits, PoolFits, fits-layout, fits-true}
 use Rattle.shadow.specs.Held.{shadowArea}
@@ -63,6 +66,7 @@ module _ {r : Record} {len : ℕ} (f : Fits r len) where
     sizes = f .sizes;
     root = f .root;
     marks = f .marks;
+    chosen = f .chosen;
     held = held;
     top = f .top;
     host = f .host;
@@ -78,9 +82,26 @@ module _ {r : Record} {len : ℕ} (f : Fits r len) where
     sizes = f .sizes;
     root = f .root;
     marks = f .marks;
+    chosen = f .chosen;
     held = f .held;
     top = top;
     host = pool;
+    shadow = f .shadow;
+  }
+
+  -- with another tally of the automatic choice
+  pub fits-chosen : (t : Tally) → choiceFits t (r .guest .choice .order) (r .guest .marks .place) (r .guest .marks .set) ≡ true → Fits (withHead r (headTally (headOf r) t)) len
+  unfolding headTally
+  fits-chosen t e = record {
+    long = f .long;
+    bits = f .bits;
+    sizes = f .sizes;
+    root = f .root;
+    marks = f .marks;
+    chosen = e;
+    held = f .held;
+    top = f .top;
+    host = f .host;
     shadow = f .shadow;
   }
 
@@ -132,12 +153,12 @@ module _ {s : State} {r : Record} {m : List ℕ} (h : Inv s r m) where
 pub invariant : (s : State) (r : Record) (m : List ℕ) → Fits r (length m) → Sorted (r .layout .levels) (r .guest .marks) → r .guest .root .0 ≡ s .machine .root
     → Maps (configOf r) (s .machine .mappings) (r .pools .host) m → drop (512 * guestBase (configOf r)) m ≡ s .machine .area
     → BookFits (configOf r) (s .book) → All (Valid (configOf r) (s .machine)) (s .book .held)
-    → SameMembers (marksOf (r .layout .levels) (r .guest .marks)) (s .book .marks)
+    → SameMembers (marksOf (r .layout .levels) (r .guest .marks)) (s .book .marks) → Chosen (configOf r) (r .guest .choice) (r .guest .marks) (s .book)
     → (let F = framesAt (configOf r) (hostTop r) m (s .machine .root) in
     Holds (shadowArea (configOf r)) false (r .pools .shadow) m (leafAt (entryOf (configOf r) F) (longer (s .book .held))) F)
     → r .guest .held .0 ≡ topBy (framesAt (configOf r) (hostTop r) m (s .machine .root) []) (find [] (s .book .held)) → Inv s r m
-invariant s r m fits sorted root maps area book valid marks shadow top = record {
-  fits = fits-true r (length m) fits;
+invariant s r m fits sorted root maps area book valid marks chosen shadow top = record {
+  fits = fits-true r (length m) (sorted .word) fits;
   sorted = sorted;
   root = root;
   maps = maps;
@@ -145,6 +166,7 @@ invariant s r m fits sorted root maps area book valid marks shadow top = record 
   book = book;
   valid = valid;
   marks = marks;
+  chosen = chosen;
   shadow = subst (λ x. let F = framesAt (configOf r) (hostTop r) m x in Holds (shadowArea (configOf r)) false (r .pools .shadow) m (leafAt (entryOf (configOf r) F) (longer (s .book .held))) F) (sym root) shadow;
   top = subst (λ x. r .guest .held .0 ≡ topBy (framesAt (configOf r) (hostTop r) m x []) (find [] (s .book .held))) (sym root) top;
 }
@@ -236,7 +258,11 @@ top-on c hs s t hm hn m n sm tn bs bt few a = go (find [] hs) refl
 
 -- the invariant asks nothing of the configuration that a state carries
 pub at-inv : {c : Config} {s : State} {r : Record} {m : List ℕ} → Inv s r m → Inv (at c s) r m
-at-inv h = record { fits = h .fits; sorted = h .sorted; root = h .root; maps = h .maps; area = h .area; book = h .book; valid = h .valid; marks = h .marks; shadow = h .shadow; top = h .top }
+at-inv h = record { fits = h .fits; sorted = h .sorted; root = h .root; maps = h .maps; area = h .area; book = h .book; valid = h .valid; marks = h .marks; chosen = h .chosen; shadow = h .shadow; top = h .top }
+
+-- a change of the book that leaves marks and window alone leaves what the choice keeps
+pub still-chosen : {s : State} {r : Record} {m : List ℕ} → Inv s r m → (hs : List Held) → Chosen (configOf r) (r .guest .choice) (r .guest .marks) (holding (s .book) hs)
+still-chosen {s = s} {r = r} h hs = chosen-same (configOf r) (r .guest .choice) (r .guest .marks) (s .book) (h .chosen) (holding (s .book) hs) refl refl refl
 
 -- ---- a call
 -- a refused call leaves record and memory, machine and book as they are

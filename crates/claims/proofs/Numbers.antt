@@ -77,8 +77,8 @@ run-covered [] s = tt
 run-covered (x ∷ xs) s = (step-covered x s, run-covered xs ((step x s) .1))
 
 -- and so of the unit
-pub never-3-nor-11 : (m : List ℕ) (h s : ℕ) (bits : Bool) (xs : List Call) → refusalOf (length m) h s bits ≡ 0
-    → let e = openCall m h s bits in All (λ o. Covered (o .0)) (unitRun xs (e .result .unit) (e .memory))
-never-3-nor-11 m h s bits xs g =
+pub never-3-nor-11 : (m : List ℕ) (h s : ℕ) (bits on : Bool) (xs : List Call) → refusalOf (length m) h s bits ≡ 0
+    → let e = openCall m h s bits on in All (λ o. Covered (o .0)) (unitRun xs (e .result .unit) (e .memory))
+never-3-nor-11 m h s bits on xs g =
     let c = configBy (length m) h s bits in
-    subst (All (λ o. Covered (o .0))) (sym (demand-3 m h s bits xs g)) (run-covered xs (opened c m))
+    subst (All (λ o. Covered (o .0))) (sym (demand-3 m h s bits on xs g)) (run-covered xs (opened c on m))

@@ -41,11 +41,11 @@ use Rattle.claims.proofs.Found.{memory-stands, root-small, depth-is}
 use Rattle.claims.proofs.Requests.{load-step, store-step, settles, same-bitted}
 use Rattle.claims.proofs.Moves.{at-inv}
 use Rattle.claims.proofs.Bits.{whole-owed, whole-walked}
-use Rattle.claims.proofs.Demands.{Set, follows, after-run}
+use Rattle.claims.proofs.Demands.{Beside, follows, after-run}
 use Rattle.words.specs.After.{After}
 use Rattle.calls.specs.declared.Reply.{Reply}
 
-module _ (s : State) (r : Record) (m : List ℕ) (inv : Inv s r m) (covered : Set s r) where
+module _ (s : State) (r : Record) (m : List ℕ) (inv : Inv s r m) (beside : Beside s r) where
   abbrev c : Config
   c = configOf r
 
@@ -95,19 +95,19 @@ module _ (s : State) (r : Record) (m : List ℕ) (inv : Inv s r m) (covered : Se
         (lineOf (o .0) (k .references) (k .exits), o .1 .area)
 
     step-is : (v : Option ℕ) → let o = step (requestAt a w v) (at c s) in (o .0, o .1 .machine .area) ≡ stepBy v (verdict c mach (isStore v) a)
-    step-is none = ap (λ o. (o .0, o .1 .machine .area)) (load-step s r m inv covered a w wide ok)
-    step-is (some v) = ap (λ o. (o .0, o .1 .machine .area)) (store-step s r m inv covered a w v wide ok)
+    step-is none = ap (λ o. (o .0, o .1 .machine .area)) (load-step s r m inv (beside .0) (beside .1) a w wide ok)
+    step-is (some v) = ap (λ o. (o .0, o .1 .machine .area)) (store-step s r m inv (beside .0) (beside .1) a w v wide ok)
 
     -- a load or store leaves the configuration
     config-is : (v : Option ℕ) → (step (requestAt a w v) (at c s)) .1 .config ≡ c
-    config-is none = ap (λ o. o .1 .config) (load-step s r m inv covered a w wide ok)
-    config-is (some v) = ap (λ o. o .1 .config) (store-step s r m inv covered a w v wide ok)
+    config-is none = ap (λ o. o .1 .config) (load-step s r m inv (beside .0) (beside .1) a w wide ok)
+    config-is (some v) = ap (λ o. o .1 .config) (store-step s r m inv (beside .0) (beside .1) a w v wide ok)
 
     -- and what the unit does
     does : (v : Option ℕ) (x : Result Fault Place) → verdict c mach (isStore v) a ≡ x
         → let e = callOf (requestAt a w v) r m in (line (e .result .answer), guestArea r (e .memory)) ≡ stepBy v x
     does v x q =
-        let f = follows (requestAt a w v) s r m inv covered in
+        let f = follows (requestAt a w v) s r m inv beside in
         let e = callOf (requestAt a w v) r m in
         ap₂ (λ l g. (l, g)) (f .says) (ap (λ k. drop (512 * guestBase k) (e .memory)) (sym (f .config ∙ config-is v)) ∙ f .next .area)
         ∙ step-is v ∙ ap (stepBy v) q
@@ -118,8 +118,8 @@ module _ (s : State) (r : Record) (m : List ℕ) (inv : Inv s r m) (covered : Se
         × (words.wordIn (withOwn r m st a) (p .0) (wordOf a) ≡ wordIn c (bitsSet c st mach (plain c mach st a)) (p .0) (wordOf a))
     unfolding headHeld headTables
     with-bits st p q =
-        let i = settles s r m inv covered st a p q (c .bits) (λ off. off-bits c st mach (plain c mach st a) off) (λ on. on) (s .book) (heldOf r) m (at-inv inv) in
-        (i .area, same-bitted s r m inv covered st a p q (s .book) (heldOf r) (withOwn r m st a) i)
+        let i = settles s r m inv (beside .0) (beside .1) st a p q (c .bits) (λ off. off-bits c st mach (plain c mach st a) off) (λ on. on) (s .book) (heldOf r) m (at-inv inv) in
+        (i .area, same-bitted s r m inv (beside .0) (beside .1) st a p q (s .book) (heldOf r) (withOwn r m st a) i)
 
     granted-by : (v : Option ℕ) (p : Place) → verdict c mach (isStore v) a ≡ granted p → Granted r m a w v (callOf (requestAt a w v) r m) (p .0)
     unfolding access storing
@@ -184,12 +184,12 @@ module _ (s : State) (r : Record) (m : List ℕ) (inv : Inv s r m) (covered : Se
 -- ---- Demand 2. After an opening and any calls, a load or store that is not refused is granted exactly where the plain walk over
 -- that memory is granted, and touches its bytes where this walk comes to; else it says the fault that the walk meets
 
-pub demand-2 : (m : List ℕ) (h s : ℕ) (bits : Bool) (xs : List Call) → refusalOf (length m) h s bits ≡ 0 → (a w : ℕ) (v : Option ℕ)
-    → let u = runOf m h s bits xs in
+pub demand-2 : (m : List ℕ) (h s : ℕ) (bits on : Bool) (xs : List Call) → refusalOf (length m) h s bits ≡ 0 → (a w : ℕ) (v : Option ℕ)
+    → let u = runOf m h s bits on xs in
     let r = u .result .unit in
     let n = u .memory in
     let e = callOf (requestAt a w v) r n in
     Unrefused (e .result .answer) → AsWalked r n a w v e (plainWalk r n (isStore v) a)
-demand-2 m h s bits xs g a w v =
-    let u = runOf m h s bits xs in
-    as-walked (after xs (opened (configBy (length m) h s bits) m)) (u .result .unit) (u .memory) (after-run m h s bits xs g .1) (after-run m h s bits xs g .2) a w v
+demand-2 m h s bits on xs g a w v =
+    let u = runOf m h s bits on xs in
+    as-walked (after xs (opened (configBy (length m) h s bits) on m)) (u .result .unit) (u .memory) (after-run m h s bits on xs g .1) (after-run m h s bits on xs g .2) a w v

@@ -49,7 +49,7 @@ use Rattle.record.specs.Record.{headTables}
 use Rattle.record.proofs.Rules.{holds-pool}
 use Rattle.calls.specs.Calls.{hostTop, headHeld, withHeld}
 use Rattle.claims.proofs.Invariant.{longer, topBy, frames, Inv, stands}
-use Rattle.claims.proofs.Moves.{fits-held, maps-beside, shadow-drop, invariant, at-inv, shadow-on, top-on, longer-keep, find-keep, inv-shadow, inv-top, frame-root}
+use Rattle.claims.proofs.Moves.{fits-held, maps-beside, shadow-drop, invariant, at-inv, shadow-on, top-on, longer-keep, find-keep, inv-shadow, inv-top, frame-root, still-chosen}
 use Rattle.claims.proofs.Found as found
 use Rattle.words.specs.After.{After}
 use Rattle.request.specs.declared.Put.{Put}
@@ -95,7 +95,7 @@ pub word-next : (s : State) (r : Record) (m : List ℕ) (inv : Inv s r m) (t i v
 word-next s r m inv t i v word there stays =
     invariant (record { config = c; machine = next; book = s .book }) r (setIn m t i v)
     (subst (Fits r) (sym (length-set m (t * 512 + i) v)) (found.rules s r m inv)) (inv .sorted) (inv .root) maps area (inv .book)
-    (all-map (Stays c mach next) _ (s .book .held) (λ h k. k .after) stays) (inv .marks)
+    (all-map (Stays c mach next) _ (s .book .held) (λ h k. k .after) stays) (inv .marks) (inv .chosen)
     (shadow-on (s .book .held) mach next ht ht m (setIn m t i v) before now small small (found.few s r m inv) stays (holds-store (inv-shadow inv) t i v word (inr (there .0))))
     (inv-top inv ∙ top-on c (s .book .held) mach next ht ht m (setIn m t i v) before now small small (found.few s r m inv) stays)
   where
@@ -192,7 +192,7 @@ module _ (s : State) (r : Record) (m : List ℕ) (inv : Inv s r m) (t i : ℕ) (
   dropped-next p n b h =
       invariant (record { config = c; machine = mach; book = holding (s .book) kept }) (withHeld r (record { pool = p; frame = r .guest .held })) n
       (subst (Fits (withHeld r (record { pool = p; frame = r .guest .held }))) (sym (b .len)) (fits-held (found.rules s r m inv) (record { pool = p; frame = r .guest .held }) (holds-pool h) (found.rules s r m inv .held)))
-      (inv .sorted) (inv .root) maps area (kept-fits c (s .book) (λ h. not (readsWord t i h)) (inv .book)) valid (inv .marks)
+      (inv .sorted) (inv .root) maps area (kept-fits c (s .book) (λ h. not (readsWord t i h)) (inv .book)) valid (inv .marks) (still-chosen inv kept)
       (shadow-on kept mach mach ht ht m n (found.memory-stands s r m inv) now (found.root-small s r m inv) (found.root-small s r m inv) (found.few s r m inv)
       (all-map (Valid c mach) (Stays c mach mach) kept (stays-same c mach) valid)
       (subst (λ x. Holds (shadowArea c) false p n (leafAt (entryOf c (framesAt c ht m x)) (longer kept)) (framesAt c ht m x)) (inv .root) h))

@@ -2,7 +2,7 @@
 -- Assumes nothing.
 use mathlib.Core.Path.{_≡_, sym, ap, _∙_, subst}
 use Prim.Native.Nat.{ℕ}
-use mathlib.Core.Bool.{false}
+use mathlib.Core.Bool.{Bool, false}
 use mathlib.Core.List.{List}
 use lib.Dec.{T}
 use lib.ListN.{length}
@@ -34,22 +34,22 @@ sound s r m e i =
 -- paths that it touches, with all that is held at its start, need at most S shadow tables (`allFit`). Then the exits that the unit says add up
 -- to the number of different paths touched that were not held at its start; depth N + 1 touches none (`quietExits`). With bits a path that a load
 -- filled may have to be filled again for a store, which is one exit more (document 02, 6)
-pub quiet-day : (m : List ℕ) (h s : ℕ) (xs ys : List Call) → refusalOf (length m) h s false ≡ 0
-    → let t = after xs (opened (configBy (length m) h s false) m) in
-    let e = runOf m h s false xs in
+pub quiet-day : (m : List ℕ) (h s : ℕ) (on : Bool) (xs ys : List Call) → refusalOf (length m) h s false ≡ 0
+    → let t = after xs (opened (configBy (length m) h s false) on m) in
+    let e = runOf m h s false on xs in
     T (quiet ys t) → allPaid exitsPaid (unitRun ys (e .result .unit) (e .memory)) ≡ quietExits ys t
-quiet-day m h s xs ys g q =
-    let t = after xs (opened (configBy (length m) h s false) m) in
-    let e = runOf m h s false xs in
-    let i = after-run m h s false xs g in
-    let off : t .config .bits ≡ false = ap (λ (c : Config). c .bits) (i .0 ∙ run-config m h s false xs g) in
+quiet-day m h s on xs ys g q =
+    let t = after xs (opened (configBy (length m) h s false) on m) in
+    let e = runOf m h s false on xs in
+    let i = after-run m h s false on xs g in
+    let off : t .config .bits ≡ false = ap (λ (c : Config). c .bits) (i .0 ∙ run-config m h s false on xs g) in
     ap (allPaid exitsPaid) (runs-follow ys t (e .result .unit) (e .memory) (i .0) (i .1) (i .2)) ∙ lines-paid exitsPaid (run ys t)
     ∙ quiet-costs ys t off (sound t (e .result .unit) (e .memory) (i .0) (i .1)) q
 
 -- a settled controller: where all that it touches is held, a quiet stretch costs no exit
-pub settled-day : (m : List ℕ) (h s : ℕ) (xs ys : List Call) → refusalOf (length m) h s false ≡ 0
-    → let t = after xs (opened (configBy (length m) h s false) m) in
-    let e = runOf m h s false xs in
+pub settled-day : (m : List ℕ) (h s : ℕ) (on : Bool) (xs ys : List Call) → refusalOf (length m) h s false ≡ 0
+    → let t = after xs (opened (configBy (length m) h s false) on m) in
+    let e = runOf m h s false on xs in
     T (quiet ys t) → Within (touched ys t) (paths (t .book .held)) → allPaid exitsPaid (unitRun ys (e .result .unit) (e .memory)) ≡ 0
-settled-day m h s xs ys g q w =
-    quiet-day m h s xs ys g q ∙ settled-costs ys (after xs (opened (configBy (length m) h s false) m)) w
+settled-day m h s on xs ys g q w =
+    quiet-day m h s on xs ys g q ∙ settled-costs ys (after xs (opened (configBy (length m) h s false) on m)) w

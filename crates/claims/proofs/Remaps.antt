@@ -46,7 +46,12 @@ use Rattle.host.specs.Map.{hostArea, changed, changedBy, mapOf, unmapOf, maps, 
 use Rattle.host.proofs.Mapping.{Maps, Step, answerBy, answerOf, walk-is, map-is, unmap-is, unmapped-lookup}
 use Rattle.walk.proofs.Stands.{Stands}
 use Rattle.record.specs.declared.Record.{Record}
-use Rattle.record.specs.Record.{configOf, headOf, headRoot, headTables, withHead}
+use Rattle.record.specs.Record.{configOf, headRoot, headTables, headTally, withHead}
+use Rattle.choice.specs.Window.{emptiedOf}
+use Rattle.choice.proofs.Chosen.{Chosen, withTally, chosen-emptied}
+use Rattle.claims.proofs.Chosen.{chosen-fits}
+use Rattle.spec_laws.proofs.Rules.{BookRules}
+use Rattle.spec.specs.Choice as choice
 use Rattle.record.proofs.Rules.{Fits, fits-root, holds-pool, holds-top}
 use Rattle.translate.specs.declared.Held.{Held as Holding}
 use Rattle.drops.specs.declared.Cut.the-variants.{Names}
@@ -56,10 +61,10 @@ use Rattle.drops_laws.proofs.Scan.{Dropped}
 use Rattle.drops_laws.proofs.Held.{leafAt, HeldEntry, HeldEntries}
 use Rattle.drops_laws.proofs.Drops.{namedIn, guestFrame, mapping-all, drop-mapping, empty-mapping}
 use Rattle.drops_laws.proofs.Valid.{framesAt, entryOf, valid-entries, Stays, stays-mapping}
-use Rattle.calls.specs.Calls.{hostTop, headHeld, headHost, nothing, ended, refused, withHeld, withHost, droppedBy, unmappedOf, mappedBy, rootCall, mapCall, unmapCall}
+use Rattle.calls.specs.Calls.{hostTop, headHeld, headHost, headRooted, nothing, ended, refused, withHeld, withHost, droppedBy, unmappedOf, mappedBy, rootCall, mapCall, unmapCall}
 use Rattle.claims.proofs.Invariant.{longer, topBy, Inv, Follows, stands}
 use Rattle.drops.specs.declared.Left.{Left}
-use Rattle.claims.proofs.Moves.{Moved, dropped-left, after, follows-no, follows-ok, after-fits, first-positive, invariant, inv-fits, inv-stands, inv-root, inv-shadow, inv-top, fits-held, fits-host, maps-beside, shadow-drop, host-drop, shadow-none, shadow-on, top-on, longer-keep, all-longer, find-keep}
+use Rattle.claims.proofs.Moves.{Moved, dropped-left, after, follows-no, follows-ok, after-fits, first-positive, invariant, inv-fits, inv-stands, inv-root, inv-shadow, inv-top, fits-held, fits-host, fits-chosen, maps-beside, shadow-drop, host-drop, shadow-none, shadow-on, top-on, longer-keep, all-longer, find-keep, still-chosen}
 use Rattle.words.specs.After.{After}
 use Rattle.calls.specs.declared.Reply.{Reply}
 use Rattle.host.specs.declared.Change.{Change}
@@ -68,28 +73,32 @@ no-place : {r : Place} → none ≡ some r → ⊥
 no-place e = let z : _≡_ {A = ℕ} 0 1 = cc in omega arith
 
 -- ---- root
-root-left : (s : State) (r : Record) (m : List ℕ) → Inv s r m → (g : ℕ) → frameFits (configOf r) g ≡ true
-    → Moved (after (configOf r) (root g) s) r (ended (withHead r (headRoot (headHeld (headOf r) nothing) g)) answer.Ok m)
-unfolding headHeld headTables headRoot machineStep bookStep refusal tests
-root-left s r m h g e =
+root-left : (s : State) (r : Record) (m : List ℕ) → Inv s r m → BookRules (configOf r) (s .book) → (g : ℕ) → frameFits (configOf r) g ≡ true
+    → Moved (after (configOf r) (root g) s) r (ended (withHead r (headRooted r g)) answer.Ok m)
+unfolding headHeld headTables headRoot headTally machineStep bookStep refusal tests
+root-left s r m h rules g e =
     let f = inv-fits h in
     let F = framesAt (configOf r) (hostTop r) m g in
     let none = shadow-none f m refl (entryOf (configOf r) F) F in
     record {
       config = refl;
       says = refl;
-      next = invariant (after (configOf r) (root g) s) (withHead r (headRoot (headHeld (headOf r) nothing) g)) m
-          (fits-root (fits-held f nothing (holds-pool none) (inl refl)) g (ltb-true g (2 ^ frameBits (configOf r)) e))
-          (h .sorted) refl (h .maps) (h .area) (after-fits (configOf r) (root g) s (rw e) (h .book)) tt (h .marks) none refl;
+      next = invariant (after (configOf r) (root g) s) (withHead r (headRooted r g)) m
+          (fits-chosen (fits-root (fits-held f nothing (holds-pool none) (inl refl)) g (ltb-true g (2 ^ frameBits (configOf r)) e)) (emptiedOf (r .guest .choice .tally))
+          (chosen-fits (configOf r) _ (r .guest .marks) _ emptied (λ z. (rules .off z .0, refl))))
+          (h .sorted) refl (h .maps) (h .area) (after-fits (configOf r) (root g) s (rw e) (h .book)) tt (h .marks) emptied none refl;
     }
+  where
+    emptied : Chosen (configOf r) (withTally (r .guest .choice) (emptiedOf (r .guest .choice .tally))) (r .guest .marks) (choice.emptied (holding (s .book) []))
+    emptied = chosen-emptied (configOf r) (r .guest .choice) (r .guest .marks) (holding (s .book) []) (still-chosen h [])
 
 -- a root is loaded: every path goes
-pub root-follows : (s : State) (r : Record) (m : List ℕ) → Inv s r m → (g : ℕ) → Follows (root g) s r (rootCall r m g)
+pub root-follows : (s : State) (r : Record) (m : List ℕ) → Inv s r m → BookRules (configOf r) (s .book) → (g : ℕ) → Follows (root g) s r (rootCall r m g)
 unfolding rootCall refusal tests machineStep
-root-follows s r m h g = rw (h .fits) (go (frameFits (configOf r) g) refl)
+root-follows s r m h rules g = rw (h .fits) (go (frameFits (configOf r) g) refl)
   where
-    go : (b : Bool) → frameFits (configOf r) g ≡ b → Follows (root g) s r (cond b (ended (withHead r (headRoot (headHeld (headOf r) nothing) g)) answer.Ok m) (refused r 8 m))
-    go true e = follows-ok (root g) s r _ (rw e) refl (root-left s r m h g e)
+    go : (b : Bool) → frameFits (configOf r) g ≡ b → Follows (root g) s r (cond b (ended (withHead r (headRooted r g)) answer.Ok m) (refused r 8 m))
+    go true e = follows-ok (root g) s r _ (rw e) refl (root-left s r m h rules g e)
     go false e = follows-no (root g) 8 h (rw e)
 
 -- ---- every mapping that a granted walk uses is there
@@ -164,7 +173,7 @@ module _ (s : State) (r : Record) (m : List ℕ) (h : Inv s r m) (g : ℕ) (ys :
       let long : length m ≡ length o = sym (k .len ∙ beside .len) in
       invariant changedState (withHeld (withHost r p) q) o
       (subst (Fits (withHeld (withHost r p) q)) long (fits-held (fits-host old p (holds-pool (after .holds)) (holds-top (after .holds))) q (holds-pool holds) fits))
-      (h .sorted) (h .root) after area book (all-map _ _ left (λ x v. v .after) staying) (h .marks)
+      (h .sorted) (h .root) after area book (all-map _ _ left (λ x v. v .after) staying) (h .marks) (still-chosen h left)
       (shadow-on left (s .machine) (changedState .machine) (hostTop r) (p .top) m o (inv-stands h) now (inv-root h) (inv-root h) few staying holds)
       (is ∙ top-on c left (s .machine) (changedState .machine) (hostTop r) (p .top) m o (inv-stands h) now (inv-root h) (inv-root h) few staying)
 

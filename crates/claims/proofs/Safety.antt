@@ -3,7 +3,7 @@
 -- Assumes nothing.
 use mathlib.Core.Path.{_≡_, refl, sym, ap, _∙_, subst}
 use mathlib.Core.Logic.{_≢_, _⊎_, inl, inr}
-use Prim.Native.Nat.{ℕ, zero, suc, _+_, _-_, _*_, _/_, _^_, _<_, _≤_}
+use Prim.Native.Nat.{ℕ, zero, suc, _+_, _-_, _*_, _<_, _≤_}
 use native.Mathlib.Omega.{arith}
 use native.Mathlib.Decide.{ℕ-discrete}
 use borrow.Author.Tests.{eqb-false}
@@ -11,7 +11,7 @@ use mathlib.Core.Bool.{Bool, true, false, not, cond}
 use mathlib.Core.List.{List, [], _∷_}
 use mathlib.Core.Option.{Option, none, some}
 use lib.Dec.{eqb, leb}
-use lib.ListN.{length, drop, set, getD, length-drop, length-set}
+use lib.ListN.{length, drop, getD, length-drop, length-set}
 use lib.Seq.{getD-drop, ext-getD}
 use Rattle.spec.specs.declared.Fault.{Fault}
 use Rattle.spec.specs.declared.Answer.{Answer}
@@ -40,6 +40,7 @@ use Rattle.prune.proofs.Outside.{remove-out}
 use Rattle.area.proofs.Outside.{indexes-narrow, insert-out}
 use Rattle.area_laws.specs.Host.{hostEntry}
 use Rattle.area_laws.proofs.Change.{some-inj, not-some}
+use Rattle.layout.specs.Layout.{config}
 use Rattle.layout.specs.declared.HostWalk.{HostWalk}
 use Rattle.layout.specs.declared.HostWalk.the-variants as host
 use Rattle.host.specs.Walk.{hostWalkOf}
@@ -47,36 +48,40 @@ use Rattle.host.specs.Map.{hostArea, changed, changeBy, changedBy, mapOf, unmap
 use Rattle.walk.specs.declared.Walked.{Walked}
 use Rattle.walk.specs.declared.Walked.the-variants as walked
 use Rattle.walk.specs.Memory.{walkedOf}
-use Rattle.marks.specs.declared.Marks.{Marks}
-use Rattle.marks.specs.Key.{keyAt}
-use Rattle.marks.specs.Table.{number, withKey, withoutKey, setTests, setRefusal, clearTests, clearRefusal}
+use Rattle.marks.specs.Table.{number}
+use Rattle.choice.specs.declared.Tally.{Tally}
+use Rattle.choice.specs.Refusal.{setTests, setRefusal, clearTests, clearRefusal}
 use Rattle.record.specs.declared.Record.{Record}
-use Rattle.record.specs.Record.{configOf, configBy, fitsOf, guestFrame, headOf, headRoot, headTables, withHead, withMarks}
+use Rattle.record.specs.Record.{configOf, configBy, fitsOf, guestFrame, headOf, headRoot, headTables, headTally, withHead}
 use Rattle.record.specs.Open.{refusalOf}
 use Rattle.record.proofs.Rules.{Fits, fits-layout}
 use Rattle.record.proofs.Opening.{granted-long, granted-guest}
 use Rattle.drops.specs.declared.Cut.the-variants.{Names}
-use Rattle.drops.specs.Drop.{scanOf, dropPrefixOf}
-use Rattle.drops.proofs.Outside.{scan-out, prefix-out}
+use Rattle.drops.specs.Drop.{scanOf}
+use Rattle.drops.proofs.Outside.{scan-out}
 use Rattle.entry.specs.declared.HostPhysical.{HostPhysical}
-use Rattle.record.specs.declared.Head.{Head}
 use Rattle.translate.specs.declared.Held.{Held as Holding}
 use Rattle.forecast.specs.Forecast.{addressOf, onward, listOf, forecastOf, start}
 use Rattle.forecast.specs.declared.Outlook.{Outlook}
 use Rattle.forecast.specs.declared.Next.{Next}
 use Rattle.forecast.specs.declared.Next.the-variants.{Go, Damaged as Broken}
-use Rattle.request.specs.Access.{settledOf, droppedOf, loadOf, storeOf, deviceBy, deviceOf}
+use Rattle.request.specs.Access as access
+use Rattle.request.specs.Access.{settledOf, droppedOf, bytesIn, loadBy, loadOf, finishBy, deviceBy, deviceOf}
 use Rattle.translate.proofs.Fits.{ArrivedIn}
 use Rattle.translate.proofs.Leaves.{Leaves, translate-leaves}
-use Rattle.request.proofs.Leaves.{drop-leaves}
+use Rattle.request.proofs.Leaves.{Drops, drop-leaves}
 use Rattle.request.proofs.Device.{device-in}
-use Rattle.calls.specs.Calls.{hostTop, heldOf, rootOf, headHeld, headHost, nothing, ended, refused, judged, placed, withHeld, withHost, servedBy, addressOk, depthAt, translatedOf, loadCall, storeCall, deviceCall, rootCall, droppedBy, unmappedOf, mappedBy, mapCall, unmapCall, heldAfter, markedOf, callOf, keysOf, setMarkCall, clearMarkCall, forecastCall, openCall}
+use Rattle.charge.specs.declared.Charge.{Charge}
+use Rattle.charge.specs.declared.Charge.the-variants as charge
+use Rattle.automatic.specs.Moves.{Move, chargedOf, setOf, clearedOf}
+use Rattle.calls.specs.Calls.{hostTop, heldOf, rootOf, headHeld, headHost, headWindow, headRooted, nothing, ended, refused, judged, placed, withHeld, withHost, windowedBy, servedBy, addressOk, depthAt, translatedOf, chargeAt, finishedBy, paidBy, storeChargedOf, plainStore, storeBy, storedBy, loadCall, storeCall, deviceCall, rootCall, droppedBy, unmappedOf, mappedBy, mapCall, unmapCall, keysOf, markRefusal, movedBy, callOf, setMarkCall, clearMarkCall, forecastCall, openCall}
 use Rattle.calls.proofs.Ranges.{fits-held}
 use Rattle.claims.specs.Safety.{GuestKept, BitsOnly, Numbered, RefusalKept, Untouched, Foretells, Keeps, OpenKeeps}
 use Rattle.claims.specs.Run.{guestArea}
 use Rattle.claims.proofs.Puts.{area-store}
 use Rattle.claims.proofs.OwnBits.{only-refl, settled-only}
-use Rattle.claims.proofs.Paths.{held-same, loadedBy, storedBy, writtenIn}
+use Rattle.claims.proofs.Paths.{held-same}
+use Rattle.claims.proofs.SafeMoves.{Stays, StaysBy, first-stays, charged-stays, set-stays, cleared-stays}
 use Rattle.claims.proofs.Opens.{granted-call, refused-call}
 use Rattle.words.specs.After.{After, yields}
 use Rattle.pool.specs.declared.Went.{Went}
@@ -120,13 +125,19 @@ host-layout : (r : Record) (p : Pool) → configOf (withHost r p) ≡ configOf r
 unfolding headHost headTables
 host-layout r p = refl
 
-root-layout : (r : Record) (h : Head) (g : ℕ) → configOf (withHead r (headRoot h g)) ≡ configOf (withHead r h)
-unfolding headRoot
-root-layout r h g = refl
+root-layout : (r : Record) (g : ℕ) → configOf (withHead r (headRooted r g)) ≡ configOf r
+unfolding headTally headRoot headHeld headTables
+root-layout r g = refl
 
-marks-layout : (r : Record) (t : Marks) → configOf (withMarks r t) ≡ configOf r
-unfolding withMarks
-marks-layout r t = refl
+-- that of a load or a store, in the window
+window-layout : (r : Record) (h : Holding) (t : Tally) → configOf (withHead r (headWindow (headOf r) h t)) ≡ configOf r
+unfolding headTally headHeld headTables
+window-layout r h t = refl
+
+-- what is held and the window as they were
+same-window : (r : Record) → withHead r (headWindow (headOf r) (heldOf r) (r .guest .choice .tally)) ≡ r
+unfolding headTally headHeld headTables
+same-window r = refl
 
 module _ (r : Record) (m : List ℕ) where
   none-changed : Tables r m m
@@ -137,6 +148,10 @@ module _ (r : Record) (m : List ℕ) where
 
   shadow-tables : (n : List ℕ) → SameOutside (r .layout .hosts) (r .layout .shadows) m n → Tables r m n
   shadow-tables n x = wider (r .layout .hosts) (r .layout .shadows) (guestBase (configOf r)) m n (omega arith) x
+
+  -- after a change of those of the shadow
+  more-tables : (n o : List ℕ) → Tables r m n → SameOutside (r .layout .hosts) (r .layout .shadows) n o → Tables r m o
+  more-tables n o x y = out-trans 0 (guestBase (configOf r)) m n o (wider (r .layout .hosts) (r .layout .shadows) (guestBase (configOf r)) n o (omega arith) y) x
 
   -- ---- refusals
   damage-kept : (n : List ℕ) → Tables r m n → Kept r m (refused r 11 n)
@@ -330,34 +345,41 @@ module _ (r : Record) (m : List ℕ) where
   dropped-kept q f n o k x y = go (o .result .ok)
     where
       all : Tables r m (o .memory)
-      all = out-trans 0 (guestBase (configOf r)) m n (o .memory) (shadow-tables r n (o .memory) y) x
+      all = more-tables r m n (o .memory) x y
 
       go : (b : Bool) → Kept r m (cond b (ended (withHeld q (record { pool = o .result .pool; frame = f })) answer.Ok (o .memory)) (refused r 11 (o .memory)))
       go true = guest-kept (held-layout q (record { pool = o .result .pool; frame = f }) ∙ k) all
       go false = damage-kept r m (o .memory) all
 
   -- ---- load, store, device store
-  damage-same : (n : List ℕ) → Tables r m n → Kept r m (refused (withHeld r (heldOf r)) 11 n)
-  damage-same n x = subst (λ q. Kept r m (refused q 11 n)) (sym (held-same r)) (damage-kept r m n x)
+
+  -- damage leaves what was held, and the window
+  damage-held : (n : List ℕ) → Tables r m n → Kept r m (refused (withHeld r (heldOf r)) 11 n)
+  damage-held n x = subst (λ q. Kept r m (refused q 11 n)) (sym (held-same r)) (damage-kept r m n x)
+
+  damage-window : (n : List ℕ) → Tables r m n → Kept r m (refused (withHead r (headWindow (headOf r) (heldOf r) (r .guest .choice .tally))) 11 n)
+  damage-window n x = subst (λ q. Kept r m (refused q 11 n)) (sym (same-window r)) (damage-kept r m n x)
 
   leaves : fitsOf r (length m) ≡ true → (st : Bool) (a : ℕ) → Leaves (configOf r) m (translatedOf r m st a)
   unfolding translatedOf
   leaves f st a = translate-leaves (configOf r) (hostTop r) m st (heldOf r) (fits-held r (length m) f) (rootOf r) a (depthAt r a)
 
-  -- the bits of a request, over a memory n whose tables alone differ from m's
-  settled-kept : (st : Bool) (a : ℕ) (sets : Bool) → (sets ≡ true → configOf r .bits ≡ true) → (n : List ℕ) → Tables r m n
-      → let q = settledOf (configOf r) (hostTop r) (rootOf r) st a sets n in (length q ≡ length m) × BitsOnly (configOf r .bits) (guestArea r m) (guestArea r q)
+  -- over a memory whose tables alone differ from m's, it sets a request's bits
+  abbrev SetsBits : (List ℕ → List ℕ) → Type 0
+  SetsBits set = (n : List ℕ) → Tables r m n → (length (set n) ≡ length m) × BitsOnly (configOf r .bits) (guestArea r m) (guestArea r (set n))
+
+  settled-kept : (st : Bool) (a : ℕ) (sets : Bool) → (sets ≡ true → configOf r .bits ≡ true) → SetsBits (settledOf (configOf r) (hostTop r) (rootOf r) st a sets)
   settled-kept st a sets on n x =
       let k = settled-only (configOf r) (hostTop r) (rootOf r) st a sets on n in
       (k .0 ∙ x .long, subst (λ l. BitsOnly (configOf r .bits) l (guestArea r (settledOf (configOf r) (hostTop r) (rootOf r) st a sets n))) (same-area r m n x) (k .1))
 
   loaded-kept : (a w : ℕ) (o : After Translated) → Tables r m (o .memory) → (o .result .sets ≡ true → configOf r .bits ≡ true) → (x : Walked)
-      → Kept r m (loadedBy r a w (settledOf (configOf r) (hostTop r) (rootOf r) false a (o .result .sets)) o x)
+      → Kept r m (windowedBy r (loadBy (heldOf r) a w (settledOf (configOf r) (hostTop r) (rootOf r) false a (o .result .sets)) o x))
   loaded-kept a w o x on (walked.Arrived t y n) =
       let k = settled-kept false a (o .result .sets) on (o .memory) x in
-      record { layout = held-layout r (o .result .held); long = k .0; area = k .1 }
-  loaded-kept a w o x on (walked.Faulted y n) = guest-kept (held-layout r (o .result .held)) x
-  loaded-kept a w o x on walked.Damaged = damage-same (o .memory) x
+      record { layout = window-layout r (o .result .held) _; long = k .0; area = k .1 }
+  loaded-kept a w o x on (walked.Faulted y n) = guest-kept (window-layout r (o .result .held) _) x
+  loaded-kept a w o x on walked.Damaged = damage-window (o .memory) x
 
   load-kept : (a w : ℕ) → Kept r m (loadCall r m a w)
   unfolding loadCall loadOf translatedOf
@@ -367,54 +389,110 @@ module _ (r : Record) (m : List ℕ) where
       (let l = leaves f false a in
       loaded-kept a w o (shadow-tables r m (o .memory) (l .same)) (l .sets) (o .result .walked)))
 
-  -- a store that came to host frame t; n is the memory after its translation, set what its bits do
-  written-kept : Fits r (length m) → (h : Holding) (k x : ℕ) (n : List ℕ) (t a w v : ℕ) (set : List ℕ → List ℕ)
-      → ((q : List ℕ) → Tables r m q → (length (set q) ≡ length m) × BitsOnly (configOf r .bits) (guestArea r m) (guestArea r (set q)))
-      → Tables r m n → h .pool .fresh ≤ r .layout .shadows → InGuestArea (configOf r) t
-      → (let u = droppedOf (configOf r) n (h .pool) t (wordOf a) in Kept r m (writtenIn r h k x t a w v set u (u .result .ok)))
-  written-kept f h k x n t a w v set bits y fresh g = go (s .result .ok)
-    where
-      c : Config
-      c = configOf r
+  -- a store that came to host frame t; set: what its bits do
+  module _ (f : Fits r (length m)) (t a w v : ℕ) (there : InGuestArea (configOf r) t) (set : List ℕ → List ℕ) (bits : SetsBits set) where
+    -- its bits, then its bytes; n: the memory before, whose tables alone differ from m's
+    word-kept : (q : Record) (k x : ℕ) (n : List ℕ) → configOf q ≡ configOf r → Tables r m n → Kept r m (ended q (answer.Done k x) (bytesIn (set n) t a w v))
+    word-kept q k x n e y =
+        let c = configOf r in
+        let u = withBytes a w v (wordIn (set n) t (wordOf a)) in
+        let long = length-drop (512 * guestBase c) m in
+        let i = word-fits a in
+        record {
+          layout = e;
+          long = length-set (set n) (at t (wordOf a)) u ∙ bits n y .0;
+          bitted = guestArea r (set n);
+          bits = bits n y .1;
+          place = place c t (wordOf a);
+          word = u;
+          inside = omega (arith, long, there .0, there .1, f .long, i);
+          area = area-store c (set n) t (wordOf a) u (there .0);
+        }
 
-      s : After Put
-      s = droppedOf c n (h .pool) t (wordOf a)
+    -- its own drops; n is the memory after its translation, h what is held then
+    module _ (n : List ℕ) (h : Holding) (y : Tables r m n) (fresh : h .pool .fresh ≤ r .layout .shadows) where
+      abbrev put : After Put
+      put = droppedOf (configOf r) n (h .pool) t (wordOf a)
 
-      all : Tables r m (s .memory)
-      all = out-trans 0 (guestBase c) m n (s .memory) (shadow-tables r n (s .memory) (drop-leaves c n (h .pool) t (wordOf a) fresh .same)) y
+      drops : Drops (configOf r) n put
+      drops = drop-leaves (configOf r) n (h .pool) t (wordOf a) fresh
 
-      e : ℕ
-      e = withBytes a w v (wordIn (set (s .memory)) t (wordOf a))
+      all : Tables r m (put .memory)
+      all = more-tables r m n (put .memory) y (drops .same)
 
-      inside : place c t (wordOf a) < length (guestArea r m)
-      inside =
-          let long = length-drop (512 * guestBase c) m in
-          let i = word-fits a in
-          omega (arith, long, g .0, g .1, f .long, i)
+      abbrev holds : Holding
+      holds = record { pool = put .result .pool; frame = h .frame }
 
-      go : (b : Bool) → Kept r m (writtenIn r h k x t a w v set s b)
-      go true = record {
-        layout = held-layout r (record { pool = s .result .pool; frame = h .frame });
-        long = length-set (set (s .memory)) (at t (wordOf a)) e ∙ bits (s .memory) all .0;
-        bitted = guestArea r (set (s .memory));
-        bits = bits (s .memory) all .1;
-        place = place c t (wordOf a);
-        word = e;
-        inside = inside;
-        area = area-store c (set (s .memory)) t (wordOf a) e (g .0);
-      }
-      go false = damage-same (s .memory) all
+      window-kept : (k x : ℕ) (b : Bool) → Kept r m (windowedBy r (cond b (finishBy h k x t a w v (put .result) (set (put .memory))) (access.refused (heldOf r) 11 (put .memory))))
+      window-kept k x true = word-kept _ k (x + put .result .exits) (put .memory) (window-layout r holds _) all
+      window-kept k x false = damage-window (put .memory) all
 
-  stored-kept : Fits r (length m) → (a w v : ℕ) (o : After Translated) → Leaves (configOf r) m o → (y : Walked) → ArrivedIn (configOf r) y
-      → Kept r m (storedBy r a w v (settledOf (configOf r) (hostTop r) (rootOf r) true a (o .result .sets)) o y)
-  stored-kept f a w v o l (walked.Arrived t y n) g =
-      written-kept f (o .result .held) n (o .result .exits) (o .memory) (t .0) a w v (settledOf (configOf r) (hostTop r) (rootOf r) true a (o .result .sets))
-      (λ q x. settled-kept true a (o .result .sets) (l .sets) q x) (shadow-tables r m (o .memory) (l .same)) (l .held .0) g
-  stored-kept f a w v o l (walked.Faulted y n) g = guest-kept (held-layout r (o .result .held)) (shadow-tables r m (o .memory) (l .same))
-  stored-kept f a w v o l walked.Damaged g = damage-same (o .memory) (shadow-tables r m (o .memory) (l .same))
+      served-kept : (k x : ℕ) (b : Bool) → Kept r m (servedBy r (cond b (finishBy h k x t a w v (put .result) (set (put .memory))) (access.refused (heldOf r) 11 (put .memory))))
+      served-kept k x true = word-kept _ k (x + put .result .exits) (put .memory) (held-layout r holds) all
+      served-kept k x false = damage-held (put .memory) all
+
+      -- it is charged to p
+      holds-stays : Stays r (put .memory) (withHeld r holds) (put .memory)
+      unfolding headHeld headTables
+      holds-stays = record { layout = refl; fresh = drops .fresh; same = out-refl (r .layout .hosts) (r .layout .shadows) (put .memory) }
+
+      paid-kept : (k x p : ℕ) → Kept r m (paidBy r a w v t k x set h p put)
+      paid-kept k x p = go (put .result .ok)
+        where
+          o : After Move
+          o = chargedOf (withHeld r holds) (put .memory) p
+
+          stays : StaysBy r (put .memory) o
+          stays = charged-stays r (put .memory) (withHeld r holds) (put .memory) p holds-stays
+
+          moves : Tables r m (o .memory)
+          moves = more-tables r m (put .memory) (o .memory) all (stays .same)
+
+          e : ℕ
+          e = x + put .result .exits
+
+          finished : (b : Bool) → Kept r m (cond b (ended (o .result .unit) (answer.Done k e) (bytesIn (set (o .memory)) t a w v)) (refused r 11 (o .memory)))
+          finished true = word-kept (o .result .unit) k e (o .memory) (ap config (stays .layout)) moves
+          finished false = damage-kept r m (o .memory) moves
+
+          go : (b : Bool) → Kept r m (cond b (finishedBy r a w v t k e set o) (refused r 11 (put .memory)))
+          go true = finished (o .result .ok)
+          go false = damage-kept r m (put .memory) all
+
+  module _ (f : Fits r (length m)) (a w v : ℕ) (o : After Translated) (l : Leaves (configOf r) m o) where
+    abbrev settles : List ℕ → List ℕ
+    settles = settledOf (configOf r) (hostTop r) (rootOf r) true a (o .result .sets)
+
+    settled : SetsBits settles
+    settled = settled-kept true a (o .result .sets) (l .sets)
+
+    came : Tables r m (o .memory)
+    came = shadow-tables r m (o .memory) (l .same)
+
+    -- charged to nobody
+    plain-kept : Kept r m (plainStore r a w v o)
+    plain-kept = go (o .result .walked) (l .arrived)
+      where
+        go : (y : Walked) → ArrivedIn (configOf r) y → Kept r m (windowedBy r (access.storeBy (configOf r) (heldOf r) a w v settles o y))
+        go (walked.Arrived t y n) g =
+            window-kept f (t .0) a w v g settles settled (o .memory) (o .result .held) came (l .held .0) n (o .result .exits)
+            (droppedOf (configOf r) (o .memory) (o .result .held .pool) (t .0) (wordOf a) .result .ok)
+        go (walked.Faulted x n) g = guest-kept (window-layout r (o .result .held) _) came
+        go walked.Damaged g = damage-window (o .memory) came
+
+    by-charge : (t : HostPhysical) (n : ℕ) → InGuestArea (configOf r) (t .0) → (x : Charge) → Kept r m (storeBy r a w v o t n x)
+    unfolding storeChargedOf
+    by-charge t n g charge.Nobody = plain-kept
+    by-charge t n g (charge.To p) = paid-kept f (t .0) a w v g settles settled (o .memory) (o .result .held) came (l .held .0) n (o .result .exits) p
+    by-charge t n g charge.Damaged = damage-kept r m (o .memory) came
+
+    stored-kept : (y : Walked) → ArrivedIn (configOf r) y → Kept r m (storedBy r a w v o y)
+    stored-kept (walked.Arrived t y n) g = by-charge t n g (chargeAt r (o .result .held) (o .memory) (t .0) (wordOf a))
+    stored-kept (walked.Faulted x n) g = plain-kept
+    stored-kept walked.Damaged g = plain-kept
 
   store-kept : (a w v : ℕ) → Kept r m (storeCall r m a w v)
-  unfolding storeCall storeOf translatedOf
+  unfolding storeCall
   store-kept a w v =
       let o = translatedOf r m true a in
       placed-kept r m w (addressOk false (configOf r) a w) _ (λ f.
@@ -426,18 +504,21 @@ module _ (r : Record) (m : List ℕ) where
       placed-kept r m w (addressOk true (configOf r) a w) _ (λ f.
       (go (fits-layout r (length m) f) (walkedOf (configOf r) (hostTop r) m 0 (next true true (pageOf a) true)) (device-in (configOf r) (hostTop r) m (pageOf a))))
     where
+      none-set : SetsBits (λ q. q)
+      none-set q x = (x .long, subst (BitsOnly (configOf r .bits) (guestArea r m)) (sym (same-area r m q x)) (only-refl (configOf r .bits) (guestArea r m)))
+
       go : Fits r (length m) → (y : Walked) → ArrivedIn (configOf r) y → Kept r m (servedBy r (deviceBy (configOf r) m (heldOf r) a w v y))
       go f (walked.Arrived t y n) g =
-          written-kept f (heldOf r) n 0 m (t .0) a w v (λ q. q) (λ q x. (x .long, subst (BitsOnly (configOf r .bits) (guestArea r m)) (sym (same-area r m q x)) (only-refl (configOf r .bits) (guestArea r m))))
-          (none-changed r m) (f .shadow .0) g
+          served-kept f (t .0) a w v g (λ q. q) none-set m (heldOf r) (none-changed r m) (f .shadow .0) n 0
+          (droppedOf (configOf r) m (r .pools .shadow) (t .0) (wordOf a) .result .ok)
       go f (walked.Faulted y n) g = guest-kept (held-layout r (heldOf r)) (none-changed r m)
-      go f walked.Damaged g = damage-same m (none-changed r m)
+      go f walked.Damaged g = damage-held m (none-changed r m)
 
   -- ---- root, map, unmap
   root-kept : (g : ℕ) → Kept r m (rootCall r m g)
   unfolding rootCall
   root-kept g =
-      judged-kept r m _ (λ f. tested-kept r m (frameFits (configOf r) g) _ 8 tt (guest-kept (root-layout r (headHeld (headOf r) nothing) g ∙ held-layout r nothing) (none-changed r m)))
+      judged-kept r m _ (λ f. tested-kept r m (frameFits (configOf r) g) _ 8 tt (guest-kept (root-layout r g) (none-changed r m)))
 
   unmapped-kept : (p : Pool) (n : List ℕ) (g : ℕ) → r .pools .shadow .fresh ≤ r .layout .shadows → Tables r m n → Kept r m (unmappedOf r p n g)
   unfolding unmappedOf
@@ -485,30 +566,37 @@ module _ (r : Record) (m : List ℕ) where
       (λ x. mapped-kept (t .result .pool) (t .memory) g (z .shadow .0) x (hostWalkOf (configOf r) (hostTop r) m g)))
 
   -- ---- marks
-  marked-kept : (x a n : ℕ) (t : Marks) → (x ≢ 0 → Numbered x) → Kept r m (judged r m (cond (eqb x 0) (markedOf r m a n t) (refused r x m)))
-  unfolding markedOf
-  marked-kept x a n t l = judged-kept r m _ (λ f. go (fits-layout r (length m) f .shadow .0) (eqb x 0) refl)
+  moved-kept : (o : After Move) → StaysBy r m o → Kept r m (movedBy r o)
+  moved-kept o s = go (o .result .ok)
     where
-      is : List ℕ
-      is = indexes ((r .layout .levels) - n) (pageOf a / 2 ^ (9 * n))
+      all : Tables r m (o .memory)
+      all = shadow-tables r m (o .memory) (s .same)
 
-      go : r .pools .shadow .fresh ≤ r .layout .shadows → (b : Bool) → eqb x 0 ≡ b
-          → Kept r m (cond b (droppedBy r (withMarks r t) (heldAfter (r .layout .levels) n (r .guest .held)) (dropPrefixOf (configOf r) (r .pools .shadow) m is)) (refused r x m))
-      go h true q =
-          dropped-kept (withMarks r t) (heldAfter (r .layout .levels) n (r .guest .held)) m (dropPrefixOf (configOf r) (r .pools .shadow) m is) (marks-layout r t) (none-changed r m) (prefix-out (configOf r) (r .pools .shadow) m is h)
-      go h false q = refusal-kept r m x (l (eqb-false x 0 q))
+      go : (b : Bool) → Kept r m (yields (cond b (record { unit = o .result .unit; answer = answer.Ok }) (record { unit = r; answer = answer.Refused 11 })) (o .memory))
+      go true = guest-kept (ap config (s .layout)) all
+      go false = damage-kept r m (o .memory) all
+
+  -- a mark is set or cleared, or refused with the number x
+  marked-kept : (x : ℕ) (o : After Move) → (x ≢ 0 → Numbered x) → (Stays r m r m → StaysBy r m o) → Kept r m (judged r m (cond (eqb x 0) (movedBy r o) (refused r x m)))
+  marked-kept x o l s = judged-kept r m _ (λ f. go (first-stays r m (fits-layout r (length m) f .shadow .0)) (eqb x 0) refl)
+    where
+      go : Stays r m r m → (b : Bool) → eqb x 0 ≡ b → Kept r m (cond b (movedBy r o) (refused r x m))
+      go k true q = moved-kept o (s k)
+      go k false q = refusal-kept r m x (l (eqb-false x 0 q))
 
   set-kept : (a n : ℕ) → Kept r m (setMarkCall r m a n)
   unfolding setMarkCall setRefusal
   set-kept a n =
       let l : (Numbered 4 × (Numbered 5 × (Numbered 6 × (Numbered 7 × Unit {0})))) = (tt, (tt, (tt, (tt, tt)))) in
-      marked-kept (number (setRefusal (r .layout .levels) (keysOf r) a n)) a n (withKey (r .guest .marks) (keyAt (r .layout .levels) n a)) (number-in Numbered (setTests (r .layout .levels) (keysOf r) a n) l)
+      let x = r .guest .choice in
+      marked-kept (markRefusal true r a n) (setOf r m a n) (number-in Numbered (setTests (r .layout .levels) (x .tally) (x .order) (r .guest .marks) a n) l) (set-stays r m r m a n)
 
   clear-kept : (a n : ℕ) → Kept r m (clearMarkCall r m a n)
   unfolding clearMarkCall clearRefusal
   clear-kept a n =
       let l : (Numbered 4 × (Numbered 5 × (Numbered 6 × Unit {0}))) = (tt, (tt, (tt, tt))) in
-      marked-kept (number (clearRefusal (r .layout .levels) (keysOf r) a n)) a n (withoutKey (r .guest .marks) (keyAt (r .layout .levels) n a)) (number-in Numbered (clearTests (r .layout .levels) (keysOf r) a n) l)
+      let x = r .guest .choice in
+      marked-kept (markRefusal false r a n) (clearedOf r m a n) (number-in Numbered (clearTests (r .layout .levels) (x .tally) (x .order) (r .guest .marks) a n) l) (cleared-stays r m r m a n)
 
 -- ---- forecast
 
@@ -585,12 +673,12 @@ open-numbers : (words h s : ℕ) (bits : Bool) → refusalOf words h s bits ≢ 
 unfolding refusalOf openRefusal
 open-numbers words h s bits = number-in (λ n. (n ≡ 1) ⊎ (n ≡ 2)) ((wordsFit words, 1) ∷ (areasFit (configBy words h s bits), 2) ∷ []) (inl refl, (inr refl, tt))
 
-pub demand-1-open : (m : List ℕ) (h s : ℕ) (bits : Bool) → OpenKeeps m h s (openCall m h s bits) (openCall m h s bits .result .answer)
-demand-1-open m h s bits = go (ℕ-discrete (refusalOf (length m) h s bits) 0)
+pub demand-1-open : (m : List ℕ) (h s : ℕ) (bits on : Bool) → OpenKeeps m h s (openCall m h s bits on) (openCall m h s bits on .result .answer)
+demand-1-open m h s bits on = go (ℕ-discrete (refusalOf (length m) h s bits) 0)
   where
-    go : Dec (refusalOf (length m) h s bits ≡ 0) → OpenKeeps m h s (openCall m h s bits) (openCall m h s bits .result .answer)
-    go (yes e) = rw (granted-call m h s bits e) (granted-long m h s bits e, granted-guest m h s bits e)
-    go (no n) = rw (refused-call m h s bits n) (open-numbers (length m) h s bits n, refl, refl)
+    go : Dec (refusalOf (length m) h s bits ≡ 0) → OpenKeeps m h s (openCall m h s bits on) (openCall m h s bits on .result .answer)
+    go (yes e) = rw (granted-call m h s bits on e) (granted-long m h s bits on e, granted-guest m h s bits on e)
+    go (no n) = rw (refused-call m h s bits on n) (open-numbers (length m) h s bits n, refl, refl)
 
 -- ---- its parts
 
@@ -606,10 +694,10 @@ same-length x r m = go (callOf x r m .result .answer) (demand-1 x r m)
     go (answer.Refused n) k = k .guest .long
     go (answer.Figures n y t) k = ap length (k .memory)
 
-pub same-length-open : (m : List ℕ) (h s : ℕ) (bits : Bool) → length (openCall m h s bits .memory) ≡ length m
-same-length-open m h s bits = go (openCall m h s bits .result .answer) (demand-1-open m h s bits)
+pub same-length-open : (m : List ℕ) (h s : ℕ) (bits on : Bool) → length (openCall m h s bits on .memory) ≡ length m
+same-length-open m h s bits on = go (openCall m h s bits on .result .answer) (demand-1-open m h s bits on)
   where
-    go : (a : Answer) → OpenKeeps m h s (openCall m h s bits) a → length (openCall m h s bits .memory) ≡ length m
+    go : (a : Answer) → OpenKeeps m h s (openCall m h s bits on) a → length (openCall m h s bits on .memory) ≡ length m
     go answer.Ok k = k .0
     go (answer.Value v n y) k = absurd k
     go (answer.Done n y) k = absurd k

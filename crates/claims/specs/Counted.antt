@@ -33,10 +33,10 @@ use Rattle.walk.specs.declared.Walked.the-variants as walked
 use Rattle.walk.specs.Memory.{placeOf, memoryWorld}
 use Rattle.accessed.specs.Entries.{bitsIn}
 use Rattle.record.specs.declared.Record.{Record}
-use Rattle.record.specs.Record.{configOf}
+use Rattle.record.specs.Record.{configOf, headOf, headTally, withHead}
 use Rattle.translate.specs.Translate.{pathIndexes, foundOf, direct, whole}
 use Rattle.request.specs.Access.{settledOf}
-use Rattle.calls.specs.Calls.{hostTop, heldOf, rootOf, depthAt, translatedOf, loadCall, storeCall}
+use Rattle.calls.specs.Calls.{hostTop, heldOf, rootOf, tallyAfter, depthAt, translatedOf, loadCall, storeCall}
 use Rattle.claims.specs.Run.{guestArea}
 use Rattle.words.specs.After.{After}
 use Rattle.calls.specs.declared.Reply.{Reply}
@@ -136,11 +136,15 @@ References x (answer.Faulted y n e) = n ≡ x
 References x (answer.Refused n) = Unit {0}
 References x (answer.Figures n e t) = n ≡ x
 
--- a load on memory m, and the same load on memory n: there it says the same value or fault with the same counts; the record stays as it is,
--- and so does the memory but for its own bits
+-- the record after a load that answers x: a request more in the window of the automatic choice, if that is on and the load is not refused
+abbrev pub inWindow : Answer → Record → Record
+inWindow x r = withHead r (headTally (headOf r) (tallyAfter x (r .guest .choice .tally)))
+
+-- a load on memory m, and the same load on memory n: there it says the same value or fault with the same counts; the record stays as it is
+-- but for its window, and the memory but for its own bits
 pub record SameLoad (r : Record) (m n : List ℕ) (a w : ℕ) : Type 0 where
   pub says : loadCall r n a w .result .answer ≡ loadCall r m a w .result .answer
-  pub unit : loadCall r n a w .result .unit ≡ r
+  pub unit : loadCall r n a w .result .unit ≡ inWindow (loadCall r n a w .result .answer) r
   pub memory : (loadCall r n a w .memory ≡ n) ⊎ (loadCall r n a w .memory ≡ ownOf r n false a)
   pub own : SameOwn r m n false a
 

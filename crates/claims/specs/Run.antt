@@ -10,6 +10,7 @@ use Rattle.spec.specs.Answer as say
 use Rattle.spec.specs.Answer.{Line, line}
 use Rattle.spec.specs.Call.{Call}
 use Rattle.spec.specs.Run.{State}
+use Rattle.spec.specs.Heard.{bare}
 use Rattle.record.specs.declared.Record.{Record}
 use Rattle.record.specs.Record.{configOf}
 use Rattle.calls.specs.Calls.{openCall, callOf}
@@ -37,14 +38,19 @@ unfoldable pub tablesRun : List Call → Record → List ℕ → ℕ
 tablesRun [] r m = r .pools .shadow .used
 tablesRun (x ∷ xs) r m = max (r .pools .shadow .used) (tablesRun xs (callOf x r m .result .unit) (callOf x r m .memory))
 
--- after an opening, with its choice of bits, and a list of calls
-abbrev pub runOf : List ℕ → ℕ → ℕ → Bool → List Call → After Reply
-runOf m h s bits xs = let e : After Reply = openCall m h s bits in unitAfter xs (e .result .unit) (e .memory) e
+-- after an opening, with its choice of bits and the automatic one, and a list of calls
+abbrev pub runOf : List ℕ → ℕ → ℕ → Bool → Bool → List Call → After Reply
+runOf m h s bits on xs = let e : After Reply = openCall m h s bits on in unitAfter xs (e .result .unit) (e .memory) e
 
 -- the specification's run as it is compared: each line with the machine's guest area after it
 abbrev pub machineRun : List (Line × State) → List (Line × List ℕ)
 machineRun [] = []
 machineRun (o ∷ os) = (o .0, o .1 .machine .area) ∷ machineRun os
+
+-- what is heard of such a run: each line but for references, exits and a forecast's figures
+abbrev pub heardUnit : List (Line × List ℕ) → List (Line × List ℕ)
+heardUnit [] = []
+heardUnit (o ∷ os) = (bare (o .0), o .1) ∷ heardUnit os
 
 -- ---- refusals of a run
 

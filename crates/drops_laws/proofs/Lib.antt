@@ -1,6 +1,7 @@
 pub mod Scan
 pub mod Held
 pub mod Watch
+pub mod Charge
 pub mod Find
 pub mod Drops
 pub mod Fill

@@ -1,13 +1,13 @@
 -- Mapping and unmapping over the host tables, for any memory. Document 01, "Map" and "Unmap".
 -- Assumes nothing.
 use Prim.Native.Nat.{ℕ}
-use mathlib.Core.Bool.{Bool, true, cond}
+use mathlib.Core.Bool.{Bool, true, false, cond}
 use mathlib.Core.List.{List, [], _∷_}
 use mathlib.Core.Option.{Option, none, some}
 use Rattle.spec.specs.Config.{Config}
 use Rattle.spec.specs.Entry.{indexes}
 use Rattle.spec.specs.Machine.{Machine, Mapping, with, without}
-use Rattle.spec.specs.Book.{Book}
+use Rattle.spec.specs.Book.{Book, emptyBook}
 use Rattle.spec.specs.Call.{Call, map, unmap}
 use Rattle.spec.specs.Refusal.{frameFits, inGuestArea, refusal}
 use Rattle.pool.specs.declared.Area.{Area}
@@ -87,7 +87,7 @@ abbrev pub mappingOnly : List Mapping → Machine
 mappingOnly xs = record { area = []; mappings = xs; root = 0 }
 
 abbrev pub noBook : Book
-noBook = record { marks = []; held = [] }
+noBook = emptyBook false
 
 abbrev pub numberBy : Option ℕ → ℕ
 numberBy none = 0

@@ -43,7 +43,7 @@ more-both false x y p q = q
 
 open-more : (h s : ℕ) (o : Bool) (r : Record) (m : List ℕ) → runOf o r m (job.Open h s) .result .more ≡ true
 unfolding runOf
-open-more h s o r m = more-both (isOk (openCall m h s false .result .answer)) _ _ refl refl
+open-more h s o r m = more-both (isOk (openCall m h s false false .result .answer)) _ _ refl refl
 
 call-more : (x : Call) (o : Bool) (r : Record) (m : List ℕ) → runOf o r m (job.Call x) .result .more ≡ true
 unfolding runOf

@@ -10,9 +10,10 @@ use native.Mathlib.Decide.{ℕ-discrete}
 use Rattle.spec.specs.Answer.{line}
 use Rattle.spec.specs.Config.{guestBase}
 use Rattle.spec.specs.Run.{State, step}
+use Rattle.spec_laws.proofs.Rules.{opened-rules}
 use Rattle.record.specs.declared.Record.{Record}
 use Rattle.record.specs.Record.{configOf}
-use Rattle.record.specs.Open.{refusalOf}
+use Rattle.record.specs.Open.{refusalOf, grantedOf}
 use Rattle.record.proofs.Opening.{refused-opening, granted-opening}
 use Rattle.job_records.specs.declared.Call.{Call}
 use Rattle.job_records.specs.declared.Job.{Job}
@@ -21,13 +22,13 @@ use Rattle.job_records.specs.Records.{asked}
 use Rattle.job_run.specs.Run.{runOf}
 use Rattle.claims.proofs.Invariant.{Inv, at}
 use Rattle.claims.proofs.Opens.{opened-inv, granted-call, refused-call}
-use Rattle.claims.proofs.Demands.{Set, follows, next, at-self, opened-config}
+use Rattle.claims.proofs.Demands.{Beside, follows, next, at-self, opened-config}
 use Rattle.job_claims.specs.Job.{said, meets}
 
 -- record and memory of a job that started on m₀ stand for machine and book, once an open was granted; before, nothing has changed
 abbrev pub Stands : List ℕ → Option State → Bool → Record → List ℕ → Type 0
 Stands m₀ none o r m = (o ≡ false) × (m ≡ m₀)
-Stands m₀ (some k) o r m = (o ≡ true) × (k .config ≡ configOf r) × Inv k r m × Set k r
+Stands m₀ (some k) o r m = (o ≡ true) × (k .config ≡ configOf r) × Inv k r m × Beside k r
 
 -- the memory that a record meets: of the unit's, only what is in the table frames counts
 pub met : (m₀ : List ℕ) (k : Option State) (o : Bool) (r : Record) (m : List ℕ) → Stands m₀ k o r m → meets m₀ (take (512 * guestBase (configOf r)) m) k ≡ m
@@ -48,12 +49,12 @@ module _ (m₀ : List ℕ) where
     where
       go : Dec (refusalOf (length m) h s false ≡ 0) → Alike m₀ (job.Open h s) k o r m
       go (yes e) = record {
-        says = rw (granted-call m h s false e, granted-opening m h s false e);
-        stands = rw (granted-call m h s false e, granted-opening m h s false e) (refl, sym (opened-config m h s false), opened-inv m h s false e, tt);
+        says = rw (granted-call m h s false false e, granted-opening m h s false false e);
+        stands = rw (granted-call m h s false false e, granted-opening m h s false false e) (refl, sym (opened-config m h s false false), opened-inv m h s false false e, (tt, opened-rules (configOf (grantedOf m h s false false .result)) false m));
       }
       go (no n) = record {
-        says = rw (refused-call m h s false n, refused-opening m h s false n);
-        stands = rw (refused-call m h s false n, refused-opening m h s false n) i;
+        says = rw (refused-call m h s false false n, refused-opening m h s false false n);
+        stands = rw (refused-call m h s false false n, refused-opening m h s false false n) i;
       }
 
   calls-alike : (x : Call) (k : Option State) (o : Bool) (r : Record) (m : List ℕ) → Stands m₀ k o r m → Alike m₀ (job.Call x) k o r m

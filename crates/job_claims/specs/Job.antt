@@ -49,7 +49,7 @@ recordsOf s = recordsFrom (length s) s
 
 -- ---- machine and book
 
--- what an opening with H and S fixes on a memory of so many words; a job's has no accessed and dirty bits (document 02, 6)
+-- what an opening with H and S fixes on a memory of so many words; a job's has no accessed and dirty bits and no automatic choice (document 02, 6 and 7)
 abbrev pub sizes : ℕ → ℕ → ℕ → Config
 sizes words h s = record { levels = 4; markRoom = 64; hosts = h; shadows = s; frames = words / 512; bits = false }
 
@@ -68,7 +68,7 @@ called (some s) x =
 -- what is said to one record; m is the memory that an opening meets
 abbrev pub said : Job → List ℕ → Option State → Line × Option State
 said (job.Open h s) m o =
-    let u : Line × Option State = opening (sizes (length m) h s) m in
+    let u : Line × Option State = opening (sizes (length m) h s) false m in
     (u .0, openedBy (u .1) o)
 said (job.Call x) m o = called o (asked x)
 said job.Bad m o = (say.no 13, o)

@@ -36,8 +36,8 @@ abbrev pub calledBy : After Reply → After Ran
 calledBy e = ran true (e .result .unit) (e .result .answer) true (e .memory)
 
 -- a bad record is 13 and ends the job; a call before any granted opening is 3, and the job goes on. A job opens without accessed and dirty
--- bits
+-- bits, and without the automatic choice
 unfoldable pub runOf : Bool → Record → List ℕ → Job → After Ran
-runOf o r m (job.Open h s) = openedBy o r (openCall m h s false)
+runOf o r m (job.Open h s) = openedBy o r (openCall m h s false false)
 runOf o r m (job.Call x) = cond o (calledBy (callOf (asked x) r m)) (ran false r (answer.Refused 3) true m)
 runOf o r m job.Bad = ran o r (answer.Refused 13) false m

@@ -68,11 +68,11 @@ fn granted(answer: Answer) -> bool
     }
 }
 
-// Opens the memory, without accessed and dirty bits; a refused open keeps the earlier record in use.
+// Opens the memory, without accessed and dirty bits or the automatic choice; a refused open keeps the earlier record in use.
 fn run_open(opened: bool, unit: Record, mem: &mut [u64], hosts: u64, shadows: u64) -> Ran
-    ensures { λ r. ⌜ yields r (now (mem .exit)) ≡ openedBy opened unit (openCall (now (mem .entry)) hosts shadows false) ⌝ }
+    ensures { λ r. ⌜ yields r (now (mem .exit)) ≡ openedBy opened unit (openCall (now (mem .entry)) hosts shadows false false) ⌝ }
 {
-    let reply = unit::open(mem, hosts, shadows, false);
+    let reply = unit::open(mem, hosts, shadows, false, false);
     let answer = reply.answer;
     if granted(answer) {
         let first = reply.unit;

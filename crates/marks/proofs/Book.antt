@@ -1,4 +1,4 @@
--- A table of marks beside the book's: the same depth, the same rule, the same refusals, and the same marks after a set or a clear.
+-- A table of marks beside the book's: the same depth, the same rule, and the same marks after a set or a clear.
 -- Assumes nothing.
 use mathlib.Core.Path.{_≡_, refl, sym, ap, _∙_}
 use mathlib.Core.Bool.{Bool, true, false, not, cond}
@@ -6,7 +6,7 @@ use mathlib.Core.List.{List, [], _∷_, map, List·Permᴰ·cons, List·Permᴰ�
 use mathlib.Core.Option.{some}
 use Prim.Native.Nat.{ℕ, _-_, _^_, _<_, _≤_}
 use native.Mathlib.Omega.{arith}
-use borrow.Author.Tests.{ltb-true, le-leb, not-true}
+use borrow.Author.Tests.{ltb-true, le-leb}
 use lib.Dec.{eqb, ltb}
 use lib.Count.{ones, ones-le}
 use lib.Pow.{pow-mono, pow-pos}
@@ -16,22 +16,21 @@ use Rattle.spec.specs.Prefix.{any, keep}
 use Rattle.spec.specs.declared.Lookup.{Lookup}
 use Rattle.spec.specs.Search.{search}
 use Rattle.spec.specs.Book.{Mark, Book, markAt, sameMark, isSet, depth}
-use Rattle.spec.specs.Machine.{Machine}
-use Rattle.spec.specs.Call.{setMark, clearMark, addressIndexes}
-use Rattle.spec.specs.Refusal.{firstFailed, addressFits, levelFits, markFits, marksFit, allOf, noTwoAlike, tests, refusal}
+use Rattle.spec.specs.Call.{addressIndexes}
+use Rattle.spec.specs.Refusal.{levelFits, markFits, marksFit, allOf, noTwoAlike, firstFailed}
 use Rattle.entry.specs.Levels.{ofLevels}
-use Rattle.spec.specs.Prefix.{All}
 use Rattle.spec_laws.proofs.Search.{search-depth}
+use Rattle.spec.specs.Prefix.{All}
 use Rattle.marks.specs.declared.Marks.{Marks}
 use Rattle.marks.specs.Key.{lowPage, keyAt, keyFits, keysFit, ascending}
-use Rattle.marks.specs.Table.{room, keys, lookupIn, placeOf, inserted, tableOf, withKey, withoutKey, setTests, setRefusal, clearTests, clearRefusal, number}
+use Rattle.marks.specs.Table.{room, keys, lookupIn, placeOf, inserted, tableOf, withKey, withoutKey, number}
 use Rattle.marks.specs.Reading.{markOf, marksOf}
 use Rattle.marks.proofs.Pages.{low-small, low-indexes}
 use Rattle.marks.proofs.Turn.{keys-end, keys-count}
 use Rattle.marks.proofs.Insert.{inserted-length}
 use Rattle.marks.proofs.Ascending.{and-right, level-below, ascending-fits}
 use Rattle.marks.proofs.Reading.{search-keys, fits-marks, fits-keys, set-keys, mark-key, key-positive, key-fits}
-use Rattle.marks.proofs.Order.{SameMembers, members-any, members-length, members-depth, members-map, members-alike, members-without}
+use Rattle.marks.proofs.Order.{SameMembers, members-any, members-depth, members-map, members-alike, members-without}
 use Rattle.marks.proofs.Tables.{keys-with, keys-without, inserted-members, around-members, ascending-with, ascending-without}
 
 -- the keys of a table
@@ -86,30 +85,6 @@ all-held (x ∷ xs) p e = go (x .0) e (all-held xs (p .1))
     go true f h = (refl, h f)
     go false f h = absurd (omega (arith, p .0))
 
-module _ (n : ℕ) (t : Marks) (a level : ℕ) where
-  -- a mark that may be set: the code has 0
-  pub record MaySet : Type 0 where
-    pub fits : levelFits (ofLevels n) level ≡ true
-    pub new : any (eqb (keyAt n level a)) (keysOf t) ≡ false
-    pub free : length (keysOf t) < room
-
-  pub may-set : number (setRefusal n (keysOf t) a level) ≡ 0 → MaySet
-  unfolding setRefusal
-  may-set e =
-      let h = all-held (setTests n (keysOf t) a level) (omega arith, (omega arith, (omega arith, (omega arith, tt)))) e in
-      record { fits = h .1 .0; new = not-true _ (h .1 .1 .0); free = ltb-true _ room (h .1 .1 .1 .0) }
-
-  -- a mark that may be cleared
-  pub record MayClear : Type 0 where
-    pub fits : levelFits (ofLevels n) level ≡ true
-    pub held : any (eqb (keyAt n level a)) (keysOf t) ≡ true
-
-  pub may-clear : number (clearRefusal n (keysOf t) a level) ≡ 0 → MayClear
-  unfolding clearRefusal
-  may-clear e =
-      let h = all-held (clearTests n (keysOf t) a level) (omega arith, (omega arith, (omega arith, tt))) e in
-      record { fits = h .1 .0; held = h .1 .1 .0 }
-
 -- ---- a table as every call leaves it
 
 -- its set places are those of a word, and their keys ascend
@@ -125,24 +100,24 @@ unfolding ascending
 none-sorted n t e = record { word = omega arith; ascend = ap (ascending n 0) (keys-end (t .place) (t .set) e) }
 
 -- after each set and clear
-module _ (n : ℕ) (t : Marks) (a level : ℕ) (s : Sorted n t) where
-  set-word : withKey t (keyAt n level a) .set < 2 ^ 64
+module _ (n : ℕ) (t : Marks) (k : ℕ) (s : Sorted n t) where
+  set-word : withKey t k .set < 2 ^ 64
   unfolding withKey tableOf
   set-word = go (ltb (ones (t .set)) room) refl
     where
       more : List ℕ
-      more = inserted (keyAt n level a) (keysOf t)
+      more = inserted k (keysOf t)
 
       go : (b : Bool) → ltb (ones (t .set)) room ≡ b → (cond b (tableOf more) t) .set < 2 ^ 64
       go true e =
-          let few : length more ≤ 64 = omega (arith, inserted-length (keyAt n level a) (keysOf t), keys-count (t .place) (t .set) (s .word), ltb-true (ones (t .set)) room e) in
+          let few : length more ≤ 64 = omega (arith, inserted-length k (keysOf t), keys-count (t .place) (t .set) (s .word), ltb-true (ones (t .set)) room e) in
           let top : 2 ^ length more ≤ 2 ^ 64 = pow-mono few in
           omega (arith, pow-pos (length more))
       go false e = s .word
 
-  clear-word : withoutKey t (keyAt n level a) .set < 2 ^ 64
+  clear-word : withoutKey t k .set < 2 ^ 64
   unfolding withoutKey
-  clear-word = go (placeOf (t .place) (t .set) (keyAt n level a))
+  clear-word = go (placeOf (t .place) (t .set) k)
     where
       go : (i : ℕ) → (cond (ltb i room) (record { set = t .set - 2 ^ i; place = t .place }) t) .set < 2 ^ 64
       go i = by (ltb i room)
@@ -151,21 +126,14 @@ module _ (n : ℕ) (t : Marks) (a level : ℕ) (s : Sorted n t) where
           by true = omega (arith, s .word)
           by false = s .word
 
-  pub set-sorted : n < 7 → number (setRefusal n (keysOf t) a level) ≡ 0 → Sorted n (withKey t (keyAt n level a))
-  set-sorted small e =
-      let k = keyAt n level a in
-      let m = may-set n t a level e in
-      let fits = key-fits (ofLevels n) level (lowPage n a) (low-small n a) (below-8 n level small (m .fits)) (m .fits) in
-      record {
-        word = set-word;
-        ascend = rw (keys-with t k (s .word) (m .free)) (ascending-with n 0 k (keysOf t) (s .ascend) (key-positive n k fits) fits (m .new));
-      }
-
-  pub clear-sorted : number (clearRefusal n (keysOf t) a level) ≡ 0 → Sorted n (withoutKey t (keyAt n level a))
-  clear-sorted e = record {
-    word = clear-word;
-    ascend = ascending-without n (keyAt n level a) _ _ (keys-without t (keyAt n level a) (may-clear n t a level e .held)) (s .ascend);
+  pub set-sorted : keyFits n k ≡ true → any (eqb k) (keysOf t) ≡ false → length (keysOf t) < room → Sorted n (withKey t k)
+  set-sorted fits new free = record {
+    word = set-word;
+    ascend = rw (keys-with t k (s .word) free) (ascending-with n 0 k (keysOf t) (s .ascend) (key-positive n k fits) fits new);
   }
+
+  pub clear-sorted : any (eqb k) (keysOf t) ≡ true → Sorted n (withoutKey t k)
+  clear-sorted held = record { word = clear-word; ascend = ascending-without n k _ _ (keys-without t k held) (s .ascend) }
 
 -- ---- such a table that holds the book's marks
 module _ (c : Config) (t : Marks) (b : Book) (small : c .levels < 7) (sorted : Sorted (c .levels) t) (agree : SameMembers (marksOf (c .levels) t) (b .marks)) where
@@ -177,10 +145,10 @@ module _ (c : Config) (t : Marks) (b : Book) (small : c .levels < 7) (sorted : S
 
   -- of any address, and a level that fits
   module _ (a n : ℕ) (level : levelFits c n ≡ true) where
-    fits : keyFits (c .levels) (keyAt (c .levels) n a) ≡ true
+    pub fits : keyFits (c .levels) (keyAt (c .levels) n a) ≡ true
     fits = key-fits c n (lowPage (c .levels) a) (low-small (c .levels) a) (below-8 (c .levels) n small level) level
 
-    its-mark : markOf (c .levels) (keyAt (c .levels) n a) ≡ markAt c n (addressIndexes c a)
+    pub its-mark : markOf (c .levels) (keyAt (c .levels) n a) ≡ markAt c n (addressIndexes c a)
     its-mark = mark-key c n (lowPage (c .levels) a) (low-small (c .levels) a) (below-8 (c .levels) n small level) ∙ ap (markAt c n) (low-indexes c a)
 
     pub set-book : any (eqb (keyAt (c .levels) n a)) (keysOf t) ≡ isSet (markAt c n (addressIndexes c a)) (b .marks)
@@ -190,14 +158,14 @@ module _ (c : Config) (t : Marks) (b : Book) (small : c .levels < 7) (sorted : S
         ∙ ap (λ (m : Mark). isSet m (map (markOf (c .levels)) (keysOf t))) its-mark
         ∙ members-any (sameMark (markAt c n (addressIndexes c a))) agree
 
-    book-with : length (keysOf t) < room → SameMembers (marksOf (c .levels) (withKey t (keyAt (c .levels) n a))) (markAt c n (addressIndexes c a) ∷ b .marks)
+    pub book-with : length (keysOf t) < room → SameMembers (marksOf (c .levels) (withKey t (keyAt (c .levels) n a))) (markAt c n (addressIndexes c a) ∷ b .marks)
     unfolding marksOf
     book-with free =
         let k = keyAt (c .levels) n a in
         let more = members-map (markOf (c .levels)) (inserted-members k (keysOf t)) in
         rw (keys-with t k (sorted .word) free) (List·Permᴰ·trans more (List·Permᴰ·cons its-mark agree))
 
-    book-without : any (eqb (keyAt (c .levels) n a)) (keysOf t) ≡ true
+    pub book-without : any (eqb (keyAt (c .levels) n a)) (keysOf t) ≡ true
         → SameMembers (marksOf (c .levels) (withoutKey t (keyAt (c .levels) n a))) (keep (λ y. not (sameMark (markAt c n (addressIndexes c a)) y)) (b .marks))
     unfolding marksOf
     book-without held =
@@ -207,36 +175,3 @@ module _ (c : Config) (t : Marks) (b : Book) (small : c .levels < 7) (sorted : S
         let less = members-map (markOf (c .levels)) (around-members k _ _ (keys-without t k held)) in
         let old = List·Permᴰ·trans (Permᴰ·symm agree) less in
         members-without (markAt c n (addressIndexes c a)) (b .marks) (marksOf (c .levels) (withoutKey t k)) (rw its-mark at old) alone
-
-  -- refusals that turn on whether the mark is set, once address and level fit
-  agree-after : (a n : ℕ) (later : Bool → List (Bool × ℕ))
-      → firstFailed ((addressFits c a, 4) ∷ (levelFits c n, 5) ∷ later (any (eqb (keyAt (c .levels) n a)) (keysOf t)))
-      ≡ firstFailed ((addressFits c a, 4) ∷ (levelFits c n, 5) ∷ later (isSet (markAt c n (addressIndexes c a)) (b .marks)))
-  agree-after a n later = go (addressFits c a) refl (levelFits c n) refl
-    where
-      go : (f : Bool) → addressFits c a ≡ f → (g : Bool) → levelFits c n ≡ g
-          → firstFailed ((f, 4) ∷ (g, 5) ∷ later (any (eqb (keyAt (c .levels) n a)) (keysOf t)))
-          ≡ firstFailed ((f, 4) ∷ (g, 5) ∷ later (isSet (markAt c n (addressIndexes c a)) (b .marks)))
-      go false e g k = refl
-      go true e false k = refl
-      go true e true k = ap (λ (s : Bool). firstFailed (later s)) (set-book a n k)
-
-  pub set-refused : (m : Machine) (a n : ℕ) → c .markRoom ≡ room → setRefusal (c .levels) (keysOf t) a n ≡ refusal c (setMark a n) m b
-  unfolding setRefusal refusal tests
-  set-refused m a n r =
-      let long : length (keysOf t) ≡ length (b .marks) = keys-count (t .place) (t .set) (sorted .word) ∙ sym (marks-count (c .levels) t (sorted .word)) ∙ members-length agree in
-      rw (r, long) (agree-after a n (λ s. (not s, 6) ∷ (ltb (length (b .marks)) room, 7) ∷ []))
-
-  pub clear-refused : (m : Machine) (a n : ℕ) → clearRefusal (c .levels) (keysOf t) a n ≡ refusal c (clearMark a n) m b
-  unfolding clearRefusal refusal tests
-  clear-refused m a n = agree-after a n (λ s. (s, 6) ∷ [])
-
-  -- the table after a mark is set
-  pub set-granted : (a n : ℕ) → number (setRefusal (c .levels) (keysOf t) a n) ≡ 0
-      → SameMembers (marksOf (c .levels) (withKey t (keyAt (c .levels) n a))) (markAt c n (addressIndexes c a) ∷ b .marks)
-  set-granted a n e = let m = may-set (c .levels) t a n e in book-with a n (m .fits) (m .free)
-
-  -- and after one is cleared
-  pub clear-granted : (a n : ℕ) → number (clearRefusal (c .levels) (keysOf t) a n) ≡ 0
-      → SameMembers (marksOf (c .levels) (withoutKey t (keyAt (c .levels) n a))) (keep (λ y. not (sameMark (markAt c n (addressIndexes c a)) y)) (b .marks))
-  clear-granted a n e = let m = may-clear (c .levels) t a n e in book-without a n (m .fits) (m .held)

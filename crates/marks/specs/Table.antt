@@ -8,12 +8,9 @@ use lib.Dec.{eqb, ltb}
 use lib.Count.{ones}
 use lib.ListN.{length, getD, replicate}
 use Rattle.spec.specs.declared.Lookup.{Lookup}
-use Rattle.spec.specs.Prefix.{any}
-use Rattle.spec.specs.Refusal.{firstFailed, addressFits, levelFits}
 use Rattle.bits.specs.Bit.{places}
-use Rattle.entry.specs.Levels.{ofLevels}
 use Rattle.marks.specs.declared.Marks.{Marks}
-use Rattle.marks.specs.Key.{lowPage, keyAt, searchOf}
+use Rattle.marks.specs.Key.{lowPage, searchOf}
 
 -- how many marks can be set
 abbrev pub room : ℕ
@@ -57,25 +54,6 @@ cleared t i = cond (ltb i room) (record { set = t .set - 2 ^ i; place = t .place
 
 unfoldable pub withoutKey : Marks → ℕ → Marks
 withoutKey t k = cleared t (placeOf (t .place) (t .set) k)
-
--- a mark is set: 4 if the address is not legal, 5 if there is no such level, 6 if it is set already, 7 if no place is free;
--- of n levels, the keys of a table, an address and a level
-abbrev pub setTests : ℕ → List ℕ → ℕ → ℕ → List (Bool × ℕ)
-setTests n ks a level =
-    let held : Bool = any (eqb (keyAt n level a)) ks in
-    (addressFits (ofLevels n) a, 4) ∷ (levelFits (ofLevels n) level, 5) ∷ (not held, 6) ∷ (ltb (length ks) room, 7) ∷ []
-
-unfoldable pub setRefusal : ℕ → List ℕ → ℕ → ℕ → Option ℕ
-setRefusal n ks a level = firstFailed (setTests n ks a level)
-
--- a mark is cleared: 4 and 5 as above, 6 if it is not set
-abbrev pub clearTests : ℕ → List ℕ → ℕ → ℕ → List (Bool × ℕ)
-clearTests n ks a level =
-    let held : Bool = any (eqb (keyAt n level a)) ks in
-    (addressFits (ofLevels n) a, 4) ∷ (levelFits (ofLevels n) level, 5) ∷ (held, 6) ∷ []
-
-unfoldable pub clearRefusal : ℕ → List ℕ → ℕ → ℕ → Option ℕ
-clearRefusal n ks a level = firstFailed (clearTests n ks a level)
 
 -- a refusal as the code has it: its number, or 0
 abbrev pub number : Option ℕ → ℕ

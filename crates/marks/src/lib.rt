@@ -13,7 +13,7 @@ ghost use Rattle.spec.specs.Refusal.{levelFits};
 ghost use Rattle.entry.specs.Levels.{ofLevels};
 ghost use Rattle.marks.specs.Key.{lowPage, keyAt, keysFit, ascending};
 ghost use Rattle.marks.specs.ByLevel.{endOf, endsOf, fitsBy};
-ghost use Rattle.marks.specs.Table.{keys, placeOf, inserted, tableOf, withKey, withoutKey, setRefusal, clearRefusal, number};
+ghost use Rattle.marks.specs.Table.{keys, placeOf, inserted, tableOf, withKey, withoutKey};
 
 // The places that are set, and the key at each place.
 pub struct Marks {
@@ -55,7 +55,7 @@ pub fn key_of(levels: u64, level: u64, address: GuestVirtual) -> u64
 }
 
 // The first set place that holds the key; 64 where none does.
-fn place_of(place: &[u64; 64], set: u64, key: u64) -> usize
+pub fn place_of(place: &[u64; 64], set: u64, key: u64) -> usize
     ensures { λ r. ⌜ r ≡ placeOf (now (place .entry)) set key ⌝ }
 {
     let mut rest = set;
@@ -191,7 +191,7 @@ pub fn fits(place: &[u64; 64], set: u64, levels: u64) -> bool
 }
 
 // Is it the level of a mark?
-fn level_fits(levels: u64, level: u64) -> bool
+pub fn level_fits(levels: u64, level: u64) -> bool
     requires { ⌜ levels < 6 ⌝ }
     ensures { λ r. ⌜ r ≡ levelFits (ofLevels levels) level ⌝ }
 {
@@ -199,55 +199,6 @@ fn level_fits(levels: u64, level: u64) -> bool
         return false;
     }
     level <= levels + 1
-}
-
-// The number with which setting a mark is refused, or 0.
-pub fn set_refusal(
-    place: &[u64; 64],
-    set: u64,
-    levels: u64,
-    address: GuestVirtual,
-    level: u64,
-) -> u64
-    requires { ⌜ levels < 6 ⌝ }
-    ensures { λ r. ⌜ r ≡ number (setRefusal levels (keys (now (place .entry)) set) (address .0) level) ⌝ }
-{
-    if !address.fits(levels) {
-        return 4;
-    }
-    if !level_fits(levels, level) {
-        return 5;
-    }
-    if holds(place, set, key_of(levels, level, address)) {
-        return 6;
-    }
-    if bits::count(set) < 64 {
-        return 0;
-    }
-    7
-}
-
-// The number with which clearing a mark is refused, or 0.
-pub fn clear_refusal(
-    place: &[u64; 64],
-    set: u64,
-    levels: u64,
-    address: GuestVirtual,
-    level: u64,
-) -> u64
-    requires { ⌜ levels < 6 ⌝ }
-    ensures { λ r. ⌜ r ≡ number (clearRefusal levels (keys (now (place .entry)) set) (address .0) level) ⌝ }
-{
-    if !address.fits(levels) {
-        return 4;
-    }
-    if !level_fits(levels, level) {
-        return 5;
-    }
-    if holds(place, set, key_of(levels, level, address)) {
-        return 0;
-    }
-    6
 }
 
 impl Marks {
@@ -293,15 +244,15 @@ impl Marks {
             place: place,
         }
     }
+}
 
-    // The table without the key; the other marks keep their places.
-    pub fn without_key(mut self, key: u64) -> Marks
-        ensures { λ r. ⌜ r ≡ withoutKey self key ⌝ }
-    {
-        let i = place_of(&self.place, self.set, key);
-        if i < 64 {
-            self.set = self.set - bits::power(i as u64);
-        }
-        self
+// The places set in the table without the key; the other marks keep theirs.
+pub fn without(place: &[u64; 64], set: u64, key: u64) -> u64
+    ensures { λ r. ⌜ record { set = r; place = now (place .entry) } ≡ withoutKey (record { set = set; place = now (place .entry) }) key ⌝ }
+{
+    let i = place_of(place, set, key);
+    if i < 64 {
+        return set - bits::power(i as u64);
     }
+    set
 }

@@ -40,9 +40,9 @@ fn clear_frames(mem: &mut [u64], frames: u64)
     }
 }
 
-// The record of a memory that was just opened.
-fn first(l: Layout, host: Pool) -> Record
-    ensures { λ r. ⌜ r ≡ firstOf l host ⌝ }
+// The record of a memory that was just opened; choice: whether the automatic choice is on.
+fn first(l: Layout, host: Pool, choice: bool) -> Record
+    ensures { λ r. ⌜ r ≡ firstOf l host choice ⌝ }
 {
     Record {
         layout: l,
@@ -54,25 +54,26 @@ fn first(l: Layout, host: Pool) -> Record
             root: GuestPhysical(0),
             held: HostPhysical(0),
             marks: Marks::empty(),
+            choice: record::no_choice(choice),
         },
     }
 }
 
 // Host and shadow frames are cleared, and the top host table handed out.
-fn open_granted(mem: &mut [u64], hosts: u64, shadows: u64, bits: bool) -> Record
+fn open_granted(mem: &mut [u64], hosts: u64, shadows: u64, bits: bool, choice: bool) -> Record
     requires { ⌜ hosts + shadows ≤ 65536 ⌝ }
-    ensures { λ r. ⌜ yields r (now (mem .exit)) ≡ grantedOf (now (mem .entry)) hosts shadows bits ⌝ }
+    ensures { λ r. ⌜ yields r (now (mem .exit)) ≡ grantedOf (now (mem .entry)) hosts shadows bits choice ⌝ }
 {
     let l = record::layout(mem.len() as u64, hosts, shadows, bits);
     clear_frames(mem, hosts + shadows);
     let went = area::enter(host::tables(l), pool::no_tables(), mem, 0);
     let pool = went.pool;
-    first(l, pool)
+    first(l, pool, choice)
 }
 
-// The opening: 1, 2.
-pub fn open(mem: &mut [u64], hosts: u64, shadows: u64, bits: bool) -> Opened
-    ensures { λ r. ⌜ yields r (now (mem .exit)) ≡ openOf (now (mem .entry)) hosts shadows bits ⌝ }
+// The opening, with or without accessed and dirty bits, and the automatic choice of marks: 1, 2.
+pub fn open(mem: &mut [u64], hosts: u64, shadows: u64, bits: bool, choice: bool) -> Opened
+    ensures { λ r. ⌜ yields r (now (mem .exit)) ≡ openOf (now (mem .entry)) hosts shadows bits choice ⌝ }
 {
     let refusal = open_refusal(mem.len() as u64, hosts, shadows, bits);
     if refusal != 0 {
@@ -81,7 +82,7 @@ pub fn open(mem: &mut [u64], hosts: u64, shadows: u64, bits: bool) -> Opened
             refusal: refusal,
         };
     }
-    let unit = open_granted(mem, hosts, shadows, bits);
+    let unit = open_granted(mem, hosts, shadows, bits, choice);
     Opened {
         unit: unit,
         refusal: 0,

@@ -24,9 +24,10 @@ use Rattle.host.specs.Map.{hostArea}
 use Rattle.host.proofs.Mapping.{Maps, enter-maps}
 use Rattle.marks.specs.Table.{tableOf, number}
 use Rattle.marks.specs.Reading.{marksOf}
+use Rattle.choice.specs.Order.{orderFits, choiceFits}
 use Rattle.marks.proofs.Book.{no-marks}
 use Rattle.record.specs.declared.Record.{Record}
-use Rattle.record.specs.Record.{levels, layoutOf, configBy, fitsOf, zeros}
+use Rattle.record.specs.Record.{levels, layoutOf, configBy, fitsOf, choiceOf, zeros}
 use Rattle.record.specs.Open.{refusalOf, clearedOf, enteredOf, firstOf, grantedOf, granted, openOf}
 use Rattle.record.proofs.Rules.{Sized, Fits, holds-top, holds-pool, granted-tests, granted-sized, fits-true, zeros-refused}
 use Rattle.words.specs.After.{yields}
@@ -42,16 +43,16 @@ open-refusal words h s bits = go (wordsFit words) (areasFit (configBy words h s 
     go false b n = refl
 
 -- a refused opening hands back a record of zeros and leaves every word; no later call takes that record
-module _ (m : List ℕ) (h s : ℕ) (bits : Bool) (refused : refusalOf (length m) h s bits ≢ 0) where
-  pub refused-opening : opening (configBy (length m) h s bits) m ≡ (say.no (refusalOf (length m) h s bits), none)
+module _ (m : List ℕ) (h s : ℕ) (bits on : Bool) (refused : refusalOf (length m) h s bits ≢ 0) where
+  pub refused-opening : opening (configBy (length m) h s bits) on m ≡ (say.no (refusalOf (length m) h s bits), none)
   unfolding opening
   refused-opening = rw (open-refusal (length m) h s bits refused)
 
-  pub refused-open : openOf m h s bits ≡ yields (record { unit = zeros; refusal = refusalOf (length m) h s bits }) m
+  pub refused-open : openOf m h s bits on ≡ yields (record { unit = zeros; refusal = refusalOf (length m) h s bits }) m
   unfolding openOf
   refused-open = rw (ne-eqb _ _ refused)
 
-  pub refused-record : (len : ℕ) → fitsOf (openOf m h s bits .result .unit) len ≡ false
+  pub refused-record : (len : ℕ) → fitsOf (openOf m h s bits on .result .unit) len ≡ false
   refused-record len = rw refused-open (zeros-refused len)
 
 -- ---- clearing
@@ -67,21 +68,21 @@ clear-beside m n = record {
 }
 
 -- ---- a granted opening
-module _ (m : List ℕ) (h s : ℕ) (bits : Bool) (grant : refusalOf (length m) h s bits ≡ 0) where
+module _ (m : List ℕ) (h s : ℕ) (bits on : Bool) (grant : refusalOf (length m) h s bits ≡ 0) where
   abbrev c : Config
   c = configBy (length m) h s bits
 
   abbrev unit : Record
-  unit = grantedOf m h s bits .result
+  unit = grantedOf m h s bits on .result
 
   abbrev memory : List ℕ
-  memory = grantedOf m h s bits .memory
+  memory = grantedOf m h s bits on .memory
 
-  pub granted-opening : opening c m ≡ (say.ok, some (opened c m))
+  pub granted-opening : opening c on m ≡ (say.ok, some (opened c on m))
   unfolding opening openRefusal
   granted-opening = let t = granted-tests (length m) h s bits grant in rw (t .0, t .1)
 
-  pub granted-open : openOf m h s bits ≡ granted (grantedOf m h s bits)
+  pub granted-open : openOf m h s bits on ≡ granted (grantedOf m h s bits on)
   unfolding openOf
   granted-open = rw (eq-eqb _ _ grant)
 
@@ -122,6 +123,11 @@ module _ (m : List ℕ) (h s : ℕ) (bits : Bool) (grant : refusalOf (length m) 
   unfolding grantedOf firstOf tableOf
   no-mark = no-marks levels (tableOf []) refl
 
+  none-chosen : (b : Bool) → choiceFits (choiceOf b .tally) (choiceOf b .order) (tableOf [] .place) (tableOf [] .set) ≡ true
+  unfolding choiceFits orderFits
+  none-chosen true = refl
+  none-chosen false = refl
+
   small : (b : Bool) → cond b 1 0 ≤ 1
   small true = omega arith
   small false = omega arith
@@ -134,6 +140,7 @@ module _ (m : List ℕ) (h s : ℕ) (bits : Bool) (grant : refusalOf (length m) 
     sizes = fits;
     root = omega arith;
     marks = rw no-mark;
+    chosen = none-chosen on;
     held = inl refl;
     top = holds-top granted-host;
     host = holds-pool granted-host;
@@ -141,4 +148,5 @@ module _ (m : List ℕ) (h s : ℕ) (bits : Bool) (grant : refusalOf (length m) 
   }
 
   pub granted-fits : fitsOf unit (length memory) ≡ true
-  granted-fits = fits-true unit (length memory) rules
+  unfolding grantedOf firstOf tableOf
+  granted-fits = fits-true unit (length memory) (omega arith) rules

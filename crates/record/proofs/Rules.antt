@@ -9,7 +9,9 @@ use Prim.Native.Nat.{ℕ, _+_, _-_, _*_, _/_, _%_, _^_, _<_, _≤_}
 use native.Mathlib.Omega.{arith}
 use borrow.Author.Tests.{eqb-true, eqb-false, leb-true, ltb-true, ltb-false, lt-ltb, le-ltb, le-leb, eq-eqb}
 use lib.Dec.{eqb, leb, ltb}
+use lib.ListN.{take}
 use Rattle.spec.specs.Config.{Config, guestBase, frameBits}
+use Rattle.spec.specs.Refusal as spec
 use Rattle.spec.specs.Refusal.{wordsFit, areasFit, frameFits, marksFit, topFits, recordFits, openRefusal}
 use Rattle.pool.specs.declared.Area.{Area}
 use Rattle.pool.specs.declared.Pool.{Pool}
@@ -24,8 +26,13 @@ use Rattle.marks.specs.declared.Marks.{Marks}
 use Rattle.marks.specs.Key.{keysFit}
 use Rattle.marks.specs.Reading.{marksOf}
 use Rattle.marks.proofs.Book.{keysOf, marks-fit, all-held}
+use Rattle.choice.specs.declared.Choice.{Choice}
+use Rattle.choice.specs.Order.{orderFits, choiceFits}
+use Rattle.choice.specs.Reading.{windowIn, automaticIn}
+use Rattle.choice.proofs.Shows.{shown-fits, shown-none}
+use Rattle.choice.proofs.Automatic.{automatic-fits}
 use Rattle.record.specs.declared.Record.{Record}
-use Rattle.record.specs.Record.{levels, layoutOf, configBy, configOf, heldTop, isTable, poolFits, poolsFit, choicesFit, fitsOf, sizesFit, tablesFit, zeros, headOf, headRoot, withHead, withMarks}
+use Rattle.record.specs.Record.{levels, layoutOf, configBy, configOf, heldTop, isTable, poolFits, poolsFit, choicesFit, chosenFits, fitsOf, sizesFit, tablesFit, zeros, headOf, headRoot, withHead, withMarks}
 use Rattle.record.specs.Open.{refusalOf}
 use Rattle.spec_laws.proofs.Keeps.{InGuestArea}
 
@@ -166,6 +173,7 @@ pub record Fits (r : Record) (len : ℕ) : Type 0 where
   pub sizes : Sized (r .layout)
   pub root : r .guest .root .0 < 2 ^ frameBits (configOf r)
   pub marks : marksFit (configOf r) (marksOf (r .layout .levels) (r .guest .marks)) ≡ true
+  pub chosen : chosenFits r ≡ true
   pub held : (r .guest .held .0 ≡ 0) ⊎ InGuestArea (configOf r) (r .guest .held .0)
   pub top : Table 0 (r .layout .hosts) (r .pools .host .top)
   pub host : PoolFits 0 (r .layout .hosts) (r .pools .host)
@@ -199,22 +207,71 @@ words-whole f =
     let free-words : f * 512 / 512 ≡ f = omega arith in
     (rw (eq-eqb _ _ none, free-words), free-words)
 
-tested : (n s g h i p : Bool) → s && true && g && h && i && n && p ≡ (n && s && g && h && (i && p))
-tested true true true true true p = refl
-tested true true true true false p = refl
-tested true true true false i p = refl
-tested true true false h i p = refl
-tested true false g h i p = refl
-tested false true true true true p = refl
-tested false true true true false p = refl
-tested false true true false i p = refl
-tested false true false h i p = refl
-tested false false g h i p = refl
+-- x, the rule of the choice in the specification's terms, follows from that of the marks (h) and that of its numbers (o)
+tested : (n s g h x i o p : Bool) → (h ≡ true → o ≡ true → x ≡ true) → s && true && g && h && x && i && n && o && p ≡ (n && s && g && h && o && (i && p))
+tested n s g true x i true p f = rw (f refl refl) (go n s g i)
+  where
+    go : (n s g i : Bool) → s && true && g && true && true && i && n && true && p ≡ (n && s && g && true && true && (i && p))
+    go true true true true = refl
+    go true true true false = refl
+    go true true false i = refl
+    go true false g i = refl
+    go false true true true = refl
+    go false true true false = refl
+    go false true false i = refl
+    go false false g i = refl
+tested n s g true x i false p f = go n s g x i
+  where
+    go : (n s g x i : Bool) → s && true && g && true && x && i && n && false && p ≡ (n && s && g && true && false && (i && p))
+    go true true true true true = refl
+    go true true true true false = refl
+    go true true true false i = refl
+    go true true false x i = refl
+    go true false g x i = refl
+    go false true true true true = refl
+    go false true true true false = refl
+    go false true true false i = refl
+    go false true false x i = refl
+    go false false g x i = refl
+tested n s g false x i o p f = go n s g
+  where
+    go : (n s g : Bool) → s && true && g && false && x && i && n && o && p ≡ (n && s && g && false && o && (i && p))
+    go true true true = refl
+    go true true false = refl
+    go true false g = refl
+    go false true true = refl
+    go false true false = refl
+    go false false g = refl
+
+-- the rule of the choice in the specification's terms: what its numbers can say, or what else they may not
+abbrev saysFit : Record → Bool
+saysFit r =
+    spec.choiceFits (configOf r) (eqb (r .guest .choice .tally .on) 1) (marksOf (r .layout .levels) (r .guest .marks))
+    (automaticIn (r .layout .levels) (r .guest .choice .tally) (r .guest .choice .order) (r .guest .marks .place)) (windowIn (r .layout .levels) (r .guest .choice .tally) (r .guest .choice .ring))
+
+pub chosen-says : (r : Record) → keysFit (r .layout .levels) (keysOf (r .guest .marks)) ≡ true → chosenFits r ≡ true → saysFit r ≡ true
+unfolding choiceFits
+chosen-says r h o =
+    let n = r .layout .levels in
+    let x = r .guest .choice in
+    let t = x .tally in
+    let marks = r .guest .marks in
+    let a = both (leb (t .on) 1 && leb (t .count) 64 && orderFits (marks .place) (marks .set) (take (t .count) (x .order))) (eqb (t .on) 1 || (eqb (t .count) 0 && eqb (t .charged) 0)) o in
+    let b = both (leb (t .on) 1 && leb (t .count) 64) (orderFits (marks .place) (marks .set) (take (t .count) (x .order))) (a .0) in
+    rw (automatic-fits n marks h (take (t .count) (x .order)) (b .1), shown-fits (configOf r) (t .charged) (t .at) (x .ring)) (off (eqb (t .on) 1) (a .1))
+  where
+    off : (on : Bool) → (on || (eqb (r .guest .choice .tally .count) 0 && eqb (r .guest .choice .tally .charged) 0)) ≡ true
+        → (on || (spec.isEmpty (automaticIn (r .layout .levels) (r .guest .choice .tally) (r .guest .choice .order) (r .guest .marks .place))
+        && spec.allOf spec.uncharged (windowIn (r .layout .levels) (r .guest .choice .tally) (r .guest .choice .ring)))) ≡ true
+    off true e = refl
+    off false e =
+        let z = both (eqb (r .guest .choice .tally .count) 0) (eqb (r .guest .choice .tally .charged) 0) e in
+        rw (eqb-true (r .guest .choice .tally .count) 0 (z .0)) (shown-none (r .guest .choice .tally .charged) (r .guest .choice .tally .at) _ (eqb-true (r .guest .choice .tally .charged) 0 (z .1)))
 
 pub fits-by : (r : Record) (len : ℕ) (b : Bool) → r .guest .marks .set < 2 ^ 64 → choicesFit (r .layout) ≡ true
     → b
     ≡ (choicesFit (r .layout) && sizesFit (r .layout) len && frameFits (configOf r) (r .guest .root .0)
-    && keysFit (r .layout .levels) (keysOf (r .guest .marks)) && tablesFit (r .layout) (r .guest .held .0) (r .pools))
+    && keysFit (r .layout .levels) (keysOf (r .guest .marks)) && chosenFits r && tablesFit (r .layout) (r .guest .held .0) (r .pools))
     → b ≡ fitsOf r len
 unfolding fitsOf recordFits sizesFit tablesFit
 fits-by r len b l d e =
@@ -222,14 +279,15 @@ fits-by r len b l d e =
     let w = words-whole (r .layout .frames) in
     rw (w .0, w .1, eq-eqb (r .layout .frames) (r .layout .frames) refl, marks-fit c (r .guest .marks) l (omega (arith, choices-levels (r .layout) d)))
     (e ∙ sym (tested (choicesFit (r .layout)) (eqb len (r .layout .frames * 512) && (ltb 0 (r .layout .frames) && leb (r .layout .frames) 65536) && areasFit c)
-    (frameFits c (r .guest .root .0)) (keysFit (r .layout .levels) (keysOf (r .guest .marks))) (topFits c (heldTop (r .guest .held .0))) (poolsFit (r .layout) (r .pools))))
+    (frameFits c (r .guest .root .0)) (keysFit (r .layout .levels) (keysOf (r .guest .marks))) (saysFit r) (topFits c (heldTop (r .guest .held .0))) (chosenFits r)
+    (poolsFit (r .layout) (r .pools)) (chosen-says r)))
 
 -- a choice that no opening has breaks the rule
 pub fits-choices : (r : Record) (len : ℕ) → choicesFit (r .layout) ≡ false → fitsOf r len ≡ false
 unfolding fitsOf
 fits-choices r len e = rw e (go (recordFits _ len))
   where
-    go : (b : Bool) → b && false && poolsFit (r .layout) (r .pools) ≡ false
+    go : (b : Bool) → b && false && chosenFits r && poolsFit (r .layout) (r .pools) ≡ false
     go true = refl
     go false = refl
 
@@ -244,18 +302,22 @@ fits-layout r len e =
     let q = eqb f (f * 512 / 512) in
     let g = frameFits c (r .guest .root .0) in
     let h = marksFit c (marksOf (r .layout .levels) (r .guest .marks)) in
+    let s = saysFit r in
     let i = topFits c (heldTop (r .guest .held .0)) in
+    let o = chosenFits r in
     let n = eqb (r .layout .levels) levels && leb (r .layout .bits) 1 in
     let x = isTable 0 (r .layout .hosts) (r .pools .host .top) in
     let y = poolFits 0 (r .layout .hosts) (r .pools .host) in
     let z = poolFits (r .layout .hosts) (r .layout .shadows) (r .pools .shadow) in
-    let last = both (a && b && d && q && g && h && i && n) (x && y && z) e in
+    let last = both (a && b && d && q && g && h && s && i && n && o) (x && y && z) e in
     let pools = both (x && y) z (last .1) in
     let host = both x y (pools .0) in
-    let xn = both (a && b && d && q && g && h && i) n (last .0) in
+    let xo = both (a && b && d && q && g && h && s && i && n) o (last .0) in
+    let xn = both (a && b && d && q && g && h && s && i) n (xo .0) in
     let chosen = both (eqb (r .layout .levels) levels) (leb (r .layout .bits) 1) (xn .1) in
-    let xi = both (a && b && d && q && g && h) i (xn .0) in
-    let xh = both (a && b && d && q && g) h (xi .0) in
+    let xi = both (a && b && d && q && g && h && s) i (xn .0) in
+    let xs = both (a && b && d && q && g && h) s (xi .0) in
+    let xh = both (a && b && d && q && g) h (xs .0) in
     let xg = both (a && b && d && q) g (xh .0) in
     let xq = both (a && b && d) q (xg .0) in
     let xd = both (a && b) d (xq .0) in
@@ -267,6 +329,7 @@ fits-layout r len e =
       sizes = sized (r .layout) (eqb-true (r .layout .levels) levels (chosen .0)) (leb-true f 65536 (few .1)) (xd .1);
       root = ltb-true (r .guest .root .0) (2 ^ frameBits c) (xg .1);
       marks = xh .1;
+      chosen = xo .1;
       held = held-fits c (r .guest .held .0) (xi .1);
       top = table-is 0 (r .layout .hosts) (r .pools .host .top) (host .0);
       host = pool-fits 0 (r .layout .hosts) (r .pools .host) (host .1);
@@ -277,9 +340,9 @@ fits-layout r len e =
 sized-areas : {l : Layout} → Sized l → areasFit (config l) ≡ true
 sized-areas z = rw (le-leb _ _ (z .hosts), le-leb _ _ (z .shadows), lt-ltb _ _ (z .guest))
 
-pub fits-true : (r : Record) (len : ℕ) → Fits r len → fitsOf r len ≡ true
+pub fits-true : (r : Record) (len : ℕ) → r .guest .marks .set < 2 ^ 64 → Fits r len → fitsOf r len ≡ true
 unfolding fitsOf recordFits poolsFit choicesFit
-fits-true r len f =
+fits-true r len word f =
     let z = f .sizes in
     let w = words-whole (r .layout .frames) in
     let some : 0 < r .layout .frames = omega (arith, z .guest) in
@@ -293,6 +356,8 @@ fits-true r len f =
       eq-eqb (r .layout .frames) (r .layout .frames) refl,
       lt-ltb _ _ (f .root),
       f .marks,
+      chosen-says r (sym (marks-fit (configOf r) (r .guest .marks) word (omega (arith, z .deep))) ∙ f .marks) (f .chosen),
+      f .chosen,
       fits-held (configOf r) (r .guest .held .0) (f .held),
       eq-eqb _ _ (z .deep),
       le-leb _ _ (f .bits),
@@ -311,20 +376,23 @@ module _ {r : Record} {len : ℕ} (f : Fits r len) where
     sizes = f .sizes;
     root = l;
     marks = f .marks;
+    chosen = f .chosen;
     held = f .held;
     top = f .top;
     host = f .host;
     shadow = f .shadow;
   }
 
-  pub fits-marks : (t : Marks) → marksFit (configOf r) (marksOf (r .layout .levels) t) ≡ true → Fits (withMarks r t) len
+  pub fits-marks : (t : Marks) (x : Choice) → marksFit (configOf r) (marksOf (r .layout .levels) t) ≡ true → choiceFits (x .tally) (x .order) (t .place) (t .set) ≡ true
+      → Fits (withMarks r t x) len
   unfolding withMarks
-  fits-marks t e = record {
+  fits-marks t x e o = record {
     long = f .long;
     bits = f .bits;
     sizes = f .sizes;
     root = f .root;
     marks = e;
+    chosen = o;
     held = f .held;
     top = f .top;
     host = f .host;

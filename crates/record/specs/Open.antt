@@ -16,7 +16,7 @@ use Rattle.record.specs.declared.Record.{Record}
 use Rattle.record.specs.declared.Opened.{Opened}
 use Rattle.layout.specs.declared.Layout.{Layout}
 use Rattle.layout.specs.Layout.{page}
-use Rattle.record.specs.Record.{layoutOf, configBy, guestFrame, zeros}
+use Rattle.record.specs.Record.{layoutOf, configBy, guestFrame, choiceOf, zeros}
 use Rattle.words.specs.After.{After, yields}
 use Rattle.pool.specs.declared.Went.{Went}
 
@@ -32,23 +32,23 @@ clearedOf m n = zeroed m 0 (n * 512)
 unfoldable pub enteredOf : List ℕ → ℕ → ℕ → Bool → After Went
 enteredOf m h s bits = enterOf (hostArea (configBy (length m) h s bits)) noneOf (clearedOf m (h + s)) 0
 
--- the record of a granted opening: root 0, no mark set, no path held
-unfoldable pub firstOf : Layout → Pool → Record
-firstOf l p = record {
+-- the record of a granted opening: root 0, no mark set, no path held. on: whether the automatic choice is on
+unfoldable pub firstOf : Layout → Pool → Bool → Record
+firstOf l p on = record {
   layout = l;
   pools = record { host = p; shadow = noneOf };
-  guest = record { root = guestFrame 0; held = page 0; marks = tableOf [] };
+  guest = record { root = guestFrame 0; held = page 0; marks = tableOf []; choice = choiceOf on };
 }
 
 -- what a granted opening leaves
-unfoldable pub grantedOf : List ℕ → ℕ → ℕ → Bool → After Record
-grantedOf m h s bits = let t = enteredOf m h s bits in yields (firstOf (layoutOf (length m) h s bits) (t .result .pool)) (t .memory)
+unfoldable pub grantedOf : List ℕ → ℕ → ℕ → Bool → Bool → After Record
+grantedOf m h s bits on = let t = enteredOf m h s bits in yields (firstOf (layoutOf (length m) h s bits) (t .result .pool) on) (t .memory)
 
 abbrev pub granted : After Record → After Opened
 granted k = yields (record { unit = k .result; refusal = 0 }) (k .memory)
 
--- a refused opening hands back a record of zeros and leaves every word
-unfoldable pub openOf : List ℕ → ℕ → ℕ → Bool → After Opened
-openOf m h s bits =
+-- bits, on: whether it chooses accessed and dirty bits, and the automatic choice. A refused opening hands back a record of zeros and leaves every word
+unfoldable pub openOf : List ℕ → ℕ → ℕ → Bool → Bool → After Opened
+openOf m h s bits on =
     let n = refusalOf (length m) h s bits in
-    cond (eqb n 0) (granted (grantedOf m h s bits)) (yields (record { unit = zeros; refusal = n }) m)
+    cond (eqb n 0) (granted (grantedOf m h s bits on)) (yields (record { unit = zeros; refusal = n }) m)

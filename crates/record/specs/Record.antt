@@ -1,7 +1,7 @@
 -- The unit's record: what it says in the specification's terms, and whether it breaks a rule.
 -- Assumes nothing.
 use Prim.Native.Nat.{ℕ, _*_, _/_, _%_}
-use mathlib.Core.Bool.{Bool, _&&_, _||_, cond}
+use mathlib.Core.Bool.{Bool, false, _&&_, _||_, cond}
 use mathlib.Core.List.{List}
 use mathlib.Core.Option.{Option, none, some}
 use lib.Dec.{eqb, leb, ltb}
@@ -18,6 +18,10 @@ use Rattle.layout.specs.declared.Layout.{Layout}
 use Rattle.layout.specs.Layout.{config, page}
 use Rattle.marks.specs.declared.Marks.{Marks}
 use Rattle.marks.specs.Reading.{marksOf}
+use Rattle.choice.specs.declared.Tally.{Tally}
+use Rattle.choice.specs.declared.Choice.{Choice}
+use Rattle.choice.specs.Order.{choiceFits}
+use Rattle.choice.specs.Reading.{windowIn, automaticIn}
 use Rattle.record.specs.declared.Pools.{Pools}
 use Rattle.record.specs.declared.Record.{Record}
 use Rattle.record.specs.declared.Head.{Head}
@@ -51,6 +55,9 @@ reading r = record {
   config = configOf r;
   root = r .guest .root .0;
   marks = marksOf (r .layout .levels) (r .guest .marks);
+  choice = eqb (r .guest .choice .tally .on) 1;
+  automatic = automaticIn (r .layout .levels) (r .guest .choice .tally) (r .guest .choice .order) (r .guest .marks .place);
+  window = windowIn (r .layout .levels) (r .guest .choice .tally) (r .guest .choice .ring);
   top = heldTop (r .guest .held .0);
 }
 
@@ -70,9 +77,13 @@ poolsFit l p = isTable 0 (l .hosts) (p .host .top) && poolFits 0 (l .hosts) (p .
 unfoldable pub choicesFit : Layout → Bool
 choicesFit l = eqb (l .levels) levels && leb (l .bits) 1
 
+-- what the automatic choice keeps, by its numbers
+abbrev pub chosenFits : Record → Bool
+chosenFits r = choiceFits (r .guest .choice .tally) (r .guest .choice .order) (r .guest .marks .place) (r .guest .marks .set)
+
 -- a record that does not meet 3 on a memory of that length
 unfoldable pub fitsOf : Record → ℕ → Bool
-fitsOf r len = recordFits (reading r) len && choicesFit (r .layout) && poolsFit (r .layout) (r .pools)
+fitsOf r len = recordFits (reading r) len && choicesFit (r .layout) && chosenFits r && poolsFit (r .layout) (r .pools)
 
 -- ---- in parts
 
@@ -84,12 +95,17 @@ sizesFit l len = eqb len (l .frames * 512) && (ltb 0 (l .frames) && leb (l .fram
 unfoldable pub tablesFit : Layout → ℕ → Pools → Bool
 tablesFit l held p = topFits (config l) (heldTop held) && poolsFit l p
 
--- a record by its head and the places of its marks
-abbrev pub recordBy : Head → List ℕ → Record
-recordBy h place = record {
+-- a record by its head and its arrays
+abbrev pub recordBy : Head → List ℕ → List ℕ → List ℕ → Record
+recordBy h place ring order = record {
   layout = h .layout;
   pools = h .pools;
-  guest = record { root = h .root; held = h .held; marks = record { set = h .set; place = place } };
+  guest = record {
+    root = h .root;
+    held = h .held;
+    marks = record { set = h .set; place = place };
+    choice = record { tally = h .tally; ring = ring; order = order };
+  };
 }
 
 abbrev pub headOf : Record → Head
@@ -99,30 +115,42 @@ headOf r = record {
   root = r .guest .root;
   held = r .guest .held;
   set = r .guest .marks .set;
+  tally = r .guest .choice .tally;
 }
+
+-- nothing is kept; on: whether the choice is on
+abbrev pub choiceOf : Bool → Choice
+choiceOf on = record { tally = record { on = cond on 1 0; charged = 0; at = 0; count = 0 }; ring = replicate 64 0; order = replicate 64 0 }
 
 -- what a refused opening hands back; every later call refuses it with 3
 unfoldable pub zeros : Record
 zeros = record {
   layout = record { levels = 0; hosts = 0; shadows = 0; frames = 0; bits = 0 };
   pools = record { host = noneOf; shadow = noneOf };
-  guest = record { root = guestFrame 0; held = page 0; marks = record { set = 0; place = replicate 64 0 } };
+  guest = record { root = guestFrame 0; held = page 0; marks = record { set = 0; place = replicate 64 0 }; choice = choiceOf false };
 }
 
 -- ---- with one part changed
 
 unfoldable pub headRoot : Head → ℕ → Head
-headRoot h g = record { layout = h .layout; pools = h .pools; root = guestFrame g; held = h .held; set = h .set }
+headRoot h g = record { layout = h .layout; pools = h .pools; root = guestFrame g; held = h .held; set = h .set; tally = h .tally }
 
 unfoldable pub headTables : Head → Pools → HostPhysical → Head
-headTables h p f = record { layout = h .layout; pools = p; root = h .root; held = f; set = h .set }
+headTables h p f = record { layout = h .layout; pools = p; root = h .root; held = f; set = h .set; tally = h .tally }
+
+unfoldable pub headMarks : Head → ℕ → Tally → Head
+headMarks h n t = record { layout = h .layout; pools = h .pools; root = h .root; held = h .held; set = n; tally = t }
+
+unfoldable pub headTally : Head → Tally → Head
+headTally h t = record { layout = h .layout; pools = h .pools; root = h .root; held = h .held; set = h .set; tally = t }
 
 abbrev pub withHead : Record → Head → Record
-withHead r h = recordBy h (r .guest .marks .place)
+withHead r h = recordBy h (r .guest .marks .place) (r .guest .choice .ring) (r .guest .choice .order)
 
-unfoldable pub withMarks : Record → Marks → Record
-withMarks r t = record {
+-- with other marks, and what the automatic choice then keeps
+unfoldable pub withMarks : Record → Marks → Choice → Record
+withMarks r t x = record {
   layout = r .layout;
   pools = r .pools;
-  guest = record { root = r .guest .root; held = r .guest .held; marks = t };
+  guest = record { root = r .guest .root; held = r .guest .held; marks = t; choice = x };
 }

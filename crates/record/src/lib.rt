@@ -1,4 +1,6 @@
 // The unit's record, by value; whether it breaks a rule (3); the opening.
+use choice::Choice;
+use choice::Tally;
 use entry::GuestPhysical;
 use entry::GuestVirtual;
 use entry::HostPhysical;
@@ -10,7 +12,8 @@ ghost use mathlib.Core.Path.{_≡_};
 ghost use Rattle.spec.specs.Refusal.{wordsFit, areasFit, topFits};
 ghost use Rattle.layout.specs.Layout.{LayoutFits, config};
 ghost use Rattle.marks.specs.Table.{lookupIn};
-ghost use Rattle.record.specs.Record.{layoutOf, heldTop, isTable, poolFits, choicesFit, sizesFit, tablesFit, recordBy, headOf, fitsOf, zeros, headRoot, headTables, withHead, withMarks};
+ghost use Rattle.record.specs.Words.{headIn, headWords};
+ghost use Rattle.record.specs.Record.{layoutOf, heldTop, isTable, poolFits, choicesFit, sizesFit, tablesFit, recordBy, headOf, fitsOf, zeros, headRoot, headTables, headMarks, headTally, choiceOf, withHead, withMarks};
 
 // Levels of the guest's tables and of the host's that an opening chooses.
 pub const LEVELS: u64 = 4;
@@ -22,11 +25,12 @@ pub struct Pools {
 }
 
 // A guest's part of the record: its root, the host frame of the path that is held at the depth of all levels (or 0: frame 0 is
-// never in the guest area), its marks.
+// never in the guest area), its marks, what the automatic choice keeps.
 pub struct Guest {
     pub root: GuestPhysical,
     pub held: HostPhysical,
     pub marks: Marks,
+    pub choice: Choice,
 }
 
 // A record handed back with the depth of an address and how many marks were read for it.
@@ -42,13 +46,14 @@ pub struct Record {
     pub guest: Guest,
 }
 
-// The record without the places of the marks: numbers that a request takes along while the places are lent.
+// The record without its arrays: numbers that a request takes along while the arrays are lent.
 pub struct Head {
     pub layout: Layout,
     pub pools: Pools,
     pub root: GuestPhysical,
     pub held: HostPhysical,
     pub set: u64,
+    pub tally: Tally,
 }
 
 // How an opening lays out a memory of that many words; bits: whether it chooses accessed and dirty bits.
@@ -162,27 +167,135 @@ fn tables_fit(l: Layout, held: HostPhysical, pools: Pools) -> bool
     pool_fits(l.hosts, l.shadows, pools.shadow)
 }
 
-impl Head {
-    // Does the record, with these places of its marks, break no rule on a memory of that length?
-    pub fn fits(self, place: &[u64; 64], len: usize) -> bool
-        ensures { λ r. ⌜ r ≡ fitsOf (recordBy self (now (place .entry))) len ⌝ }
-    {
-        let l = self.layout;
-        if !choices_fit(l) {
-            return false;
-        }
-        if !sizes_fit(l, len) {
-            return false;
-        }
-        if !layout::frame_fits(l, self.root) {
-            return false;
-        }
-        if !marks::fits(place, self.set, l.levels) {
-            return false;
-        }
-        tables_fit(l, self.held, self.pools)
-    }
+// ---- the head in 20 words, as it is lent
 
+fn layout_in(w: &[u64; 20]) -> Layout
+    ensures { λ r. ⌜ r ≡ headIn (now (w .entry)) .layout ⌝ }
+{
+    Layout {
+        levels: w[0],
+        hosts: w[1],
+        shadows: w[2],
+        frames: w[3],
+        bits: w[4],
+    }
+}
+
+fn pools_in(w: &[u64; 20]) -> Pools
+    ensures { λ r. ⌜ r ≡ headIn (now (w .entry)) .pools ⌝ }
+{
+    Pools {
+        host: Pool {
+            fresh: w[5],
+            free: w[6],
+            used: w[7],
+            top: w[8],
+        },
+        shadow: Pool {
+            fresh: w[9],
+            free: w[10],
+            used: w[11],
+            top: w[12],
+        },
+    }
+}
+
+fn tally_in(w: &[u64; 20]) -> Tally
+    ensures { λ r. ⌜ r ≡ headIn (now (w .entry)) .tally ⌝ }
+{
+    Tally {
+        on: w[16],
+        charged: w[17],
+        at: w[18],
+        count: w[19],
+    }
+}
+
+// The places of marks that are set.
+fn set_in(w: &[u64; 20]) -> u64
+    ensures { λ r. ⌜ r ≡ headIn (now (w .entry)) .set ⌝ }
+{
+    w[15]
+}
+
+// The head that the words say.
+pub fn head_in(w: &[u64; 20]) -> Head
+    ensures { λ r. ⌜ r ≡ headIn (now (w .entry)) ⌝ }
+{
+    Head {
+        layout: layout_in(w),
+        pools: pools_in(w),
+        root: GuestPhysical(w[13]),
+        held: HostPhysical(w[14]),
+        set: set_in(w),
+        tally: tally_in(w),
+    }
+}
+
+// And back.
+pub fn head_words(h: Head) -> [u64; 20]
+    ensures { λ r. ⌜ r ≡ headWords h ⌝ }
+{
+    let l = h.layout;
+    let host = h.pools.host;
+    let shadow = h.pools.shadow;
+    let tally = h.tally;
+    [
+        l.levels,
+        l.hosts,
+        l.shadows,
+        l.frames,
+        l.bits,
+        host.fresh,
+        host.free,
+        host.used,
+        host.top,
+        shadow.fresh,
+        shadow.free,
+        shadow.used,
+        shadow.top,
+        h.root.0,
+        h.held.0,
+        h.set,
+        tally.on,
+        tally.charged,
+        tally.at,
+        tally.count,
+    ]
+}
+
+// Does the record that these words and arrays are break no rule on a memory of that length? The words are read where they stand, each
+// when its turn comes, so that a call pays for no copy of them.
+pub fn fits<'a>(
+    w: &'a [u64; 20],
+    place: &'a [u64; 64],
+    ring: &'a [u64; 64],
+    order: &'a [u64; 64],
+    len: usize,
+) -> bool
+    ensures { λ r. ⌜ r ≡ fitsOf (recordBy (headIn (now (w .entry))) (now (place .entry)) (now (ring .entry)) (now (order .entry))) len ⌝ }
+{
+    let set = set_in(w);
+    let l = layout_in(w);
+    if !choices_fit(l) {
+        return false;
+    }
+    if !sizes_fit(l, len) {
+        return false;
+    }
+    if !layout::frame_fits(l, GuestPhysical(w[13])) {
+        return false;
+    }
+    if !marks::fits(place, set, l.levels) {
+        return false;
+    }
+    if !choice::fits(tally_in(w), order, place, set) {
+        return false;
+    }
+    tables_fit(l, HostPhysical(w[14]), pools_in(w))
+}
+
+impl Head {
     // With another root.
     pub fn with_root(mut self, root: GuestPhysical) -> Head
         ensures { λ r. ⌜ r ≡ headRoot self (root .0) ⌝ }
@@ -198,6 +311,39 @@ impl Head {
         self.pools = pools;
         self.held = held;
         self
+    }
+
+    // With other places of marks set, and another tally of the automatic choice.
+    pub fn with_marks(mut self, set: u64, tally: Tally) -> Head
+        ensures { λ r. ⌜ r ≡ headMarks self set tally ⌝ }
+    {
+        self.set = set;
+        self.tally = tally;
+        self
+    }
+
+    // With another tally of the automatic choice.
+    pub fn with_tally(mut self, tally: Tally) -> Head
+        ensures { λ r. ⌜ r ≡ headTally self tally ⌝ }
+    {
+        self.tally = tally;
+        self
+    }
+}
+
+// Nothing is kept by the automatic choice, which is on or off.
+pub fn no_choice(on: bool) -> Choice
+    ensures { λ r. ⌜ r ≡ choiceOf on ⌝ }
+{
+    Choice {
+        tally: Tally {
+            on: if on { 1 } else { 0 },
+            charged: 0,
+            at: 0,
+            count: 0,
+        },
+        ring: [0u64; 64],
+        order: [0u64; 64],
     }
 }
 
@@ -225,11 +371,12 @@ impl Record {
                     set: 0,
                     place: [0u64; 64],
                 },
+                choice: no_choice(false),
             },
         }
     }
 
-    // The record without the places of its marks.
+    // The record without its arrays.
     pub fn head(self) -> Head
         ensures { λ r. ⌜ r ≡ headOf self ⌝ }
     {
@@ -237,12 +384,14 @@ impl Record {
         let pools = self.pools;
         let root = self.guest.root;
         let held = self.guest.held;
+        let tally = self.guest.choice.tally;
         Head {
             layout: layout,
             pools: pools,
             root: root,
             held: held,
             set: self.guest.marks.set,
+            tally: tally,
         }
     }
 
@@ -250,7 +399,14 @@ impl Record {
     pub fn fits(self, len: usize) -> bool
         ensures { λ r. ⌜ r ≡ fitsOf self len ⌝ }
     {
-        self.head().fits(&self.guest.marks.place, len)
+        let words = head_words(self.head());
+        fits(
+            &words,
+            &self.guest.marks.place,
+            &self.guest.choice.ring,
+            &self.guest.choice.order,
+            len,
+        )
     }
 
     // The depth of an address, and how many marks were read for it.
@@ -269,7 +425,7 @@ impl Record {
         }
     }
 
-    // The record with another head; the places of the marks stay.
+    // The record with another head; the arrays stay.
     pub fn with_head(self, head: Head) -> Record
         ensures { λ r. ⌜ r ≡ withHead self head ⌝ }
     {
@@ -277,7 +433,10 @@ impl Record {
         let pools = head.pools;
         let root = head.root;
         let held = head.held;
+        let tally = head.tally;
         let place = self.guest.marks.place;
+        let ring = self.guest.choice.ring;
+        let order = self.guest.choice.order;
         Record {
             layout: layout,
             pools: pools,
@@ -288,16 +447,22 @@ impl Record {
                     set: head.set,
                     place: place,
                 },
+                choice: Choice {
+                    tally: tally,
+                    ring: ring,
+                    order: order,
+                },
             },
         }
     }
 
-    // The record with other marks.
-    pub fn with_marks(mut self, marks: Marks) -> Record
-        ensures { λ r. ⌜ r ≡ withMarks self marks ⌝ }
+    // The record with other marks, and what the automatic choice then keeps.
+    pub fn with_marks(mut self, marks: Marks, choice: Choice) -> Record
+        ensures { λ r. ⌜ r ≡ withMarks self marks choice ⌝ }
     {
         let mut guest = self.guest;
         guest.marks = marks;
+        guest.choice = choice;
         self.guest = guest;
         self
     }

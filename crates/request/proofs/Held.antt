@@ -4,11 +4,15 @@ use mathlib.Core.Path.{_≡_, refl, sym, ap, ap₂, _∙_, subst}
 use Prim.Native.Nat.{ℕ, _+_, _<_, _≤_}
 use native.Mathlib.Nat.{zero-add}
 use native.Mathlib.Omega.{arith}
-use borrow.Author.Tests.{lt-ltb, le-ltb}
-use mathlib.Core.Bool.{Bool, true, false, cond}
+use borrow.Author.Tests.{lt-ltb, le-ltb, eq-eqb, eqb-true}
+use mathlib.Core.Bool.{Bool, true, false, not, cond}
 use mathlib.Core.List.{List}
+use lib.Dec.{eqb}
 use Rattle.spec.specs.Config.{Config}
-use Rattle.spec.specs.Entry.{frameLimit}
+use Rattle.spec.specs.declared.Answer.the-variants as answer
+use Rattle.spec.specs.Entry.{wordOf, frameLimit}
+use Rattle.spec.specs.Bytes.{bytesAt}
+use Rattle.words.specs.Words.{wordIn}
 use Rattle.words.specs.After.{After, yields}
 use Rattle.entry.specs.declared.HostPhysical.{HostPhysical}
 use Rattle.layout.specs.declared.HostWalk.{HostWalk}
@@ -18,11 +22,15 @@ use Rattle.walk.specs.declared.Walked.{Walked}
 use Rattle.walk.specs.declared.Walked.the-variants as walked
 use Rattle.translate.specs.declared.Held.{Held}
 use Rattle.translate.specs.declared.Translated.{Translated}
-use Rattle.translate.specs.Translate.{HeldFits, translation, exitBy, directOf, servedOf, damaged, checkedOf, judgedBy, lackingOf, throughOf, unshadowedOf, servesOf, foundOf, missedOf, foundBy, translateOf, unservedOf}
+use Rattle.translate.specs.Translate.{HeldFits, translation, exitBy, directOf, servedOf, damaged, checkedOf, judgedBy, bitlessOf, lackingOf, throughOf, unshadowedOf, servesOf, foundOf, missedOf, foundBy, translateOf, unservedOf}
 use Rattle.translate.proofs.Fits.{ArrivedIn, FoundIs, found-is}
-use Rattle.translate.proofs.Bits.{through-part}
+use Rattle.translate.proofs.Bits.{through-part, direct-page, bitless-none}
 use Rattle.translate.proofs.Leaves.{Leaves, translate-leaves}
-use Rattle.request.specs.Access.{ReachesFrame, setBy, settledOf, servingBy, pathHeldOf, loadBy, loadFrom, storeBy, storeFrom}
+use Rattle.drops.specs.declared.Cut.the-variants.{Word}
+use Rattle.drops.specs.Drop.{scanOf}
+use Rattle.shadow.specs.Watch.{watchedOf}
+use Rattle.layout.specs.Layout.{page}
+use Rattle.request.specs.Access.{ReachesFrame, serving, setBy, settledOf, put, droppedBy, droppedOf, bytesIn, servingBy, pathHeldOf, loadBy, loadFrom, loadOf, writtenBy, storeBy, storeFrom, storeOf, plainlyBy, plainlyOf}
 
 -- in the guest area, so below the limit
 reaches : (c : Config) (r : Walked) → c .frames ≤ 65536 → ArrivedIn c r → ReachesFrame r
@@ -165,6 +173,83 @@ module _ (c : Config) (ht root : ℕ) (h k : Held) (a w : ℕ) where
   store-plainly v e (walked.Arrived t y n) m = refl
   store-plainly v e (walked.Faulted x n) m = refl
   store-plainly v e walked.Damaged m = refl
+
+-- at depth 0 the path held for a request leads to its page, and no bit is looked at
+pub page-reached : (c : Config) (ht : ℕ) (m : List ℕ) (h : Held) (root : ℕ) (st : Bool) (a d : ℕ) (t : HostPhysical) (y : Bool) → d ≡ 0 → pathHeldOf c m h st a d ≡ host.Found t y
+    → translateOf c ht m h root st a d ≡ yields (translation h 0 (walked.Arrived t y (c .levels)) false) m
+unfolding bitlessOf
+page-reached c ht m h root st a d t y e found =
+    let none = bitless-none c ht m st a d (t .0) y (ap (λ b. cond b true (not (c .bits))) (eq-eqb d 0 e)) in
+    path-plainly c ht m h root st a d t y none (omega (arith, e)) found ∙ ap (λ (r : Walked). yields (translation h (exitBy r) r false) m) (direct-page c ht m st a d (t .0) y e)
+
+pub load-page : (c : Config) (ht : ℕ) (m : List ℕ) (h : Held) (root a w d : ℕ) (t : HostPhysical) (y : Bool) → d ≡ 0 → pathHeldOf c m h false a d ≡ host.Found t y
+    → serving h (answer.Value (bytesAt a w (wordIn m (t .0) (wordOf a))) (c .levels) 0) m ≡ loadOf c ht m h root a w d
+unfolding loadOf settledOf
+load-page c ht m h root a w d t y e found = ap (loadFrom c ht root h a w) (sym (page-reached c ht m h root false a d t y e found))
+
+-- ---- the common case of a store
+
+-- what it is when it is one
+pub record Plain (c : Config) (m : List ℕ) (h : Held) (a w d v : ℕ) (n : List ℕ) : Type 0 where
+  pub page : HostPhysical
+  pub writable : Bool
+  pub none : d ≡ 0
+  pub found : pathHeldOf c m h true a d ≡ host.Found page writable
+  pub unwatched : watchedOf c m (h .pool .fresh) (page .0) ≡ false
+  pub bytes : n ≡ bytesIn m (page .0) a w v
+
+module _ (c : Config) (m : List ℕ) (h : Held) (a w d v : ℕ) where
+  pub plainly-one : (n : List ℕ) → yields true n ≡ plainlyOf c m h a w d v → Plain c m h a w d v n
+  unfolding plainlyOf
+  plainly-one n k = by (eqb d 0) refl k
+    where
+      no : {A : Type 0} {x : List ℕ} → yields true n ≡ yields false x → A
+      no q = absurd (subst (λ b. cond b (Unit {0}) ⊥) (ap (λ (z : After Bool). z .result) q) tt)
+
+      at : (t : HostPhysical) (y b : Bool) → d ≡ 0 → pathHeldOf c m h true a d ≡ host.Found t y → watchedOf c m (h .pool .fresh) (t .0) ≡ b
+          → yields true n ≡ cond b (yields false m) (yields true (bytesIn m (t .0) a w v)) → Plain c m h a w d v n
+      at t y true e f q k = no k
+      at t y false e f q k = record { page = t; writable = y; none = e; found = f; unwatched = q; bytes = ap (λ (z : After Bool). z .memory) k }
+
+      go : (x : HostWalk) → d ≡ 0 → pathHeldOf c m h true a d ≡ x → yields true n ≡ plainlyBy c m h a w v x → Plain c m h a w d v n
+      go (host.Found t y) e f k = at t y (watchedOf c m (h .pool .fresh) (t .0)) e f refl k
+      go (host.Absent i) e f k = no k
+      go host.Damaged e f k = no k
+
+      by : (b : Bool) → eqb d 0 ≡ b → yields true n ≡ cond b (plainlyBy c m h a w v (pathHeldOf c m h true a d)) (yields false m) → Plain c m h a w d v n
+      by true e k = go (pathHeldOf c m h true a d) (eqb-true d 0 e) refl k
+      by false e k = no k
+
+  -- any other has changed nothing
+  pub plainly-keeps : (n : List ℕ) → yields false n ≡ plainlyOf c m h a w d v → n ≡ m
+  unfolding plainlyOf
+  plainly-keeps n k = by (eqb d 0) k
+    where
+      no : {x : List ℕ} → yields false n ≡ yields true x → n ≡ m
+      no q = absurd (subst (λ b. cond b ⊥ (Unit {0})) (ap (λ (z : After Bool). z .result) q) tt)
+
+      at : (b : Bool) (t : HostPhysical) → yields false n ≡ cond b (yields false m) (yields true (bytesIn m (t .0) a w v)) → n ≡ m
+      at true t k = ap (λ (z : After Bool). z .memory) k
+      at false t k = no k
+
+      go : (x : HostWalk) → yields false n ≡ plainlyBy c m h a w v x → n ≡ m
+      go (host.Found t y) k = at (watchedOf c m (h .pool .fresh) (t .0)) t k
+      go (host.Absent i) k = ap (λ (z : After Bool). z .memory) k
+      go host.Damaged k = ap (λ (z : After Bool). z .memory) k
+
+      by : (b : Bool) → yields false n ≡ cond b (plainlyBy c m h a w v (pathHeldOf c m h true a d)) (yields false m) → n ≡ m
+      by true k = go (pathHeldOf c m h true a d) k
+      by false k = ap (λ (z : After Bool). z .memory) k
+
+-- then it is a store
+pub plainly-stores : (c : Config) (ht : ℕ) (m : List ℕ) (h : Held) (root a w d v : ℕ) (n : List ℕ) → yields true n ≡ plainlyOf c m h a w d v → serving h (answer.Done (c .levels) 0) n ≡ storeOf c ht m h root a w d v
+unfolding storeOf settledOf droppedOf
+plainly-stores c ht m h root a w d v n k =
+    let p = plainly-one c m h a w d v n k in
+    let t = p .page in
+    ap (serving h (answer.Done (c .levels) 0)) (p .bytes)
+    ∙ ap (λ b. writtenBy h h (c .levels) 0 (t .0) a w v (λ x. x) (cond b (droppedBy (h .pool) (scanOf c (Word (page (t .0)) (wordOf a)) (h .pool) m)) (put (h .pool) 0 true m))) (sym (p .unwatched))
+    ∙ ap (storeFrom c ht root h a w v) (sym (page-reached c ht m h root true a d t (p .writable) (p .none) (p .found)))
 
 pub set-none : (r : Walked) (m : List ℕ) → setBy r m m ≡ m
 set-none (walked.Arrived t y n) m = refl

@@ -1,8 +1,10 @@
 -- Loads and stores from address to bytes, and the held paths that a store drops; for any memory.
 -- Assumes nothing.
+use mathlib.Core.Path.{_≡_}
 use Prim.Native.Nat.{ℕ, _+_, _%_, _<_, _≤_}
 use mathlib.Core.Bool.{Bool, true, false, cond}
 use mathlib.Core.List.{List}
+use lib.Dec.{eqb}
 use Rattle.spec.specs.declared.Answer.{Answer}
 use Rattle.spec.specs.declared.Answer.the-variants as answer
 use Rattle.spec.specs.Config.{Config}
@@ -28,7 +30,7 @@ use Rattle.translate.specs.declared.Held.{Held}
 use Rattle.request.specs.declared.Put.{Put}
 use Rattle.request.specs.declared.Served.{Served}
 use Rattle.translate.specs.declared.Translated.{Translated}
-use Rattle.translate.specs.Translate.{exitBy, whole, servesOf, foundOf, translateOf}
+use Rattle.translate.specs.Translate.{exitBy, whole, servesOf, foundOf, unservedOf, translateOf}
 
 -- what a request leaves
 abbrev pub serving : Held → Answer → List ℕ → After Served
@@ -92,6 +94,10 @@ servingBy st d host.Damaged = host.Damaged
 unfoldable pub pathHeldOf : Config → List ℕ → Held → Bool → ℕ → ℕ → HostWalk
 pathHeldOf c m h st a d = servingBy st d (foundOf c m h a d)
 
+-- a request that no held path serves is translated without one
+abbrev pub Unserved : Config → ℕ → List ℕ → Held → ℕ → Bool → ℕ → ℕ → Type 0
+Unserved c ht m h root st a d = translateOf c ht m h root st a d ≡ unservedOf c ht m h root st a d
+
 -- ---- load
 
 -- of w bytes, with what its bits leave (set); h: what was held when the load came
@@ -129,6 +135,16 @@ storeFrom c ht root h a w v o = storeBy c h a w v (settledOf c ht root true a (o
 
 unfoldable pub storeOf : Config → ℕ → List ℕ → Held → ℕ → ℕ → ℕ → ℕ → ℕ → After Served
 storeOf c ht m h root a w d v = storeFrom c ht root h a w v (translateOf c ht m h root true a d)
+
+-- the common case: a store of depth 0 through the path held for it, into a frame that is not watched, writes its bytes. Whether it is one,
+-- and the memory then
+abbrev pub plainlyBy : Config → List ℕ → Held → ℕ → ℕ → ℕ → HostWalk → After Bool
+plainlyBy c m h a w v (host.Found t y) = cond (watchedOf c m (h .pool .fresh) (t .0)) (yields false m) (yields true (bytesIn m (t .0) a w v))
+plainlyBy c m h a w v (host.Absent n) = yields false m
+plainlyBy c m h a w v host.Damaged = yields false m
+
+unfoldable pub plainlyOf : Config → List ℕ → Held → ℕ → ℕ → ℕ → ℕ → After Bool
+plainlyOf c m h a w d v = cond (eqb d 0) (plainlyBy c m h a w v (pathHeldOf c m h true a d)) (yields false m)
 
 -- a device store counts the words of its host walk; H or W is an exit, and so is a granted store into a watched frame. It sets no bits
 abbrev pub deviceBy : Config → List ℕ → Held → ℕ → ℕ → ℕ → Walked → After Served

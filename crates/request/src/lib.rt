@@ -7,9 +7,10 @@ ghost use Rattle.spec.specs.Entry.{wordOf, frameLimit};
 ghost use Rattle.words.specs.After.{yields};
 ghost use Rattle.words.specs.Words.{wordIn};
 ghost use Rattle.layout.specs.Layout.{LayoutFits, config};
+ghost use Rattle.layout.specs.declared.HostWalk.the-variants as host;
 ghost use Rattle.shadow.specs.Watch.{watchedOf};
-ghost use Rattle.translate.specs.Translate.{HeldFits, translation};
-ghost use Rattle.request.specs.Access.{Inside, ReachesFrame, setBy, bitsOf, settledOf, droppedOf, bytesIn, pathHeldOf, loadBy, loadOf, finishBy, writtenBy, storeBy, storeFrom, storeOf, deviceOf};
+ghost use Rattle.translate.specs.Translate.{HeldFits, translation, translateOf};
+ghost use Rattle.request.specs.Access.{Inside, ReachesFrame, setBy, bitsOf, settledOf, droppedOf, bytesIn, pathHeldOf, Unserved, loadBy, loadOf, finishBy, writtenBy, storeBy, storeFrom, storeOf, plainlyOf, deviceOf};
 use entry::GuestPhysical;
 use entry::GuestVirtual;
 use entry::HostPhysical;
@@ -32,7 +33,7 @@ pub struct Served {
 // ---- the bytes
 
 // The word of its page around an address.
-fn word_of(address: u64) -> u64
+pub fn word_of(address: u64) -> u64
     ensures { λ r. ⌜ (r ≡ wordOf address) × (r < 512) ⌝ }
 {
     address % 4096 / 8
@@ -68,7 +69,7 @@ fn with_bytes(mem: &[u64], page: HostPhysical, address: u64, width: u64, value: 
 }
 
 // The bytes of a page at that address get the low bytes of the value.
-fn put_bytes(mem: &mut [u64], page: HostPhysical, address: u64, width: u64, value: u64)
+pub fn put_bytes(mem: &mut [u64], page: HostPhysical, address: u64, width: u64, value: u64)
     requires { ⌜ (page .0 < frameLimit) × (Inside address width) ⌝ }
     ensures { λ r. ⌜ now (mem .exit) ≡ bytesIn (now (mem .entry)) (page .0) address width value ⌝ }
 {
@@ -105,7 +106,7 @@ fn drop_watched(
 }
 
 // The same of any page: one that is not watched has no such word.
-fn drop_readers(
+pub fn drop_readers(
     mem: &mut [u64],
     layout: Layout,
     pool: Pool,
@@ -146,6 +147,23 @@ fn set_own(mem: &mut [u64], space: Space, root: GuestPhysical, store: bool, addr
         Walked::Faulted { fault, reads } => {}
         Walked::Damaged => {}
     }
+}
+
+// They are set if they are to be.
+pub fn settle_own(
+    mem: &mut [u64],
+    space: Space,
+    root: GuestPhysical,
+    address: GuestVirtual,
+    sets: bool,
+)
+    requires { ⌜ LayoutFits (space .layout) ⌝ }
+    ensures { λ r. ⌜ now (mem .exit) ≡ settledOf (config (space .layout)) (space .top) (root .0) true (address .0) sets (now (mem .entry)) ⌝ }
+{
+    if !sets {
+        return;
+    }
+    set_own(mem, space, root, true, address);
 }
 
 // They are set if they are to be and the request came to its word.
@@ -254,7 +272,71 @@ fn loaded(
     }
 }
 
-// A load: 11.
+// A load that no held path serves.
+fn load_unserved(
+    mem: &mut [u64],
+    space: Space,
+    root: GuestPhysical,
+    held: Held,
+    address: GuestVirtual,
+    width: u64,
+    depth: u64,
+) -> Served
+    requires { ⌜ (LayoutFits (space .layout)) × (HeldFits (config (space .layout)) held) × (Inside (address .0) width) × (Unserved (config (space .layout)) (space .top) (now mem) held (root .0) false (address .0) depth) ⌝ }
+    ensures { λ r. ⌜ yields r (now (mem .exit)) ≡ loadOf (config (space .layout)) (space .top) (now (mem .entry)) held (root .0) (address .0) width depth ⌝ }
+{
+    let request = Request {
+        store: false,
+        address: address,
+        depth: depth,
+    };
+    let t = translate::unserved(mem, space, root, held, request);
+    let end = t.walked;
+    let after = t.held;
+    settle(mem, space, root, false, address, end, t.sets);
+    loaded(mem, held, after, end, t.exits, address.0, width)
+}
+
+// A load whose held path leads to a page, or to a guest table in that frame.
+fn load_through(
+    mem: &mut [u64],
+    space: Space,
+    root: GuestPhysical,
+    held: Held,
+    address: GuestVirtual,
+    width: u64,
+    depth: u64,
+    page: HostPhysical,
+    writable: bool,
+) -> Served
+    requires { ⌜ (LayoutFits (space .layout)) × (HeldFits (config (space .layout)) held) × (Inside (address .0) width) × (depth ≤ space .layout .levels) × (pathHeldOf (config (space .layout)) (now mem) held false (address .0) depth ≡ host.Found page writable) ⌝ }
+    ensures { λ r. ⌜ yields r (now (mem .exit)) ≡ loadOf (config (space .layout)) (space .top) (now (mem .entry)) held (root .0) (address .0) width depth ⌝ }
+{
+    let request = Request {
+        store: false,
+        address: address,
+        depth: depth,
+    };
+    if translate::bitless(space.layout, depth) {
+        let walked = translate::direct(mem, space, request, page, writable);
+        let exits = translate::exit_of(walked);
+        return loaded(mem, held, held, walked, exits, address.0, width);
+    }
+    // As translate::through, but that nothing is handed on by way of memory: most loads with bits lack none.
+    let trail = translate::direct_trail(mem, space, request, page, writable);
+    let walked = trail.walked;
+    if !translate::lacking(mem, space.layout, request, walked, &trail.tables) {
+        let exits = translate::exit_of(walked);
+        return loaded(mem, held, held, walked, exits, address.0, width);
+    }
+    let t = translate::judged(mem, space, root, held, request, walked);
+    let end = t.walked;
+    let after = t.held;
+    settle(mem, space, root, false, address, end, t.sets);
+    loaded(mem, held, after, end, t.exits, address.0, width)
+}
+
+// A load: 11. Most are of depth 0 and held: they are told here, with nothing handed on.
 pub fn load(
     mem: &mut [u64],
     space: Space,
@@ -267,31 +349,30 @@ pub fn load(
     requires { ⌜ (LayoutFits (space .layout)) × (HeldFits (config (space .layout)) held) × (Inside (address .0) width) ⌝ }
     ensures { λ r. ⌜ yields r (now (mem .exit)) ≡ loadOf (config (space .layout)) (space .top) (now (mem .entry)) held (root .0) (address .0) width depth ⌝ }
 {
-    let request = Request {
-        store: false,
-        address: address,
-        depth: depth,
-    };
     if depth <= space.layout.levels {
         match path_held(mem, space.layout, held, false, address, depth) {
             HostWalk::Found { page, writable } => {
-                if translate::bitless(space.layout, depth) {
-                    let walked = translate::direct(mem, space, request, page, writable);
-                    let exits = translate::exit_of(walked);
-                    return loaded(mem, held, held, walked, exits, address.0, width);
+                if depth == 0 {
+                    return Served {
+                        held: held,
+                        answer: Answer::Value {
+                            word: read_bytes(mem, page, address.0, width),
+                            references: space.layout.levels,
+                            exits: 0,
+                        },
+                    };
                 }
-                // As translate::through, but that nothing is handed on by way of memory: most loads with bits lack none.
-                let trail = translate::direct_trail(mem, space, request, page, writable);
-                let walked = trail.walked;
-                if !translate::lacking(mem, space.layout, request, walked, &trail.tables) {
-                    let exits = translate::exit_of(walked);
-                    return loaded(mem, held, held, walked, exits, address.0, width);
-                }
-                let t = translate::judged(mem, space, root, held, request, walked);
-                let end = t.walked;
-                let after = t.held;
-                settle(mem, space, root, false, address, end, t.sets);
-                return loaded(mem, held, after, end, t.exits, address.0, width);
+                return load_through(
+                    mem,
+                    space,
+                    root,
+                    held,
+                    address,
+                    width,
+                    depth,
+                    page,
+                    writable,
+                );
             }
             HostWalk::Absent { reads } => {}
             HostWalk::Damaged => {
@@ -299,11 +380,7 @@ pub fn load(
             }
         }
     }
-    let t = translate::unserved(mem, space, root, held, request);
-    let end = t.walked;
-    let after = t.held;
-    settle(mem, space, root, false, address, end, t.sets);
-    loaded(mem, held, after, end, t.exits, address.0, width)
+    load_unserved(mem, space, root, held, address, width, depth)
 }
 
 // The bytes of a granted store are written, and what it says; put: what its drops left.
@@ -412,7 +489,7 @@ fn stored(
 }
 
 // The same of one that may have bits to set: after the drops, which may meet damage, and before its bytes.
-fn stored_by_bits(
+pub fn stored_by_bits(
     mem: &mut [u64],
     space: Space,
     root: GuestPhysical,
@@ -462,8 +539,38 @@ fn stored_by_bits(
     }
 }
 
-// A store; the paths whose shadow part read the word around its bytes are dropped: 11.
-pub fn store(
+// A store of depth 0 through a held path into a frame that is not watched, as most are: no path goes, and its bytes are written. Whether
+// it is one; if not, nothing is done.
+pub fn store_plainly(
+    mem: &mut [u64],
+    layout: Layout,
+    held: Held,
+    address: GuestVirtual,
+    width: u64,
+    depth: u64,
+    value: u64,
+) -> bool
+    requires { ⌜ (LayoutFits layout) × (HeldFits (config layout) held) × (Inside (address .0) width) ⌝ }
+    ensures { λ r. ⌜ yields r (now (mem .exit)) ≡ plainlyOf (config layout) (now (mem .entry)) held (address .0) width depth value ⌝ }
+{
+    if depth != 0 {
+        return false;
+    }
+    match path_held(mem, layout, held, true, address, depth) {
+        HostWalk::Found { page, writable } => {
+            if shadow::watched(mem, layout, held.pool.fresh, page) {
+                return false;
+            }
+            put_bytes(mem, page, address.0, width, value);
+            true
+        }
+        HostWalk::Absent { reads } => false,
+        HostWalk::Damaged => false,
+    }
+}
+
+// Any store, by its translation; the paths whose shadow part read the word around its bytes are dropped: 11.
+fn store_translated(
     mem: &mut [u64],
     space: Space,
     root: GuestPhysical,
@@ -509,6 +616,64 @@ pub fn store(
     }
     let t = translate::unserved(mem, space, root, held, request);
     stored_by_bits(mem, space, root, held, t, address, width, value)
+}
+
+// A store, the common case first: 11.
+pub fn store(
+    mem: &mut [u64],
+    space: Space,
+    root: GuestPhysical,
+    held: Held,
+    address: GuestVirtual,
+    width: u64,
+    depth: u64,
+    value: u64,
+) -> Served
+    requires { ⌜ (LayoutFits (space .layout)) × (HeldFits (config (space .layout)) held) × (Inside (address .0) width) ⌝ }
+    ensures { λ r. ⌜ yields r (now (mem .exit)) ≡ storeOf (config (space .layout)) (space .top) (now (mem .entry)) held (root .0) (address .0) width depth value ⌝ }
+{
+    if store_plainly(mem, space.layout, held, address, width, depth, value) {
+        return Served {
+            held: held,
+            answer: Answer::Done {
+                references: space.layout.levels,
+                exits: 0,
+            },
+        };
+    }
+    store_translated(mem, space, root, held, address, width, depth, value)
+}
+
+// A load's or a store's translation, by the path held for it or without one.
+pub fn reached(
+    mem: &mut [u64],
+    space: Space,
+    root: GuestPhysical,
+    held: Held,
+    request: Request,
+) -> Translated
+    requires { ⌜ (LayoutFits (space .layout)) × (HeldFits (config (space .layout)) held) ⌝ }
+    ensures { λ r. ⌜ yields r (now (mem .exit)) ≡ translateOf (config (space .layout)) (space .top) (now (mem .entry)) held (root .0) (request .store) (request .address .0) (request .depth) ⌝ }
+{
+    if request.depth <= space.layout.levels {
+        match path_held(
+            mem,
+            space.layout,
+            held,
+            request.store,
+            request.address,
+            request.depth,
+        ) {
+            HostWalk::Found { page, writable } => {
+                return translate::through(mem, space, root, held, request, page, writable);
+            }
+            HostWalk::Absent { reads } => {}
+            HostWalk::Damaged => {
+                return translate::damaged(held);
+            }
+        }
+    }
+    translate::unserved(mem, space, root, held, request)
 }
 
 // A device's store at a guest-physical address: its host walk, then the bytes as for a store; no bits: 11.

@@ -8,6 +8,7 @@ use Rattle.spec.specs.Plain.{hosted, entry, next, levels, walk}
 use Rattle.spec.specs.Machine.{hostCost, world}
 use Rattle.spec.specs.Bits.{owed, owes, bitsSet}
 use Rattle.spec.specs.Call.{plain, deviceWalk, verdict, access, machineStep}
+use Rattle.spec.specs.Choice.{chargeOf, observed, operated}
 use Rattle.spec.specs.Count.{request, storing, bookStep}
 use Rattle.spec.specs.Refusal.{openRefusal, alikeFrom, tests, refusal}
 use Rattle.spec.specs.Forecast.{served, figuresOf}
@@ -15,5 +16,5 @@ use Rattle.spec.specs.Run.{step, run, after, opening}
 
 -- written `unfolding specifying`; its value is nobody's
 unfoldable pub specifying : ℕ
-unfolding bitSet present writable accessed dirty withBit frameOf malformed index indexes pageOf wordOf part withPart bytesAt withBytes trace hosted entry next levels walk hostCost world owed owes bitsSet plain deviceWalk verdict access machineStep request storing bookStep openRefusal alikeFrom tests refusal served figuresOf step run after opening
+unfolding bitSet present writable accessed dirty withBit frameOf malformed index indexes pageOf wordOf part withPart bytesAt withBytes trace hosted entry next levels walk hostCost world owed owes bitsSet plain deviceWalk verdict access machineStep chargeOf observed operated request storing bookStep openRefusal alikeFrom tests refusal served figuresOf step run after opening
 specifying = 0

@@ -1,5 +1,5 @@
 -- What a call changes in the book, and what it costs. Document 01, "Marks and held paths" and "Counts";
--- document 02, 6).
+-- document 02, 6) and 7).
 -- Assumes nothing.
 use Prim.Native.Nat.{ℕ, zero, suc, _+_, _-_}
 use mathlib.Core.Bool.{Bool, true, false, not, _&&_, _||_, cond}
@@ -15,7 +15,8 @@ use Rattle.spec.specs.Walk.{World, Trace, Result, granted, failed, trace
 use Rattle.spec.specs.Plain.{Place, upper, shadowPart, directPart}
 use Rattle.spec.specs.Machine.{Machine, world}
 use Rattle.spec.specs.Bits.{owes, judged, dirtyAt}
-use Rattle.spec.specs.Book.{Mark, Held, Book, markAt, sameMark, depth, find, holding, fill, dropWord, dropMapping, dropPrefix, dropAll, watched}
+use Rattle.spec.specs.Book.{Held, Book, markAt, depth, find, holding, unmarking, fill, dropWord, dropMapping, dropAll, watched}
+use Rattle.spec.specs.Choice.{chargeOf, observed, emptied, operated}
 use Rattle.spec.specs.Call.{Call, root, map, unmap, setMark, clearMark, load, store, device, forecast, addressIndexes, plain, verdict, deviceWalk}
 
 pub record Counted : Type 0 where
@@ -112,19 +113,21 @@ storing i (granted p) k = record {
 abbrev pub free : Book → Counted
 free b = record { references = 0; exits = 0; book = b }
 
+-- a guest load or store goes into the window, with what it is charged to, after its drops; references and exits are as they were
+abbrev pub windowed : Config → Option (List ℕ) → Counted → Counted
+windowed c x k = record { references = k .references; exits = k .exits; book = observed c x (k .book) }
+
 unfoldable pub bookStep : Config → Call → Machine → Book → Counted
-bookStep c (root r) m b = free (holding b (dropAll (b .held)))
+bookStep c (root r) m b = free (emptied (holding b (dropAll (b .held))))
 bookStep c (map g f w) m b = free (holding b (dropMapping g (b .held)))
 bookStep c (unmap g) m b = free (holding b (dropMapping g (b .held)))
-bookStep c (setMark a n) m b =
-    let x : Mark = markAt c n (addressIndexes c a) in
-    free (record { marks = x ∷ b .marks; held = dropPrefix (x .prefix) (b .held) })
-bookStep c (clearMark a n) m b =
-    let x : Mark = markAt c n (addressIndexes c a) in
-    free (record { marks = keep (λ y. not (sameMark x y)) (b .marks); held = dropPrefix (x .prefix) (b .held) })
-bookStep c (load a w) m b = request c m b false a (depth (b .marks) (addressIndexes c a))
+bookStep c (setMark a n) m b = free (operated c (markAt c n (addressIndexes c a)) b)
+bookStep c (clearMark a n) m b = free (unmarking (markAt c n (addressIndexes c a)) b)
+bookStep c (load a w) m b = windowed c none (request c m b false a (depth (b .marks) (addressIndexes c a)))
 bookStep c (store a w v) m b =
-    storing (wordOf a) (verdict c m true a) (request c m b true a (depth (b .marks) (addressIndexes c a)))
+    let r : Result Fault Place = verdict c m true a in
+    let k : Counted = request c m b true a (depth (b .marks) (addressIndexes c a)) in
+    windowed c (chargeOf c (wordOf a) r (k .book .held)) (storing (wordOf a) r k)
 bookStep c (device a w v) m b =
     let r : Trace Fault Place = deviceWalk c m a in
     storing (wordOf a) (r .result) (unshadowed b (r .count) (r .result))

@@ -27,7 +27,7 @@ memory =
 
 unfoldable pub start : State
 start =
-    let s : State = from (begun (opening config memory)) in
+    let s : State = from (begun (opening config false memory)) in
     after (map 0 10 true ∷ map 1 11 true ∷ map 2 12 true ∷ map 3 13 true ∷ map 4 14 true ∷ map 5 15 true ∷ map 6 16 true ∷ map 7 17 true ∷ root 0 ∷ []) s
 
 unfoldable pub setLines : State → Bool

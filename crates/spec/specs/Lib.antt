@@ -8,14 +8,17 @@ pub mod Plain
 pub mod Machine
 pub mod Bits
 pub mod Book
+pub mod Choice
 pub mod Search
 pub mod Call
 pub mod Count
 pub mod Refusal
 pub mod Forecast
 pub mod Run
+pub mod Heard
 pub mod Serving
 pub mod Quiet
 pub mod Computing
 pub mod Guest
 pub mod GuestBits
+pub mod GuestChoice

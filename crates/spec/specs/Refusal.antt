@@ -1,7 +1,7 @@
 -- The refusals, each the number of the first test that fails. Document 01, "Each operation and its no".
 -- Assumes nothing.
 use Prim.Native.Nat.{ℕ, suc, _+_, _-_, _/_, _%_, _^_}
-use mathlib.Core.Bool.{Bool, true, not, _&&_, _||_, cond}
+use mathlib.Core.Bool.{Bool, true, false, not, _&&_, _||_, cond}
 use mathlib.Core.List.{List, [], _∷_}
 use mathlib.Core.Option.{Option, none, some}
 use lib.Dec.{eqb, leb, ltb}
@@ -9,7 +9,9 @@ use lib.ListN.{length}
 use Rattle.spec.specs.Config.{Config, guestBase, signBit, frameBits}
 use Rattle.spec.specs.Bytes.{widthFits, aligned}
 use Rattle.spec.specs.Machine.{Machine, with, isMapped, hostTables}
-use Rattle.spec.specs.Book.{Mark, Book, markAt, isSet}
+use Rattle.spec.specs.Prefix.{same, any}
+use Rattle.spec.specs.Book.{Mark, Book, Window, markAt, isSet}
+use Rattle.spec.specs.Choice.{windowRoom, leafMark, owned, roomFor}
 use Rattle.spec.specs.Call.{Call, root, map, unmap, setMark, clearMark, load, store, device, forecast, addressIndexes}
 
 abbrev pub firstFailed : List (Bool × ℕ) → Option ℕ
@@ -65,20 +67,55 @@ abbrev pub topFits : Config → Option ℕ → Bool
 topFits c none = true
 topFits c (some f) = inGuestArea c f
 
+-- the fields of the automatic choice (document 02, 7). A charge is to a prefix of N − 1 indexes
+abbrev pub prefixFits : Config → List ℕ → Bool
+prefixFits c p = eqb (length p) (c .levels - 1) && allOf (λ i. ltb i 512) p
+
+abbrev pub chargeFits : Config → Option (List ℕ) → Bool
+chargeFits c none = true
+chargeFits c (some p) = prefixFits c p
+
+abbrev pub uncharged : Option (List ℕ) → Bool
+uncharged none = true
+uncharged (some p) = false
+
+abbrev pub windowFits : Config → Window → Bool
+windowFits c w = leb (length w) windowRoom && allOf (chargeFits c) w
+
+abbrev pub noTwoSame : List (List ℕ) → Bool
+noTwoSame [] = true
+noTwoSame (p ∷ ps) = not (any (same p) ps) && noTwoSame ps
+
+-- each automatic mark is set, of level 1, and no two are alike
+abbrev pub automaticFits : List Mark → List (List ℕ) → Bool
+automaticFits ms ps = allOf (λ p. isSet (leafMark p) ms) ps && noTwoSame ps
+
+abbrev pub isEmpty : List (List ℕ) → Bool
+isEmpty [] = true
+isEmpty (p ∷ ps) = false
+
+-- with the choice off there is no automatic mark and no charge
+abbrev pub choiceFits : Config → Bool → List Mark → List (List ℕ) → Window → Bool
+choiceFits c on ms ps w = automaticFits ms ps && windowFits c w && (on || (isEmpty ps && allOf uncharged w))
+
 -- what a record says, as the rule reads it; top is the host frame that is held at depth N, if one is
 pub record Record : Type 0 where
   pub words : ℕ
   pub config : Config
   pub root : ℕ
   pub marks : List Mark
+  pub choice : Bool
+  pub automatic : List (List ℕ)
+  pub window : Window
   pub top : Option ℕ
 
--- refused with 3 unless the memory has the record's length, the sizes are such as an opening grants, the root and the marks fit,
--- and a frame held at depth N lies in the guest area
+-- refused with 3 unless the memory has the record's length, the sizes are such as an opening grants, the root, the marks and what the
+-- automatic choice keeps fit, and a frame held at depth N lies in the guest area
 unfoldable pub recordFits : Record → ℕ → Bool
 recordFits r len =
     eqb len (r .words) && wordsFit (r .words) && areasFit (r .config) && eqb (r .config .frames) (r .words / 512)
-    && frameFits (r .config) (r .root) && marksFit (r .config) (r .marks) && topFits (r .config) (r .top)
+    && frameFits (r .config) (r .root) && marksFit (r .config) (r .marks) && choiceFits (r .config) (r .choice) (r .marks) (r .automatic) (r .window)
+    && topFits (r .config) (r .top)
 
 -- ---- later calls; those that no covered run meets, 3 and 11, are not here
 
@@ -113,10 +150,10 @@ tests c (map g f w) m b =
     (frameFits c g, 8) ∷ (inGuestArea c f, 9) ∷ (leb (hostTables c (with g f w (m .mappings))) (c .hosts), 10) ∷ []
 tests c (unmap g) m b = (frameFits c g, 8) ∷ (isMapped g (m .mappings), 12) ∷ []
 tests c (setMark a n) m b =
-    let set : Bool = isSet (markAt c n (addressIndexes c a)) (b .marks) in
-    (addressFits c a, 4) ∷ (levelFits c n, 5) ∷ (not set, 6) ∷ (ltb (length (b .marks)) (c .markRoom), 7) ∷ []
+    let set : Bool = isSet (markAt c n (addressIndexes c a)) (owned b) in
+    (addressFits c a, 4) ∷ (levelFits c n, 5) ∷ (not set, 6) ∷ (roomFor c b, 7) ∷ []
 tests c (clearMark a n) m b =
-    let set : Bool = isSet (markAt c n (addressIndexes c a)) (b .marks) in
+    let set : Bool = isSet (markAt c n (addressIndexes c a)) (owned b) in
     (addressFits c a, 4) ∷ (levelFits c n, 5) ∷ (set, 6) ∷ []
 tests c (forecast xs) m b = (not (c .bits), 16) ∷ (leb (length xs) forecastRoom, 14) ∷ []
 

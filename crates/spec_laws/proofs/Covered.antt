@@ -31,6 +31,7 @@ use Rattle.spec_laws.proofs.EntryBits.{Kept, kept-refl}
 use Rattle.spec_laws.proofs.Asks.{AnswerIn}
 use Rattle.spec_laws.proofs.Granted.{no-grant, granted-is, through, hosted-granted}
 use Rattle.spec_laws.proofs.Parts.{direct-trace}
+use Rattle.spec_laws.proofs.Choice.{observed-held, operated-held}
 use Rattle.spec_laws.proofs.Counts.{shadowOf, directOf, verdict-granted}
 use Rattle.spec_laws.proofs.Refill.{others-all}
 use Rattle.spec_laws.proofs.Runs.{fill-all, request-book}
@@ -262,10 +263,10 @@ call-stands c m b x f old = by x
     by (root r) = tt
     by (map g t w) = remaps (with g t w (m .mappings)) g (λ j n. lookup-with g j t w (m .mappings) n)
     by (unmap g) = remaps (without g (m .mappings)) g (λ j n. lookup-without g j (m .mappings) n)
-    by (setMark a n) = all-kept (Stands c m) (λ h. not (begins (markAt c n (addressIndexes c a) .prefix) (h .path))) (b .held) old
+    by (setMark a n) = operated-held (Stands c m) c (markAt c n (addressIndexes c a)) b old
     by (clearMark a n) = all-kept (Stands c m) (λ h. not (begins (markAt c n (addressIndexes c a) .prefix) (h .path))) (b .held) old
-    by (load a w) = loads a w (verdict c m false a) (request-stands c m b false a (depth (b .marks) (addressIndexes c a)) f old)
-    by (store a w v) = stores a w v (verdict c m true a) refl (request-stands c m b true a (depth (b .marks) (addressIndexes c a)) f old)
+    by (load a w) = observed-held _ c none _ (loads a w (verdict c m false a) (request-stands c m b false a (depth (b .marks) (addressIndexes c a)) f old))
+    by (store a w v) = observed-held _ c _ _ (stores a w v (verdict c m true a) refl (request-stands c m b true a (depth (b .marks) (addressIndexes c a)) f old))
     by (device a w v) = devices a w v (unshadowed b ((deviceWalk c m a) .count) ((deviceWalk c m a) .result)) ((deviceWalk c m a) .result) refl old
     by (forecast xs) = old
 

@@ -78,7 +78,7 @@ module _ (n e : ℕ) (is js : List ℕ) (same : take (n - suc e) is ≡ take (n 
           let l : m .level < suc e = nleb→lt (suc e) (m .level) (subst (λ b. T (not b)) (sym h) tt) in
           at-most (begins (m .prefix) is) (omega arith) ∙ sym (at-most (begins (m .prefix) js) (omega arith))
 
-  depth-above : (ms : List Mark) → All (MarkFits n) ms → max e (depth ms is) ≡ max e (depth ms js)
+  pub depth-above : (ms : List Mark) → All (MarkFits n) ms → max e (depth ms is) ≡ max e (depth ms js)
   depth-above [] a = refl
   depth-above (m ∷ ms) a =
       max-left e (levelFor m is) (levelFor m js) (depth ms is) (level-same m (a .0)) ∙ max-right e (levelFor m js) (depth ms is) (depth ms js) (depth-above ms (a .1))

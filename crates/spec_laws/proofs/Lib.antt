@@ -15,7 +15,14 @@ pub mod Granted
 pub mod Counts
 pub mod Depth
 pub mod Search
+pub mod Charges
+pub mod Choice
+pub mod Lower
+pub mod Leaving
+pub mod Least
 pub mod Runs
+pub mod Rules
+pub mod Unseen
 pub mod Asks
 pub mod Trail
 pub mod Keeps

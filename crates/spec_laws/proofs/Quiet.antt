@@ -19,11 +19,14 @@ use Rattle.spec.specs.Plain.{Place, upper}
 use Rattle.spec.specs.Machine.{Machine, stored}
 use Rattle.spec.specs.Book.{Held, Book, depth, find, paths, holding, watched, readsWord}
 use Rattle.spec.specs.Call.{Call, root, map, unmap, setMark, clearMark, load, store, device, forecast, Outcome, addressIndexes, plain, access, machineStep}
-use Rattle.spec.specs.Count.{Counted, one, serves, others, isGranted, request, storing, bookStep}
+use Rattle.spec.specs.Choice.{chargeOf}
+use Rattle.spec.specs.Count.{Counted, one, serves, others, isGranted, request, storing, bookStep, windowed}
 use Rattle.spec.specs.Refusal.{allOf, refusal}
 use Rattle.spec.specs.Run.{State, lineOf, answered, step, run, after}
 use Rattle.spec.specs.Serving.{exitsPaid, allPaid}
 use Rattle.spec.specs.Quiet.{Role, roleOf, roleBy, met, grantedAt, onlyGranted, translated, comesToWatched, unwatchedAt, noneWatched, pathOf, pathAt, added, pathsAt, touched, allFit, quiet, quietExits}
+use Rattle.spec_laws.proofs.Charges.{quiet-charge}
+use Rattle.spec_laws.proofs.Choice.{none-held}
 use Rattle.spec_laws.proofs.Lists.{all-map, all-both, and-left, and-right, is-true, is-false, not-both, same-is, or-cases, or-left, or-right, or-swap}
 use Rattle.spec_laws.proofs.Before.{off-verdict, off-bits}
 use Rattle.spec_laws.proofs.Distinct.{in-right}
@@ -131,9 +134,16 @@ does s a w v r k =
     let o : Outcome × Machine = access (s .config) (s .machine) (s .machine) a w v (granted r) in
     (lineOf (o .0) (k .references) (k .exits), record { config = s .config; machine = o .1; book = k .book })
 
--- its request's
+-- its request's, charged to nobody
+abbrev asked : State → Bool → ℕ → Counted
+asked s st a = request (s .config) (s .machine) (s .book) st a (depth (s .book .marks) (addressIndexes (s .config) a))
+
 abbrev requested : State → Bool → ℕ → Counted
-requested s st a = request (s .config) (s .machine) (s .book) st a (depth (s .book .marks) (addressIndexes (s .config) a))
+requested s st a = windowed (s .config) none (asked s st a)
+
+-- the window alone has moved
+same-held : (s : State) (st : Bool) (a : ℕ) → (requested s st a) .book .held ≡ (asked s st a) .book .held
+same-held s st a = none-held (s .config) ((asked s st a) .book)
 
 request-stepped : (s : State) (st : Bool) (a w : ℕ) (v : Option ℕ) (r : Place) → s .config .bits ≡ false → SoundAt s → (plain (s .config) (s .machine) st a) .result ≡ granted r
     → SoundAt ((does s a w v r (requested s st a)) .1) → Stepped s (pathOf (s .config) (s .book .marks) a) (does s a w v r (requested s st a))
@@ -142,7 +152,7 @@ request-stepped s st a w v r off i h next =
     let t = request-costs (s .config) (s .machine) (s .book) st a r off (i .valid) h in
     record {
       config = refl;
-      costs = record { exits = access-paid (s .config) (s .machine) (s .machine) a w v (granted r) (k .references) (k .exits) .1 ∙ t .exits; held = t .held };
+      costs = record { exits = access-paid (s .config) (s .machine) (s .machine) a w v (granted r) (k .references) (k .exits) .1 ∙ t .exits; held = ap paths (same-held s st a) ∙ t .held };
       sound = next;
     }
 
@@ -157,7 +167,8 @@ load-stepped a w s r off i h =
     ap₂ (λ n x. (lineOf ((access c m n a w none x) .0) (k .references) (k .exits), record { config = c; machine = (access c m n a w none x) .1; book = k .book }))
     (off-bits c false m (plain c m false a) off) (off-verdict c m false a off ∙ h) in
     subst (Stepped s (pathOf c (s .book .marks) a)) (sym e)
-    (request-stepped s false a w none r off i h (request-sound c m (s .book) false a (depth (s .book .marks) (addressIndexes c a)) i))
+    (request-stepped s false a w none r off i h
+    (subst (Sound c m) (sym (same-held s false a)) (request-sound c m (s .book) false a (depth (s .book .marks) (addressIndexes c a)) i)))
 
 store-stepped : (a w v : ℕ) (s : State) (r : Place) → s .config .bits ≡ false → SoundAt s → (plain (s .config) (s .machine) true a) .result ≡ granted r → T (not (watched (r .0) (translated s true a)))
     → Stepped s (pathOf (s .config) (s .book .marks) a) (answered (store a w v) s none)
@@ -165,17 +176,18 @@ unfolding machineStep bookStep access wordOf
 store-stepped a w v s r off i h n =
     let c = s .config in
     let m = s .machine in
-    let k = requested s true a in
-    let e : answered (store a w v) s none ≡ does s a w (some v) r k =
+    let k = asked s true a in
+    let e : answered (store a w v) s none ≡ does s a w (some v) r (requested s true a) =
     ap₂ (λ n x.
-    let y : Counted = storing (wordOf a) x k in
+    let y : Counted = windowed c (chargeOf c (wordOf a) x (k .book .held)) (storing (wordOf a) x k) in
     (lineOf ((access c m n a w (some v) x) .0) (y .references) (y .exits), record { config = c; machine = (access c m n a w (some v) x) .1; book = y .book }))
     (off-bits c true m (plain c m true a) off) (off-verdict c m true a off ∙ h)
-    ∙ ap (does s a w (some v) r) (storing-unwatched (wordOf a) r k n) in
+    ∙ ap₂ (λ x y. does s a w (some v) r (windowed c x y)) (quiet-charge c (wordOf a) r (k .book .held) n) (storing-unwatched (wordOf a) r k n) in
     subst (Stepped s (pathOf c (s .book .marks) a)) (sym e)
     (request-stepped s true a w (some v) r off i h
+    (subst (Sound c _) (sym (same-held s true a))
     (stored-sound c m (r .0) (wordOf a) _ (k .book .held) (plain-in c m true a r (i .mapped) (i .root) h) (omega arith) n
-    (request-sound c m (s .book) true a (depth (s .book .marks) (addressIndexes c a)) i)))
+    (request-sound c m (s .book) true a (depth (s .book .marks) (addressIndexes c a)) i))))
 
 -- a call that has its place in a quiet stretch
 quiet-call : (x : Call) (s : State) → s .config .bits ≡ false → SoundAt s

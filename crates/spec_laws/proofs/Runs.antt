@@ -19,7 +19,8 @@ use Rattle.spec.specs.Walk.{World, Trace, Result, granted, failed, trace}
 use Rattle.spec.specs.Plain.{Place, upper, shadowPart, directPart}
 use Rattle.spec.specs.Machine.{Machine, world}
 use Rattle.spec.specs.Bits.{owes, judged}
-use Rattle.spec.specs.Book.{Mark, Held, Book, markAt, sameMark, depth, find, holding, fill, shadowTables, dropPrefix, usesMapping, readsWord}
+use Rattle.spec.specs.Book.{Mark, Held, Book, markAt, sameMark, depth, find, holding, marking, unmarking, fill, shadowTables, dropPrefix, usesMapping, readsWord}
+use Rattle.spec.specs.Choice.{leafMark, isAutomatic, withdrawn, roomMade, entered, observed, operated}
 use Rattle.spec.specs.Call.{Call, root, map, unmap, setMark, clearMark, load, store, device, forecast, addressIndexes, plain, verdict}
 use Rattle.spec.specs.Count.{Counted, serves, heldBy, isGranted, rightOf, others, shadowed, unshadowed, request, storing, bookStep}
 use Rattle.spec.specs.Refusal.{firstFailed, levelFits, tests, refusal}
@@ -28,6 +29,8 @@ use Rattle.spec.specs.Prefix.{All}
 use Rattle.spec_laws.proofs.Lists.{all-map, all-keep, all-kept, not-both, same-is, and-right, or-second}
 use Rattle.spec_laws.proofs.Parts.{direct-result}
 use Rattle.spec_laws.proofs.Refill.{others-all}
+use Rattle.spec_laws.proofs.Charges.{IfSome, charge-long}
+use Rattle.spec_laws.proofs.Choice.{room-has, observed-has}
 use Rattle.spec_laws.proofs.Counts.{request-count}
 use Rattle.spec_laws.proofs.Indexes.{indexes-length}
 use Rattle.spec_laws.proofs.Depth.{MarkFits, PathFits, depth-bound, no-proper-prefix, fill-fits, set-fits, clear-fits}
@@ -52,13 +55,13 @@ HeldFits c ms h = PathFits (c .levels) ms (h .path)
 pub kept-fits : (c : Config) (b : Book) (f : Held → Bool) → BookFits c b → BookFits c (holding b (keep f (b .held)))
 kept-fits c b f i = record { marks = i .marks; held = all-kept (HeldFits c (b .marks)) f (b .held) (i .held) }
 
-mark-fits : (c : Config) (n a : ℕ) → T (levelFits c n) → MarkFits (c .levels) (markAt c n (addressIndexes c a))
+pub mark-fits : (c : Config) (n a : ℕ) → T (levelFits c n) → MarkFits (c .levels) (markAt c n (addressIndexes c a))
 mark-fits c n a h =
     let is = addressIndexes c a in
     let l : c .levels - n ≤ length is = omega (arith, indexes-length (c .levels) (pageOf a)) in
     record { kept = length-take-le (c .levels - n) is l; bound = leb→le n (suc (c .levels)) (and-right (leb 1 n) (leb n (suc (c .levels))) h) }
 
-set-keeps : (c : Config) (b : Book) (m : Mark) → MarkFits (c .levels) m → BookFits c b → BookFits c (record { marks = m ∷ b .marks; held = dropPrefix (m .prefix) (b .held) })
+pub set-keeps : (c : Config) (b : Book) (m : Mark) → MarkFits (c .levels) m → BookFits c b → BookFits c (marking m b)
 set-keeps c b m ok i = record {
   marks = (ok, i .marks);
   held = all-map (λ h. HeldFits c (b .marks) h × T (not (begins (m .prefix) (h .path)))) (HeldFits c (m ∷ b .marks)) (dropPrefix (m .prefix) (b .held))
@@ -70,8 +73,8 @@ not-not : (b : Bool) → T (not (not b)) → T b
 not-not true h = tt
 not-not false h = h
 
-clear-keeps : (c : Config) (b : Book) (m : Mark) → BookFits c b
-    → BookFits c (record { marks = keep (λ y. not (sameMark m y)) (b .marks); held = dropPrefix (m .prefix) (b .held) })
+pub clear-keeps : (c : Config) (b : Book) (m : Mark) → BookFits c b
+    → BookFits c (unmarking m b)
 clear-keeps c b m i = record {
   marks = all-kept (MarkFits (c .levels)) (λ y. not (sameMark m y)) (b .marks) (i .marks);
   held = all-map (λ h. HeldFits c (b .marks) h × T (not (begins (m .prefix) (h .path)))) (HeldFits c (keep (λ y. not (sameMark m y)) (b .marks)))
@@ -156,6 +159,41 @@ unfolding storing
 storing-keeps c i (failed x) k h = h
 storing-keeps c i (granted p) k h = kept-fits c (k .book) (λ y. not (readsWord (p .0) i y)) h
 
+-- ---- the automatic choice
+
+pub withdrawn-keeps : (c : Config) (p : List ℕ) (b : Book) → BookFits c b → BookFits c (withdrawn p b)
+withdrawn-keeps c p b i = let k = clear-keeps c b (leafMark p) i in record { marks = k .marks; held = k .held }
+
+pub room-keeps : (c : Config) (b : Book) → BookFits c b → BookFits c (roomMade c b)
+room-keeps c b i = room-has (BookFits c) c b i (λ p k. withdrawn-keeps c p b i)
+
+leaf-fits : (c : Config) (p : List ℕ) → length p ≡ c .levels - 1 → MarkFits (c .levels) (leafMark p)
+leaf-fits c p l = record { kept = l; bound = omega arith }
+
+pub observed-keeps : (c : Config) (x : Option (List ℕ)) (b : Book) → IfSome (λ p. length p ≡ c .levels - 1) x → BookFits c b → BookFits c (observed c x b)
+observed-keeps c x b l i =
+    observed-has (BookFits c) c x b (λ z. i) (λ z. record { marks = i .marks; held = i .held }) (λ p k j. withdrawn-keeps c p (entered x b) j)
+    (λ p q z f j.
+    let k = set-keeps c (roomMade c (entered x b)) (leafMark p) (leaf-fits c p (subst (IfSome (λ p. length p ≡ c .levels - 1)) q l)) j in
+    record { marks = k .marks; held = k .held })
+
+pub operated-keeps : (c : Config) (x : Mark) (b : Book) → MarkFits (c .levels) x → BookFits c b → BookFits c (operated c x b)
+unfolding operated
+operated-keeps c x b ok i = go (isAutomatic (b .automatic) x)
+  where
+    go : (t : Bool) → BookFits c (marking x (cond t (withdrawn (x .prefix) b) (roomMade c b)))
+    go true = set-keeps c (withdrawn (x .prefix) b) x ok (withdrawn-keeps c (x .prefix) b i)
+    go false = set-keeps c (roomMade c b) x ok (room-keeps c b i)
+
+-- no call changes the configuration
+pub step-config : (x : Call) (s : State) → (step x s) .1 .config ≡ s .config
+unfolding step
+step-config x s = go (refusal (s .config) x (s .machine) (s .book))
+  where
+    go : (r : Option ℕ) → (answered x s r) .1 .config ≡ s .config
+    go (some n) = refl
+    go none = refl
+
 pub step-fits : (x : Call) (s : State) → BookFits (s .config) (s .book) → BookFits ((step x s) .1 .config) ((step x s) .1 .book)
 unfolding step bookStep tests refusal
 step-fits x s i = go (refusal (s .config) x (s .machine) (s .book)) refl
@@ -173,10 +211,10 @@ step-fits x s i = go (refusal (s .config) x (s .machine) (s .book)) refl
     by (root r) e = record { marks = i .marks; held = tt }
     by (map g f w) e = kept-fits c b (λ h. not (usesMapping g h)) i
     by (unmap g) e = kept-fits c b (λ h. not (usesMapping g h)) i
-    by (setMark a n) e = set-keeps c b (markAt c n (addressIndexes c a)) (mark-fits c n a (all-passed (tests c (setMark a n) m b) e .1 .0)) i
+    by (setMark a n) e = operated-keeps c (markAt c n (addressIndexes c a)) b (mark-fits c n a (all-passed (tests c (setMark a n) m b) e .1 .0)) i
     by (clearMark a n) e = clear-keeps c b (markAt c n (addressIndexes c a)) i
-    by (load a w) e = request-keeps c m b false a i
-    by (store a w v) e = storing-keeps c (wordOf a) _ _ (request-keeps c m b true a i)
+    by (load a w) e = observed-keeps c none _ tt (request-keeps c m b false a i)
+    by (store a w v) e = observed-keeps c _ _ (charge-long c (wordOf a) (verdict c m true a) _) (storing-keeps c (wordOf a) _ _ (request-keeps c m b true a i))
     by (device a w v) e = storing-keeps c (wordOf a) _ _ i
     by (forecast xs) e = i
 
@@ -184,8 +222,8 @@ step-fits x s i = go (refusal (s .config) x (s .machine) (s .book)) refl
     go (some n) e = i
     go none e = by x e
 
-pub opened-fits : (c : Config) (memory : List ℕ) → BookFits c ((opened c memory) .book)
-opened-fits c memory = record { marks = tt; held = tt }
+pub opened-fits : (c : Config) (on : Bool) (memory : List ℕ) → BookFits c ((opened c on memory) .book)
+opened-fits c on memory = record { marks = tt; held = tt }
 
 pub run-fits : (xs : List Call) (s : State) → BookFits (s .config) (s .book) → BookFits ((after xs s) .config) ((after xs s) .book)
 unfolding after
@@ -193,25 +231,25 @@ run-fits [] s i = i
 run-fits (x ∷ xs) s i = run-fits xs ((step x s) .1) (step-fits x s i)
 
 -- after any list of calls from an opening, no held path is a proper prefix of another
-pub held-apart : (c : Config) (memory : List ℕ) (xs : List Call)
-    → let hs = (after xs (opened c memory)) .book .held in
+pub held-apart : (c : Config) (on : Bool) (memory : List ℕ) (xs : List Call)
+    → let hs = (after xs (opened c on memory)) .book .held in
     All (λ h. All (λ k. T (begins (h .path) (k .path)) → h .path ≡ k .path) hs) hs
-held-apart c memory xs =
-    let k = (after xs (opened c memory)) .config in
-    let b = (after xs (opened c memory)) .book in
-    let f = run-fits xs (opened c memory) (opened-fits c memory) in
+held-apart c on memory xs =
+    let k = (after xs (opened c on memory)) .config in
+    let b = (after xs (opened c on memory)) .book in
+    let f = run-fits xs (opened c on memory) (opened-fits c on memory) in
     all-map (HeldFits k (b .marks)) _ (b .held)
     (λ h fh. all-map (HeldFits k (b .marks)) _ (b .held) (λ y fy. no-proper-prefix (k .levels) (b .marks) (h .path) (y .path) fh fy) (f .held)) (f .held)
 
 -- after any list of calls from an opening, a request that is granted reads N + N·d words
-pub granted-reads : (c : Config) (memory : List ℕ) (xs : List Call) (st : Bool) (a : ℕ) (r : Place)
-    → let s = after xs (opened c memory) in
+pub granted-reads : (c : Config) (on : Bool) (memory : List ℕ) (xs : List Call) (st : Bool) (a : ℕ) (r : Place)
+    → let s = after xs (opened c on memory) in
     let k = s .config in
     let d = depth (s .book .marks) (addressIndexes k a) in
     verdict k (s .machine) st a ≡ granted r → (request k (s .machine) (s .book) st a d) .references ≡ k .levels + k .levels * d
-granted-reads c memory xs st a r h =
-    let s = after xs (opened c memory) in
-    let f = run-fits xs (opened c memory) (opened-fits c memory) in
+granted-reads c on memory xs st a r h =
+    let s = after xs (opened c on memory) in
+    let f = run-fits xs (opened c on memory) (opened-fits c on memory) in
     let k = s .config in
     let is = addressIndexes k a in
     request-count k (s .machine) (s .book) st a (depth (s .book .marks) is) r (depth-bound (k .levels) (s .book .marks) is (f .marks)) h

@@ -22,6 +22,7 @@ use Rattle.spec_laws.proofs.SetBits.{lacks-owed, lacks-on}
 use Rattle.layout.specs.Layout.{page}
 use Rattle.walk.specs.declared.Walked.{Walked}
 use Rattle.walk.specs.declared.Walked.the-variants as walked
+use Rattle.walk.proofs.Laws.{loop-end}
 use Rattle.walk.specs.Memory.{memoryWorld, walkedOf, trailFrom, trailOf}
 use Rattle.accessed.specs.Entries.{entries, Frames, wordsOf, owedBy, owedOf}
 use Rattle.accessed.proofs.Walks.{arrived-granted, Read, levels-read, walk-read, trail-entries, trail-frames, levels-frames, walk-frames}
@@ -166,6 +167,13 @@ module _ (c : Config) (ht : ℕ) (m : List ℕ) (st : Bool) (a d t : ℕ) (v : B
               ap (λ l. c .bits && l) (ap (λ (z : Trail). lackIn (z .tables)) is ∙ direct-lacks c ht m st a d t v (p .0) y n few deep small e)
           go (walked.Faulted y n) e = refl
           go walked.Damaged e = refl
+
+  -- at depth 0 there is no table to read, and the page is what the path leads to
+  pub direct-page : d ≡ 0 → directOf c ht m st a d t v ≡ walked.Arrived (page t) v (c .levels)
+  unfolding directOf
+  direct-page e =
+      let all : c .levels - d ≡ c .levels = omega (arith, e) in
+      loop-end c ht m (c .levels - d) st 0 d t (pageOf a) v e ∙ ap (walked.Arrived (page t) v) all
 
   -- where no bit is to be looked at, none lacks
   pub bitless-none : bitlessOf c d ≡ true → lackingOf c ht m st a d t v ≡ false

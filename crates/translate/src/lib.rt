@@ -67,7 +67,7 @@ pub enum Verdict {
 }
 
 // A translation that met damage: what was held, and no exit.
-fn damaged(held: Held) -> Translated
+pub fn damaged(held: Held) -> Translated
     ensures { λ r. ⌜ r ≡ record { held = held; exits = 0; walked = Walked.Damaged; sets = false } ⌝ }
 {
     Translated {

@@ -20,7 +20,7 @@ use Rattle.wrong_units.proofs.Refute.{Comes, refuted, refuted-opened, b
 abbrev pub plain : List Call
 plain = setMark 0 5 ∷ []
 
-pub plain-right : (step (loadWord 0) (specified memory 4 4 false (begin ++ plain))) .0 ≡ value 0x3003 24 0
+pub plain-right : (step (loadWord 0) (specified memory 4 4 false false (begin ++ plain))) .0 ≡ value 0x3003 24 0
 unfolding specifying
 plain-right = refl
 
@@ -76,7 +76,7 @@ stores-nothing-says : ((unitBy storesNothing) .call (loadWord 0x10) (afterBy (un
 unfolding storesNothing afterBy calling
 stores-nothing-says = refl
 
-written-right : (step (loadWord 0x10) (specified memory 4 4 false (begin ++ written))) .0 ≡ value 7 24 0
+written-right : (step (loadWord 0x10) (specified memory 4 4 false false (begin ++ written))) .0 ≡ value 7 24 0
 unfolding specifying
 written-right = refl
 
@@ -96,7 +96,7 @@ missing-says : ((unitBy readOnlyMissing) .call (storeWord 0 1) (afterBy (unitBy 
 unfolding readOnlyMissing afterBy calling
 missing-says = refl
 
-locked-right : (step (storeWord 0 1) (specified memory 4 4 false (begin ++ locked))) .0 ≡ fault 87 0 3 24 1
+locked-right : (step (storeWord 0 1) (specified memory 4 4 false false (begin ++ locked))) .0 ≡ fault 87 0 3 24 1
 unfolding specifying
 locked-right = refl
 
@@ -107,13 +107,13 @@ read-only-missing-refuted = refuted readOnlyMissing begin locked (storeWord 0 1)
 
 tables-full-comes : Comes tablesFull (map 0 8 true ∷ []) (firstRecord, tables [])
 unfolding tablesFull afterBy
-tables-full-comes = ap (λ e. afterBy (unitBy tablesFull) (map 0 8 true ∷ []) ((told e) .1)) (opens false) ∙ ap (λ e. (told e) .1) (first-map false)
+tables-full-comes = ap (λ e. afterBy (unitBy tablesFull) (map 0 8 true ∷ []) ((told e) .1)) (opens false false) ∙ ap (λ e. (told e) .1) (first-map false false)
 
 tables-full-says : ((unitBy tablesFull) .call (map 1 9 true) (firstRecord, tables [])) .0 ≡ no 10
 unfolding tablesFull
 tables-full-says = refl
 
-second-right : (step (map 1 9 true) (specified memory 4 4 false (map 0 8 true ∷ []))) .0 ≡ ok
+second-right : (step (map 1 9 true) (specified memory 4 4 false false (map 0 8 true ∷ []))) .0 ≡ ok
 unfolding specifying
 second-right = refl
 
@@ -127,7 +127,7 @@ marks-full-says : ((unitBy marksFull) .call (setMark (2 ^ 39) 1) (afterBy (unitB
 unfolding marksFull afterBy calling
 marks-full-says = refl
 
-last-right : (step (setMark (2 ^ 39) 1) (specified memory 4 4 false (marksOn 4))) .0 ≡ ok
+last-right : (step (setMark (2 ^ 39) 1) (specified memory 4 4 false false (marksOn 4))) .0 ≡ ok
 unfolding specifying
 last-right = refl
 

@@ -31,7 +31,7 @@ use Rattle.translate.specs.declared.Translated.{Translated}
 use Rattle.translate.specs.Translate.{fillBy}
 use Rattle.request.specs.Access.{loadBy}
 use Rattle.calls.specs.declared.Reply.{Reply}
-use Rattle.calls.specs.Calls.{heldOf, ended, servedBy, callOf}
+use Rattle.calls.specs.Calls.{heldOf, ended, windowedBy, callOf}
 use Rattle.wrong_units.specs.Unit.{Calls, afterBy, specified, Demand-3, told, unitBy, cangrieb}
 use Rattle.wrong_units.specs.Wrong.{ourStep, ourEnd, listWith}
 use Rattle.wrong_units.specs.WrongBits.{ourSets, loadSetting, storeSetting, neverSets, alwaysSets, dirtyByLoads, dirtyAtAll, lastOnly, setsOnFault, setsAfter, ownDropped, bitsDrop, loadArriving, arriveBy, faultsFill, storesPass, bitsFirst, judgedInTurn, forecastsAnyway, lengthFirst}
@@ -44,12 +44,12 @@ use Rattle.wrong_units.proofs.Refute.{Comes, ComesBy, goes-on, refuted,
 use Rattle.wrong_units.proofs.Answers.{plain, plain-right}
 
 -- the frames mapped, with bits on
-maps-on : afterBy cangrieb others (firstBy true, tables []) ≡ (firstBy true, mappedWords)
+maps-on : afterBy cangrieb others (firstBy true false, tables []) ≡ (firstBy true false, mappedWords)
 unfolding calling afterBy
 maps-on = refl
 
 abbrev Begun : Calls → Type 0
-Begun f = ComesBy true f begin (firstBy true, mappedWords)
+Begun f = ComesBy true false f begin (firstBy true false, mappedWords)
 
 abbrev area : Area
 area = shadowArea (configBy 6144 4 4 true)
@@ -63,24 +63,24 @@ abbrev loaded : Record → ℕ → List ℕ → List ℕ → ℕ → Walked → 
 loaded r a gs is e x t =
     let s : After Went = went gs is e t in
     let o : After Translated = fillBy (heldOf r) 1 x true s (s .result .way) in
-    servedBy r (loadBy (heldOf r) a 8 (ourSets r false a (o .result .sets)) o (o .result .walked))
+    windowedBy r (loadBy (heldOf r) a 8 (ourSets r false a (o .result .sets)) o (o .result .walked))
 
 -- ---- which bits: the load of address 0 yields the entry of level 1 by which it came, which has bit 5 then
 
 never-begun : Begun neverSets
 unfolding neverSets afterBy
-never-begun = begins-by true neverSets refl maps-on
+never-begun = begins-by true false neverSets refl maps-on
 
-never-says : ((unitBy neverSets) .call (loadWord 0) (afterBy (unitBy neverSets) plain (firstBy true, mappedWords))) .0 ≡ value 0x3003 24 0
+never-says : ((unitBy neverSets) .call (loadWord 0) (afterBy (unitBy neverSets) plain (firstBy true false, mappedWords))) .0 ≡ value 0x3003 24 0
 unfolding neverSets loadSetting afterBy calling
 never-says = refl
 
-load-right : (step (loadWord 0) (specified memory 4 4 true (begin ++ plain))) .0 ≡ value 0x3023 24 0
+load-right : (step (loadWord 0) (specified memory 4 4 true false (begin ++ plain))) .0 ≡ value 0x3023 24 0
 unfolding specifying
 load-right = refl
 
 pub never-sets-refuted : Demand-3 (unitBy neverSets) → ⊥
-never-sets-refuted = refuted-by true neverSets begin plain (loadWord 0) (firstBy true, mappedWords) (value 0x3003 24 0) (value 0x3023 24 0) never-begun never-says load-right tt
+never-sets-refuted = refuted-by true false neverSets begin plain (loadWord 0) (firstBy true false, mappedWords) (value 0x3003 24 0) (value 0x3023 24 0) never-begun never-says load-right tt
 
 -- with bits off
 always-begun : Comes alwaysSets begin (firstRecord, mappedWords)
@@ -96,14 +96,14 @@ always-sets-refuted = refuted alwaysSets begin plain (loadWord 0) (firstRecord, 
 
 dirty-begun : Begun dirtyByLoads
 unfolding dirtyByLoads afterBy
-dirty-begun = begins-by true dirtyByLoads refl maps-on
+dirty-begun = begins-by true false dirtyByLoads refl maps-on
 
-dirty-says : ((unitBy dirtyByLoads) .call (loadWord 0) (afterBy (unitBy dirtyByLoads) plain (firstBy true, mappedWords))) .0 ≡ value 0x3063 24 0
+dirty-says : ((unitBy dirtyByLoads) .call (loadWord 0) (afterBy (unitBy dirtyByLoads) plain (firstBy true false, mappedWords))) .0 ≡ value 0x3063 24 0
 unfolding dirtyByLoads loadSetting afterBy calling
 dirty-says = refl
 
 pub dirty-by-loads-refuted : Demand-3 (unitBy dirtyByLoads) → ⊥
-dirty-by-loads-refuted = refuted-by true dirtyByLoads begin plain (loadWord 0) (firstBy true, mappedWords) (value 0x3063 24 0) (value 0x3023 24 0) dirty-begun dirty-says load-right tt
+dirty-by-loads-refuted = refuted-by true false dirtyByLoads begin plain (loadWord 0) (firstBy true false, mappedWords) (value 0x3063 24 0) (value 0x3023 24 0) dirty-begun dirty-says load-right tt
 
 -- page 1 is the top table: after a store its entry 0 has bit 5, and not bit 6
 abbrev stored : List Call
@@ -111,33 +111,33 @@ stored = setMark 0 5 ∷ storeWord 0x18 7 ∷ []
 
 all-begun : Begun dirtyAtAll
 unfolding dirtyAtAll afterBy
-all-begun = begins-by true dirtyAtAll refl maps-on
+all-begun = begins-by true false dirtyAtAll refl maps-on
 
-all-says : ((unitBy dirtyAtAll) .call (loadWord 0x1000) (afterBy (unitBy dirtyAtAll) stored (firstBy true, mappedWords))) .0 ≡ value 0x1063 24 0
+all-says : ((unitBy dirtyAtAll) .call (loadWord 0x1000) (afterBy (unitBy dirtyAtAll) stored (firstBy true false, mappedWords))) .0 ≡ value 0x1063 24 0
 unfolding dirtyAtAll loadSetting storeSetting afterBy calling
 all-says = refl
 
-stored-right : (step (loadWord 0x1000) (specified memory 4 4 true (begin ++ stored))) .0 ≡ value 0x1023 24 0
+stored-right : (step (loadWord 0x1000) (specified memory 4 4 true false (begin ++ stored))) .0 ≡ value 0x1023 24 0
 unfolding specifying
 stored-right = refl
 
 pub dirty-at-all-refuted : Demand-3 (unitBy dirtyAtAll) → ⊥
-dirty-at-all-refuted = refuted-by true dirtyAtAll begin stored (loadWord 0x1000) (firstBy true, mappedWords) (value 0x1063 24 0) (value 0x1023 24 0) all-begun all-says stored-right tt
+dirty-at-all-refuted = refuted-by true false dirtyAtAll begin stored (loadWord 0x1000) (firstBy true false, mappedWords) (value 0x1063 24 0) (value 0x1023 24 0) all-begun all-says stored-right tt
 
 last-begun : Begun lastOnly
 unfolding lastOnly afterBy
-last-begun = begins-by true lastOnly refl maps-on
+last-begun = begins-by true false lastOnly refl maps-on
 
-last-says : ((unitBy lastOnly) .call (loadWord 0x1000) (afterBy (unitBy lastOnly) plain (firstBy true, mappedWords))) .0 ≡ value 0x1003 24 0
+last-says : ((unitBy lastOnly) .call (loadWord 0x1000) (afterBy (unitBy lastOnly) plain (firstBy true false, mappedWords))) .0 ≡ value 0x1003 24 0
 unfolding lastOnly loadSetting afterBy calling
 last-says = refl
 
-top-right : (step (loadWord 0x1000) (specified memory 4 4 true (begin ++ plain))) .0 ≡ value 0x1023 24 0
+top-right : (step (loadWord 0x1000) (specified memory 4 4 true false (begin ++ plain))) .0 ≡ value 0x1023 24 0
 unfolding specifying
 top-right = refl
 
 pub last-only-refuted : Demand-3 (unitBy lastOnly) → ⊥
-last-only-refuted = refuted-by true lastOnly begin plain (loadWord 0x1000) (firstBy true, mappedWords) (value 0x1003 24 0) (value 0x1023 24 0) last-begun last-says top-right tt
+last-only-refuted = refuted-by true false lastOnly begin plain (loadWord 0x1000) (firstBy true false, mappedWords) (value 0x1003 24 0) (value 0x1023 24 0) last-begun last-says top-right tt
 
 -- ---- when they are set
 
@@ -147,29 +147,29 @@ faulted = setMark 0 5 ∷ loadWord (2 ^ 39 + 0x10000) ∷ []
 
 fault-begun : Begun setsOnFault
 unfolding setsOnFault afterBy
-fault-begun = begins-by true setsOnFault refl maps-on
+fault-begun = begins-by true false setsOnFault refl maps-on
 
-fault-says : ((unitBy setsOnFault) .call (loadWord 0x1008) (afterBy (unitBy setsOnFault) faulted (firstBy true, mappedWords))) .0 ≡ value 0x3023 24 0
+fault-says : ((unitBy setsOnFault) .call (loadWord 0x1008) (afterBy (unitBy setsOnFault) faulted (firstBy true false, mappedWords))) .0 ≡ value 0x3023 24 0
 unfolding setsOnFault afterBy calling
 fault-says = refl
 
-faulted-right : (step (loadWord 0x1008) (specified memory 4 4 true (begin ++ faulted))) .0 ≡ value 0x3003 24 0
+faulted-right : (step (loadWord 0x1008) (specified memory 4 4 true false (begin ++ faulted))) .0 ≡ value 0x3003 24 0
 unfolding specifying
 faulted-right = refl
 
 pub sets-on-fault-refuted : Demand-3 (unitBy setsOnFault) → ⊥
-sets-on-fault-refuted = refuted-by true setsOnFault begin faulted (loadWord 0x1008) (firstBy true, mappedWords) (value 0x3023 24 0) (value 0x3003 24 0) fault-begun fault-says faulted-right tt
+sets-on-fault-refuted = refuted-by true false setsOnFault begin faulted (loadWord 0x1008) (firstBy true false, mappedWords) (value 0x3023 24 0) (value 0x3003 24 0) fault-begun fault-says faulted-right tt
 
 after-begun : Begun setsAfter
 unfolding setsAfter afterBy
-after-begun = begins-by true setsAfter refl maps-on
+after-begun = begins-by true false setsAfter refl maps-on
 
-after-says : ((unitBy setsAfter) .call (loadWord 0) (afterBy (unitBy setsAfter) plain (firstBy true, mappedWords))) .0 ≡ value 0x3003 24 0
+after-says : ((unitBy setsAfter) .call (loadWord 0) (afterBy (unitBy setsAfter) plain (firstBy true false, mappedWords))) .0 ≡ value 0x3003 24 0
 unfolding setsAfter afterBy calling
 after-says = refl
 
 pub sets-after-refuted : Demand-3 (unitBy setsAfter) → ⊥
-sets-after-refuted = refuted-by true setsAfter begin plain (loadWord 0) (firstBy true, mappedWords) (value 0x3003 24 0) (value 0x3023 24 0) after-begun after-says load-right tt
+sets-after-refuted = refuted-by true false setsAfter begin plain (loadWord 0) (firstBy true false, mappedWords) (value 0x3003 24 0) (value 0x3023 24 0) after-begun after-says load-right tt
 
 -- ---- own bit writes drop nothing
 
@@ -179,14 +179,14 @@ abbrev mark3 : List Call
 mark3 = setMark 0 3 ∷ setMark (2 ^ 39) 3 ∷ []
 
 abbrev markedOn : Record
-markedOn = recordBy true fourTables none (3 ∷ 11 ∷ [])
+markedOn = recordBy true false fourTables none (3 ∷ 11 ∷ [])
 
-marks-on : afterBy cangrieb mark3 (firstBy true, mappedWords) ≡ (markedOn, mappedWords)
+marks-on : afterBy cangrieb mark3 (firstBy true false, mappedWords) ≡ (markedOn, mappedWords)
 unfolding calling afterBy
 marks-on = refl
 
 abbrev heldOn : Record
-heldOn = recordBy true fourTables (record { fresh = 1; free = 0; used = 1; top = 0x4001 }) (3 ∷ 11 ∷ [])
+heldOn = recordBy true false fourTables (record { fresh = 1; free = 0; used = 1; top = 0x4001 }) (3 ∷ 11 ∷ [])
 
 abbrev heldSet : List ℕ
 heldSet = placed ((4096, 0x1023) ∷ (4608, 0x3023) ∷ (5632, 0x3023) ∷ []) heldWords
@@ -207,11 +207,11 @@ fills-on = switch-loads ∙ ap switched filled.inserts ∙ switch-sets
 
 drop-begun : Begun bitsDrop
 unfolding bitsDrop afterBy
-drop-begun = begins-by true bitsDrop refl maps-on
+drop-begun = begins-by true false bitsDrop refl maps-on
 
-drop-comes : ComesBy true bitsDrop (begin ++ mark3) (markedOn, mappedWords)
+drop-comes : ComesBy true false bitsDrop (begin ++ mark3) (markedOn, mappedWords)
 unfolding bitsDrop afterBy
-drop-comes = goes-on true bitsDrop begin mark3 (firstBy true, mappedWords) (markedOn, mappedWords) drop-begun marks-on
+drop-comes = goes-on true false bitsDrop begin mark3 (firstBy true false, mappedWords) (markedOn, mappedWords) drop-begun marks-on
 
 -- what it says to the device store, by what our load leaves
 abbrev afterLoad : After Reply → Line
@@ -225,12 +225,12 @@ drop-says : ((unitBy bitsDrop) .call (deviceWord 0x18 7) (afterBy (unitBy bitsDr
 unfolding bitsDrop afterBy
 drop-says = ap afterLoad fills-on ∙ drop-ends
 
-drop-right : (step (deviceWord 0x18 7) (specified memory 4 4 true ((begin ++ mark3) ++ (loadWord 0 ∷ [])))) .0 ≡ done 4 1
+drop-right : (step (deviceWord 0x18 7) (specified memory 4 4 true false ((begin ++ mark3) ++ (loadWord 0 ∷ [])))) .0 ≡ done 4 1
 unfolding specifying
 drop-right = refl
 
 pub bits-drop-refuted : Demand-3 (unitBy bitsDrop) → ⊥
-bits-drop-refuted = refuted-by true bitsDrop (begin ++ mark3) (loadWord 0 ∷ []) (deviceWord 0x18 7) (markedOn, mappedWords) (done 4 0) (done 4 1) drop-comes drop-says drop-right tt
+bits-drop-refuted = refuted-by true false bitsDrop (begin ++ mark3) (loadWord 0 ∷ []) (deviceWord 0x18 7) (markedOn, mappedWords) (done 4 0) (done 4 1) drop-comes drop-says drop-right tt
 
 -- ---- a fault past the shadow part fills nothing: this one is A at level 1, and the next load pays for the path
 
@@ -239,18 +239,18 @@ missed = setMark 0 4 ∷ loadWord 0x10000 ∷ []
 
 fill-begun : Begun faultsFill
 unfolding faultsFill afterBy
-fill-begun = begins-by true faultsFill refl maps-on
+fill-begun = begins-by true false faultsFill refl maps-on
 
-fill-says : ((unitBy faultsFill) .call (loadWord 0) (afterBy (unitBy faultsFill) missed (firstBy true, mappedWords))) .0 ≡ value 0x3023 20 0
+fill-says : ((unitBy faultsFill) .call (loadWord 0) (afterBy (unitBy faultsFill) missed (firstBy true false, mappedWords))) .0 ≡ value 0x3023 20 0
 unfolding faultsFill loadArriving arriveBy afterBy calling
 fill-says = refl
 
-missed-right : (step (loadWord 0) (specified memory 4 4 true (begin ++ missed))) .0 ≡ value 0x3023 20 1
+missed-right : (step (loadWord 0) (specified memory 4 4 true false (begin ++ missed))) .0 ≡ value 0x3023 20 1
 unfolding specifying
 missed-right = refl
 
 pub faults-fill-refuted : Demand-3 (unitBy faultsFill) → ⊥
-faults-fill-refuted = refuted-by true faultsFill begin missed (loadWord 0) (firstBy true, mappedWords) (value 0x3023 20 0) (value 0x3023 20 1) fill-begun fill-says missed-right tt
+faults-fill-refuted = refuted-by true false faultsFill begin missed (loadWord 0) (firstBy true false, mappedWords) (value 0x3023 20 0) (value 0x3023 20 1) fill-begun fill-says missed-right tt
 
 -- ---- a path of depth 0 that a load fills
 
@@ -258,12 +258,12 @@ faults-fill-refuted = refuted-by true faultsFill begin missed (loadWord 0) (firs
 abbrev named : List ℕ
 named = set mappedWords 5634 0x2003
 
-names : afterBy cangrieb (deviceWord 0x3010 0x2003 ∷ []) (firstBy true, mappedWords) ≡ (firstBy true, named)
+names : afterBy cangrieb (deviceWord 0x3010 0x2003 ∷ []) (firstBy true false, mappedWords) ≡ (firstBy true false, named)
 unfolding calling afterBy
 names = refl
 
 abbrev shadowed : Record
-shadowed = recordBy true fourTables (record { fresh = 4; free = 0; used = 4; top = 0x4001 }) []
+shadowed = recordBy true false fourTables (record { fresh = 4; free = 0; used = 4; top = 0x4001 }) []
 
 abbrev shadowWords : List ℕ
 shadowWords =
@@ -351,9 +351,9 @@ inserts =
 
 -- the wrong unit's path has the write right of the walk
 abbrev passed : After Went → After Reply
-passed = loaded (firstBy true) 0x2000 trail (0 ∷ 0 ∷ 0 ∷ 2 ∷ []) 0xa003 (walked.Arrived (page 10) true 4)
+passed = loaded (firstBy true false) 0x2000 trail (0 ∷ 0 ∷ 0 ∷ 2 ∷ []) 0xa003 (walked.Arrived (page 10) true 4)
 
-passes-loads : storesPass (loadWord 0x2000) (firstBy true) named ≡ passed (insertOf area trail none named (0 ∷ 0 ∷ 0 ∷ 2 ∷ []) 0xa003)
+passes-loads : storesPass (loadWord 0x2000) (firstBy true false) named ≡ passed (insertOf area trail none named (0 ∷ 0 ∷ 0 ∷ 2 ∷ []) 0xa003)
 unfolding storesPass loadArriving arriveBy besides
 passes-loads = refl
 
@@ -361,7 +361,7 @@ passes-sets : passed (end (inUse 4) (To 7) shadowWords) ≡ ended shadowed (answ
 unfolding calling
 passes-sets = refl
 
-passes-fills : storesPass (loadWord 0x2000) (firstBy true) named ≡ ended shadowed (answer.Value 0x2003 4 1) setWords
+passes-fills : storesPass (loadWord 0x2000) (firstBy true false) named ≡ ended shadowed (answer.Value 0x2003 4 1) setWords
 passes-fills = passes-loads ∙ ap passed inserts ∙ passes-sets
 
 abbrev page2 : List Call
@@ -369,12 +369,12 @@ page2 = deviceWord 0x3010 0x2003 ∷ loadWord 0x2000 ∷ []
 
 pass-begun : Begun storesPass
 unfolding storesPass afterBy
-pass-begun = begins-by true storesPass refl maps-on
+pass-begun = begins-by true false storesPass refl maps-on
 
-pass-comes : ComesBy true storesPass (begin ++ page2) (shadowed, setWords)
+pass-comes : ComesBy true false storesPass (begin ++ page2) (shadowed, setWords)
 unfolding storesPass afterBy
 pass-comes =
-    goes-on true storesPass begin page2 (firstBy true, mappedWords) (shadowed, setWords) pass-begun
+    goes-on true false storesPass begin page2 (firstBy true false, mappedWords) (shadowed, setWords) pass-begun
     (ap (λ (e : Record × List ℕ). (told (storesPass (loadWord 0x2000) (e .0) (e .1))) .1) names ∙ ap (λ e. (told e) .1) passes-fills)
 
 pass-says : ((unitBy storesPass) .call (storeWord 0x2008 7) (shadowed, setWords)) .0 ≡ done 4 0
@@ -382,13 +382,13 @@ unfolding storesPass calling
 pass-says = refl
 
 -- ours pays an exit: the path is filled again, and the bit is set
-pass-right : (step (storeWord 0x2008 7) (specified memory 4 4 true ((begin ++ page2) ++ []))) .0 ≡ done 4 1
+pass-right : (step (storeWord 0x2008 7) (specified memory 4 4 true false ((begin ++ page2) ++ []))) .0 ≡ done 4 1
 unfolding specifying
 pass-right = refl
 
 pub stores-pass-refuted : Demand-3 (unitBy storesPass) → ⊥
 unfolding afterBy
-stores-pass-refuted = refuted-by true storesPass (begin ++ page2) [] (storeWord 0x2008 7) (shadowed, setWords) (done 4 0) (done 4 1) pass-comes pass-says pass-right tt
+stores-pass-refuted = refuted-by true false storesPass (begin ++ page2) [] (storeWord 0x2008 7) (shadowed, setWords) (done 4 0) (done 4 1) pass-comes pass-says pass-right tt
 
 -- ---- W for a bit
 
@@ -398,33 +398,33 @@ bothLocked = map 1 9 false ∷ map 3 11 false ∷ setMark 0 5 ∷ []
 
 first-begun : Begun bitsFirst
 unfolding bitsFirst afterBy
-first-begun = begins-by true bitsFirst refl maps-on
+first-begun = begins-by true false bitsFirst refl maps-on
 
-first-says : ((unitBy bitsFirst) .call (storeWord 0 1) (afterBy (unitBy bitsFirst) bothLocked (firstBy true, mappedWords))) .0 ≡ fault 87 0 1 24 1
+first-says : ((unitBy bitsFirst) .call (storeWord 0 1) (afterBy (unitBy bitsFirst) bothLocked (firstBy true false, mappedWords))) .0 ≡ fault 87 0 1 24 1
 unfolding bitsFirst afterBy calling
 first-says = refl
 
-both-locked-right : (step (storeWord 0 1) (specified memory 4 4 true (begin ++ bothLocked))) .0 ≡ fault 87 0 3 24 1
+both-locked-right : (step (storeWord 0 1) (specified memory 4 4 true false (begin ++ bothLocked))) .0 ≡ fault 87 0 3 24 1
 unfolding specifying
 both-locked-right = refl
 
 pub bits-first-refuted : Demand-3 (unitBy bitsFirst) → ⊥
-bits-first-refuted = refuted-by true bitsFirst begin bothLocked (storeWord 0 1) (firstBy true, mappedWords) (fault 87 0 1 24 1) (fault 87 0 3 24 1) first-begun first-says both-locked-right tt
+bits-first-refuted = refuted-by true false bitsFirst begin bothLocked (storeWord 0 1) (firstBy true false, mappedWords) (fault 87 0 1 24 1) (fault 87 0 3 24 1) first-begun first-says both-locked-right tt
 
 -- and so does P, where that entry forbids writes
 abbrev forbidden : List Call
 forbidden = deviceWord 0x1000 0x3001 ∷ map 1 9 false ∷ setMark 0 5 ∷ []
 
-forbidden-says : ((unitBy bitsFirst) .call (storeWord 0 1) (afterBy (unitBy bitsFirst) forbidden (firstBy true, mappedWords))) .0 ≡ fault 87 0 1 20 0
+forbidden-says : ((unitBy bitsFirst) .call (storeWord 0 1) (afterBy (unitBy bitsFirst) forbidden (firstBy true false, mappedWords))) .0 ≡ fault 87 0 1 20 0
 unfolding bitsFirst afterBy calling
 forbidden-says = refl
 
-forbidden-right : (step (storeWord 0 1) (specified memory 4 4 true (begin ++ forbidden))) .0 ≡ fault 80 1 0 20 0
+forbidden-right : (step (storeWord 0 1) (specified memory 4 4 true false (begin ++ forbidden))) .0 ≡ fault 80 1 0 20 0
 unfolding specifying
 forbidden-right = refl
 
 pub bits-before-p-refuted : Demand-3 (unitBy bitsFirst) → ⊥
-bits-before-p-refuted = refuted-by true bitsFirst begin forbidden (storeWord 0 1) (firstBy true, mappedWords) (fault 87 0 1 20 0) (fault 80 1 0 20 0) first-begun forbidden-says forbidden-right tt
+bits-before-p-refuted = refuted-by true false bitsFirst begin forbidden (storeWord 0 1) (firstBy true false, mappedWords) (fault 87 0 1 20 0) (fault 80 1 0 20 0) first-begun forbidden-says forbidden-right tt
 
 -- Entry 0 of the top table leads to guest frame 5, which is the same host frame, read-only: one word is the entry of all levels. It lacks bit 5
 -- when the load comes, so that level 3 owes it; judged when level 4 has set it, nothing is owed.
@@ -433,44 +433,44 @@ aliased = map 5 8 false ∷ deviceWord 0 0x5003 ∷ setMark 0 5 ∷ []
 
 turn-begun : Begun judgedInTurn
 unfolding judgedInTurn afterBy
-turn-begun = begins-by true judgedInTurn refl maps-on
+turn-begun = begins-by true false judgedInTurn refl maps-on
 
-turn-says : ((unitBy judgedInTurn) .call (loadWord 0) (afterBy (unitBy judgedInTurn) aliased (firstBy true, mappedWords))) .0 ≡ value 0x5023 24 0
+turn-says : ((unitBy judgedInTurn) .call (loadWord 0) (afterBy (unitBy judgedInTurn) aliased (firstBy true false, mappedWords))) .0 ≡ value 0x5023 24 0
 unfolding judgedInTurn afterBy calling
 turn-says = refl
 
-aliased-right : (step (loadWord 0) (specified memory 4 4 true (begin ++ aliased))) .0 ≡ fault 87 0 5 24 1
+aliased-right : (step (loadWord 0) (specified memory 4 4 true false (begin ++ aliased))) .0 ≡ fault 87 0 5 24 1
 unfolding specifying
 aliased-right = refl
 
 pub judged-in-turn-refuted : Demand-3 (unitBy judgedInTurn) → ⊥
-judged-in-turn-refuted = refuted-by true judgedInTurn begin aliased (loadWord 0) (firstBy true, mappedWords) (value 0x5023 24 0) (fault 87 0 5 24 1) turn-begun turn-says aliased-right tt
+judged-in-turn-refuted = refuted-by true false judgedInTurn begin aliased (loadWord 0) (firstBy true false, mappedWords) (value 0x5023 24 0) (fault 87 0 5 24 1) turn-begun turn-says aliased-right tt
 
 -- ---- forecasts, right after the opening
 
-anyway-says : ((unitBy forecastsAnyway) .call (forecast []) (openedBy true, openedWords)) .0 ≡ figures 0 0 0
+anyway-says : ((unitBy forecastsAnyway) .call (forecast []) (openedBy true false, openedWords)) .0 ≡ figures 0 0 0
 unfolding forecastsAnyway listWith ourStep ourEnd calling
 anyway-says = refl
 
-none-right : (step (forecast []) (specified memory 4 4 true [])) .0 ≡ no 16
+none-right : (step (forecast []) (specified memory 4 4 true false [])) .0 ≡ no 16
 unfolding specifying
 none-right = refl
 
 pub forecasts-anyway-refuted : Demand-3 (unitBy forecastsAnyway) → ⊥
 unfolding afterBy
-forecasts-anyway-refuted = refuted-opened-by true forecastsAnyway [] (forecast []) (figures 0 0 0) (no 16) anyway-says none-right tt
+forecasts-anyway-refuted = refuted-opened-by true false forecastsAnyway [] (forecast []) (figures 0 0 0) (no 16) anyway-says none-right tt
 
 abbrev long : Call
 long = forecast (replicate 257 0)
 
-length-says : ((unitBy lengthFirst) .call long (openedBy true, openedWords)) .0 ≡ no 14
+length-says : ((unitBy lengthFirst) .call long (openedBy true false, openedWords)) .0 ≡ no 14
 unfolding lengthFirst calling
 length-says = refl
 
-long-right : (step long (specified memory 4 4 true [])) .0 ≡ no 16
+long-right : (step long (specified memory 4 4 true false [])) .0 ≡ no 16
 unfolding specifying
 long-right = refl
 
 pub length-first-refuted : Demand-3 (unitBy lengthFirst) → ⊥
 unfolding afterBy
-length-first-refuted = refuted-opened-by true lengthFirst [] long (no 14) (no 16) length-says long-right tt
+length-first-refuted = refuted-opened-by true false lengthFirst [] long (no 14) (no 16) length-says long-right tt

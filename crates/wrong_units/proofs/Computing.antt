@@ -21,20 +21,26 @@ use Rattle.walk.specs.Memory.{memoryWorld, walkedOf, noted, framesOf, trailFrom
 use Rattle.marks.specs.Table as marks
 use Rattle.marks.specs.Key.{lowPage, keyOf, levelAt, searchOf}
 use Rattle.marks.specs.Reading.{marksOf, markOf}
-use Rattle.record.specs.Record.{isTable, poolFits, poolsFit, choicesFit, fitsOf, headRoot, headTables, withMarks}
+use Rattle.choice.specs.Window as window
+use Rattle.choice.specs.Order.{orderFits, choiceFits, automaticAt, leavingOf, withoutOf, withOf, movedOf}
+use Rattle.choice.specs.Reading as shows
+use Rattle.choice.specs.Refusal.{ownedIn, roomIn, setRefusal, clearRefusal}
+use Rattle.record.specs.Record.{isTable, poolFits, poolsFit, choicesFit, fitsOf, headRoot, headTables, headTally, withMarks}
 use Rattle.shadow.specs.Held.{heldOf, entryFor}
 use Rattle.shadow.specs.Fill.{fillOf}
 use Rattle.shadow.specs.Watch.{watchesOf, watchedFrom, watchedOf}
 use Rattle.drops.specs.Cut.{isLeaf, kindOf, linkUpOf, linksUpOf}
 use Rattle.drops.specs.Drop.{goesOf, clearOneOf, clearLeavesOf, settleOf, sweepOf, visitOf, scanFrom, scanOf, tableNamed, holderOf, dropPrefixOf}
+use Rattle.charge.specs.Charge as charge
+use Rattle.automatic.specs.Moves as automatic
 use Rattle.translate.specs.Translate.{directOf, servedOf, plainOf, checkedOf, throughOf, unshadowedOf, servesOf, foundOf, filledOf, passesOf, verdictOf, arrivedOf, missedOf, translateOf}
 use Rattle.request.specs.Access as access
 use Rattle.forecast.specs.Forecast as forecast
-use Rattle.calls.specs.Calls.{headHeld, headHost, translatedOf, loadCall, storeCall, deviceCall, rootCall, unmappedOf, mapCall, markedOf, setMarkCall, clearMarkCall, forecastCall, callOf}
+use Rattle.calls.specs.Calls.{headHeld, headHost, translatedOf, loadCall, storeCall, deviceCall, rootCall, unmappedOf, mapCall, chargedIn, chargeAt, storeChargedOf, setMarkCall, clearMarkCall, forecastCall, callOf}
 
 -- a call of the unit, but for what puts a path into an area
 unfoldable pub besides : ℕ
-unfolding specifying ones levelAt switch recordFits entryAtOf highOf putEntryOf guestOf levelOf parentOf slotOf headerOf insideOf bareOf link followOf noneOf withTop lookupOf roomOf hostEntry leafOf hostWalkOf mapOf memoryWorld walkedOf framesOf trailFrom noted lowPage keyOf searchOf marks.keys marks.inserted marks.tableOf marks.withKey marks.withoutKey marks.setRefusal marks.clearRefusal marks.placeIn marks.placeOf places marksOf markOf isTable poolFits poolsFit choicesFit fitsOf headRoot headTables withMarks heldOf entryFor fillOf watchesOf watchedFrom watchedOf kindOf isLeaf linkUpOf linksUpOf goesOf clearOneOf clearLeavesOf settleOf sweepOf visitOf scanFrom scanOf tableNamed holderOf dropPrefixOf detachOf releaseTop releaseOf lastIndex lacks directOf servedOf plainOf checkedOf throughOf unshadowedOf servesOf foundOf filledOf passesOf verdictOf arrivedOf missedOf translateOf access.bitsOf access.settledOf access.droppedOf access.loadOf access.storeOf access.deviceOf forecast.newest forecast.passes forecast.metFrom forecast.filledOf forecast.paid forecast.heldAfter forecast.missedOf forecast.keptOf forecast.loadOf forecast.addressOf forecast.listOf forecast.forecastOf headHeld headHost translatedOf loadCall storeCall deviceCall rootCall unmappedOf mapCall markedOf setMarkCall clearMarkCall forecastCall callOf
+unfolding specifying ones levelAt switch recordFits entryAtOf highOf putEntryOf guestOf levelOf parentOf slotOf headerOf insideOf bareOf link followOf noneOf withTop lookupOf roomOf hostEntry leafOf hostWalkOf mapOf memoryWorld walkedOf framesOf trailFrom noted lowPage keyOf searchOf marks.keys marks.inserted marks.tableOf marks.withKey marks.withoutKey marks.placeIn marks.placeOf places marksOf markOf isTable poolFits poolsFit choicesFit window.shifted window.requestedOf window.emptiedOf window.chargedOf window.unroll window.prefixIn window.chargesOf orderFits choiceFits automaticAt leavingOf withoutOf withOf movedOf shows.bits shows.spread ownedIn roomIn setRefusal clearRefusal fitsOf headRoot headTables headTally withMarks heldOf entryFor fillOf watchesOf watchedFrom watchedOf kindOf isLeaf linkUpOf linksUpOf goesOf clearOneOf clearLeavesOf settleOf sweepOf visitOf scanFrom scanOf tableNamed holderOf dropPrefixOf charge.prefixOf charge.endsAt charge.visitOf charge.chargedFrom charge.chargedOf automatic.markedOf automatic.withdrawnOf automatic.roomMadeOf automatic.appointedOf automatic.chargedOf automatic.takenOverOf automatic.setOf automatic.clearedOf detachOf releaseTop releaseOf lastIndex lacks directOf servedOf plainOf checkedOf throughOf unshadowedOf servesOf foundOf filledOf passesOf verdictOf arrivedOf missedOf translateOf access.bitsOf access.settledOf access.droppedOf access.loadOf access.storeOf access.deviceOf forecast.newest forecast.passes forecast.metFrom forecast.filledOf forecast.paid forecast.heldAfter forecast.missedOf forecast.keptOf forecast.loadOf forecast.addressOf forecast.listOf forecast.forecastOf headHeld headHost translatedOf loadCall storeCall deviceCall rootCall unmappedOf mapCall chargedIn chargeAt storeChargedOf setMarkCall clearMarkCall forecastCall callOf
 besides = 0
 
 -- a whole call

@@ -52,7 +52,7 @@ stale-mapping-says : ((unitBy staleMapping) .call (loadWord 0) (afterBy (unitBy 
 unfolding staleMapping mapKeeping afterBy calling
 stale-mapping-says = refl
 
-remap-right : (step (loadWord 0) (specified memory 4 4 false ((begin ++ hold) ++ remap))) .0 ≡ value 0x2003 16 1
+remap-right : (step (loadWord 0) (specified memory 4 4 false false ((begin ++ hold) ++ remap))) .0 ≡ value 0x2003 16 1
 unfolding specifying
 remap-right = refl
 
@@ -78,7 +78,7 @@ stale-switch-says : ((unitBy staleSwitch) .call (loadWord 0) (afterBy (unitBy st
 unfolding staleSwitch markKeeping afterBy calling
 stale-switch-says = refl
 
-unmark-right : (step (loadWord 0) (specified memory 4 4 false ((begin ++ hold) ++ unmark))) .0 ≡ value 0x3003 4 1
+unmark-right : (step (loadWord 0) (specified memory 4 4 false false ((begin ++ hold) ++ unmark))) .0 ≡ value 0x3003 4 1
 unfolding specifying
 unmark-right = refl
 
@@ -100,7 +100,7 @@ device-forgotten-says : ((unitBy deviceForgotten) .call (loadWord 0) (afterBy (u
 unfolding deviceForgotten deviceWith dropNothing afterBy calling
 device-forgotten-says = refl
 
-write-right : (step (loadWord 0) (specified memory 4 4 false ((begin ++ hold) ++ write))) .0 ≡ value 0x2003 16 1
+write-right : (step (loadWord 0) (specified memory 4 4 false false ((begin ++ hold) ++ write))) .0 ≡ value 0x2003 16 1
 unfolding specifying
 write-right = refl
 
@@ -114,7 +114,7 @@ device-forgotten-refuted = refuted deviceForgotten (begin ++ hold) write (loadWo
 abbrev pub through : List Call
 through = storeWord (2 ^ 39 + 0x1000) 0x2003 ∷ []
 
-through-right : (step (loadWord 0) (specified memory 4 4 false ((begin ++ hold) ++ through))) .0 ≡ value 0x2003 16 1
+through-right : (step (loadWord 0) (specified memory 4 4 false false ((begin ++ hold) ++ through))) .0 ≡ value 0x2003 16 1
 unfolding specifying
 through-right = refl
 
@@ -166,7 +166,7 @@ forgets-says : ((unitBy forgetsAtStore) .call (loadWord 0) (afterBy (unitBy forg
 unfolding forgetsAtStore afterBy calling
 forgets-says = refl
 
-fill-store-right : (step (loadWord 0) (specified memory 4 4 false (begin ++ fill-store))) .0 ≡ value 0x3003 20 0
+fill-store-right : (step (loadWord 0) (specified memory 4 4 false false (begin ++ fill-store))) .0 ≡ value 0x3003 20 0
 unfolding specifying
 fill-store-right = refl
 

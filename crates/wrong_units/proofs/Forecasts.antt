@@ -34,7 +34,7 @@ alone-says : ((unitBy eachAlone) .call (forecast (0 ∷ 8 ∷ [])) (firstRecord,
 unfolding eachAlone forecastWith listWith ourStep ourEnd calling
 alone-says = refl
 
-alone-right : (step (forecast (0 ∷ 8 ∷ [])) (specified memory 4 4 false (begin ++ []))) .0 ≡ figures 8 1 4
+alone-right : (step (forecast (0 ∷ 8 ∷ [])) (specified memory 4 4 false false (begin ++ []))) .0 ≡ figures 8 1 4
 unfolding specifying
 alone-right = refl
 
@@ -60,7 +60,7 @@ own-says : ((unitBy forgetsOwnOnly) .call overfull (afterBy (unitBy forgetsOwnOn
 unfolding forgetsOwnOnly forecastWith listWith ourStep ourEnd afterBy calling
 own-says = refl
 
-own-right : (step overfull (specified memory 4 4 false ((begin ++ hold) ++ more))) .0 ≡ figures 24 3 4
+own-right : (step overfull (specified memory 4 4 false false ((begin ++ hold) ++ more))) .0 ≡ figures 24 3 4
 unfolding specifying
 own-right = refl
 
@@ -80,7 +80,7 @@ end-says : ((unitBy tablesAtEnd) .call (forecast (0 ∷ 2 ^ 39 ∷ [])) (afterBy
 unfolding tablesAtEnd forecastWith listWith ourStep afterBy calling
 end-says = refl
 
-end-right : (step (forecast (0 ∷ 2 ^ 39 ∷ [])) (specified memory 4 4 false (begin ++ shortened))) .0 ≡ figures 16 2 4
+end-right : (step (forecast (0 ∷ 2 ^ 39 ∷ [])) (specified memory 4 4 false false (begin ++ shortened))) .0 ≡ figures 16 2 4
 unfolding specifying
 end-right = refl
 
@@ -97,7 +97,7 @@ four-says : ((unitBy endsAtFour) .call (forecast (4 ∷ 0 ∷ [])) (firstRecord,
 unfolding endsAtFour calling
 four-says = refl
 
-four-right : (step (forecast (4 ∷ 0 ∷ [])) (specified memory 4 4 false (begin ++ []))) .0 ≡ figures 4 1 4
+four-right : (step (forecast (4 ∷ 0 ∷ [])) (specified memory 4 4 false false (begin ++ []))) .0 ≡ figures 4 1 4
 unfolding specifying
 four-right = refl
 
@@ -124,7 +124,7 @@ served-says : ((unitBy servesForReal) .call (loadWord 0) (heldRecord, heldWords)
 unfolding servesForReal calling
 served-says = refl
 
-served-right : (step (loadWord 0) (specified memory 4 4 false (begin ++ (marks ++ (forecast (0 ∷ []) ∷ []))))) .0 ≡ value 0x3003 16 1
+served-right : (step (loadWord 0) (specified memory 4 4 false false (begin ++ (marks ++ (forecast (0 ∷ []) ∷ []))))) .0 ≡ value 0x3003 16 1
 unfolding specifying
 served-right = refl
 

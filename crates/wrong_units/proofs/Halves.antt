@@ -20,7 +20,7 @@ lower-says : ((unitBy lowerHalfOnly) .call (loadWord 0xFFFF800000000000) (opened
 unfolding lowerHalfOnly calling
 lower-says = refl
 
-upper-right : (step (loadWord 0xFFFF800000000000) (specified memory 4 4 false [])) .0 ≡ fault 72 0 0 1 1
+upper-right : (step (loadWord 0xFFFF800000000000) (specified memory 4 4 false false [])) .0 ≡ fault 72 0 0 1 1
 unfolding specifying
 upper-right = refl
 
@@ -34,7 +34,7 @@ sign-says : ((unitBy signNotCompared) .call (loadWord 0x800000000000) (openedRec
 unfolding signNotCompared calling
 sign-says = refl
 
-sign-right : (step (loadWord 0x800000000000) (specified memory 4 4 false [])) .0 ≡ no 4
+sign-right : (step (loadWord 0x800000000000) (specified memory 4 4 false false [])) .0 ≡ no 4
 unfolding specifying
 sign-right = refl
 
@@ -48,7 +48,7 @@ devices-says : ((unitBy devicesSigned) .call (deviceWord 0xFFFFFFFFFFF8 1) (open
 unfolding devicesSigned calling
 devices-says = refl
 
-device-right : (step (deviceWord 0xFFFFFFFFFFF8 1) (specified memory 4 4 false [])) .0 ≡ fault 72 0 (2 ^ 36 - 1) 1 1
+device-right : (step (deviceWord 0xFFFFFFFFFFF8 1) (specified memory 4 4 false false [])) .0 ≡ fault 72 0 (2 ^ 36 - 1) 1 1
 unfolding specifying
 device-right = refl
 
@@ -65,7 +65,7 @@ marks-says : ((unitBy marksByAllBits) .call (setMark 0 1) (afterBy (unitBy marks
 unfolding marksByAllBits afterBy calling
 marks-says = refl
 
-marks-right : (step (setMark 0 1) (specified memory 4 4 false upperMark)) .0 ≡ ok
+marks-right : (step (setMark 0 1) (specified memory 4 4 false false upperMark)) .0 ≡ ok
 unfolding specifying
 marks-right = refl
 

@@ -105,7 +105,7 @@ same-touched : T (SameOn (touchedOf heldRecord heldWords false 0))
 unfolding touchedOf calling
 same-touched = tt
 
-path-held : HeldOrPlain ((specified memory 4 4 false (begin ++ hold)) .config) ((specified memory 4 4 false (begin ++ hold)) .book) false 0
+path-held : HeldOrPlain ((specified memory 4 4 false false (begin ++ hold)) .config) ((specified memory 4 4 false false (begin ++ hold)) .book) false 0
 unfolding HeldOrPlain specifying
 path-held = inl tt
 
@@ -127,7 +127,7 @@ unfolding WordsCounted
 walks-in-full-refuted d =
     differ (fault 65 4 0 16 0) (value 0x3003 16 0) tt
     (sym says-altered
-    ∙ subst Same in-full-comes (d memory 4 4 false (begin ++ hold) (grants false) 0 8 path-held) bits-off altered (length-set heldWords 4096 0)
+    ∙ subst Same in-full-comes (d memory 4 4 false false (begin ++ hold) (grants false) 0 8 path-held) bits-off altered (length-set heldWords 4096 0)
     (same-words heldWords altered (countedOf heldRecord heldWords false 0) same-counted)
     (same-words heldWords altered (touchedOf heldRecord heldWords false 0) same-touched)
     ∙ says-before)

@@ -14,3 +14,4 @@ pub mod Lookups
 pub mod Widths
 pub mod Quiet
 pub mod Bits
+pub mod Choice

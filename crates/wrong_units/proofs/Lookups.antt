@@ -35,10 +35,10 @@ searched r a = let c = configBy (length memory) 4 4 false in search (c .levels) 
 -- a search that says something else there
 not-found : (f : Searches) (ys : List Call) (a : ℕ) → (f (left ys) a ≡ searched (left ys) a → ⊥) → Lookups f → ⊥
 unfolding Lookups afterBy
-not-found f ys a clash l = clash (subst (λ (e : Record × List ℕ). f (e .0) a ≡ searched (e .0) a) comes (l memory 4 4 false ys (grants false) a .searched))
+not-found f ys a clash l = clash (subst (λ (e : Record × List ℕ). f (e .0) a ≡ searched (e .0) a) comes (l memory 4 4 false false ys (grants false) a .searched))
   where
     comes : Comes callOf ys (afterBy cangrieb ys (openedRecord, openedWords))
-    comes = goes-on false callOf [] ys (openedRecord, openedWords) _ (ap (λ e. (told e) .1) (opens false)) refl
+    comes = goes-on false false callOf [] ys (openedRecord, openedWords) _ (ap (λ e. (told e) .1) (opens false false)) refl
 
 -- ---- marks of level 4 and 5: the search goes on after the first
 
@@ -65,7 +65,7 @@ loads-say : ((unitBy loadsEndAtN) .call (loadWord 0) (afterBy (unitBy loadsEndAt
 unfolding loadsEndAtN endsAtN searchTo afterBy calling
 loads-say = refl
 
-loads-right : (step (loadWord 0) (specified memory 4 4 false (begin ++ both))) .0 ≡ value 0x3003 24 0
+loads-right : (step (loadWord 0) (specified memory 4 4 false false (begin ++ both))) .0 ≡ value 0x3003 24 0
 unfolding specifying
 loads-right = refl
 

@@ -21,7 +21,7 @@ use Rattle.layout.specs.Layout.{page}
 use Rattle.host.specs.Map.{hostArea}
 use Rattle.marks.specs.Table as marks
 use Rattle.record.specs.declared.Record.{Record}
-use Rattle.record.specs.Record.{configBy, layoutOf, guestFrame}
+use Rattle.record.specs.Record.{configBy, layoutOf, guestFrame, choiceOf}
 use Rattle.record.specs.Open.{refusalOf, clearedOf, enteredOf, firstOf, grantedOf}
 use Rattle.calls.specs.declared.Reply.{Reply}
 use Rattle.calls.specs.Calls.{ended, openCall, callOf}
@@ -48,17 +48,17 @@ memory = replicate 4096 0 ++ guest
 
 -- ---- the opening
 
--- a record by its choice of bits, its host tables, its shadow tables and its marks
-abbrev pub recordBy : Bool → Pool → Pool → List ℕ → Record
-recordBy bits host shadow keys = record {
+-- a record by its choices, its host tables, its shadow tables and its marks; no mark is automatic, and no request is in the window
+abbrev pub recordBy : Bool → Bool → Pool → Pool → List ℕ → Record
+recordBy bits on host shadow keys = record {
   layout = layoutOf 6144 4 4 bits;
   pools = record { host = host; shadow = shadow };
-  guest = record { root = guestFrame 0; held = page 0; marks = marks.tableOf keys };
+  guest = record { root = guestFrame 0; held = page 0; marks = marks.tableOf keys; choice = choiceOf on };
 }
 
--- with bits off
+-- with bits off, and no automatic choice
 abbrev pub recordAt : Pool → Pool → List ℕ → Record
-recordAt host shadow keys = recordBy false host shadow keys
+recordAt host shadow keys = recordBy false false host shadow keys
 
 abbrev pub none : Pool
 none = record { fresh = 0; free = 0; used = 0; top = 0 }
@@ -70,21 +70,21 @@ levelWord n = n * 16 * entryLimit
 abbrev pub openedWords : List ℕ
 openedWords = placed ((1, levelWord 4) ∷ []) memory
 
-abbrev pub openedBy : Bool → Record
-openedBy bits = recordBy bits (record { fresh = 1; free = 0; used = 1; top = 1 }) none []
+abbrev pub openedBy : Bool → Bool → Record
+openedBy bits on = recordBy bits on (record { fresh = 1; free = 0; used = 1; top = 1 }) none []
 
 abbrev pub openedRecord : Record
-openedRecord = openedBy false
+openedRecord = openedBy false false
 
--- where the host tables stand does not depend on the choice of bits
+-- where the host tables stand does not depend on the choices
 abbrev area : Area
 area = hostArea (configBy 6144 4 4 false)
 
 abbrev enteredOn : List ℕ → After Went
 enteredOn m = enterOf area noneOf m 0
 
-abbrev grantedBy : Bool → After Went → After Reply
-grantedBy bits t = ended (firstOf (layoutOf 6144 4 4 bits) (t .result .pool)) answer.Ok (t .memory)
+abbrev grantedBy : Bool → Bool → After Went → After Reply
+grantedBy bits on t = ended (firstOf (layoutOf 6144 4 4 bits) (t .result .pool) on) answer.Ok (t .memory)
 
 pub grants : (bits : Bool) → refusalOf (length memory) 4 4 bits ≡ 0
 unfolding refusalOf openRefusal
@@ -94,9 +94,9 @@ clears : clearedOf memory 8 ≡ memory
 unfolding clearedOf
 clears = zeroed-clear memory 0 4096 tt
 
-first-is : (bits : Bool) → ended (grantedOf memory 4 4 bits .result) answer.Ok (grantedOf memory 4 4 bits .memory) ≡ grantedBy bits (enteredOn (clearedOf memory 8))
+first-is : (bits on : Bool) → ended (grantedOf memory 4 4 bits on .result) answer.Ok (grantedOf memory 4 4 bits on .memory) ≡ grantedBy bits on (enteredOn (clearedOf memory 8))
 unfolding grantedOf enteredOf
-first-is bits = refl
+first-is bits on = refl
 
 ready : Ready area noneOf memory
 unfolding noneOf insideOf followOf present bitSet
@@ -106,12 +106,12 @@ no-top : followOf 0 4 (noneOf .top) ≡ Not
 unfolding noneOf followOf present bitSet
 no-top = refl
 
-enters : (bits : Bool) → grantedBy bits (enteredOn memory) ≡ ended (openedBy bits) answer.Ok openedWords
+enters : (bits on : Bool) → grantedBy bits on (enteredOn memory) ≡ ended (openedBy bits on) answer.Ok openedWords
 unfolding noneOf withTop link headerOf firstOf
-enters bits = ap (grantedBy bits) (enter-clear area noneOf memory 0 ready no-top)
+enters bits on = ap (grantedBy bits on) (enter-clear area noneOf memory 0 ready no-top)
 
-pub opens : (bits : Bool) → openCall memory 4 4 bits ≡ ended (openedBy bits) answer.Ok openedWords
-opens bits = granted-call memory 4 4 bits (grants bits) ∙ first-is bits ∙ ap (λ m. grantedBy bits (enteredOn m)) clears ∙ enters bits
+pub opens : (bits on : Bool) → openCall memory 4 4 bits on ≡ ended (openedBy bits on) answer.Ok openedWords
+opens bits on = granted-call memory 4 4 bits on (grants bits) ∙ first-is bits on ∙ ap (λ m. grantedBy bits on (enteredOn m)) clears ∙ enters bits on
 
 -- ---- guest frame 0 is mapped to host frame 8: there are host tables of all four levels then
 
@@ -125,11 +125,11 @@ tables xs =
 abbrev pub fourTables : Pool
 fourTables = record { fresh = 4; free = 0; used = 4; top = 1 }
 
-abbrev pub firstBy : Bool → Record
-firstBy bits = recordBy bits fourTables none []
+abbrev pub firstBy : Bool → Bool → Record
+firstBy bits on = recordBy bits on fourTables none []
 
 abbrev pub firstRecord : Record
-firstRecord = firstBy false
+firstRecord = firstBy false false
 
 -- n tables are in use
 abbrev inUse : ℕ → Pool
@@ -187,7 +187,9 @@ inserts =
     ∙ down-clear area [] (inUse 3) hung2 2 2 0 0 [] 0x8003 ready1 none1
     ∙ down-end
 
-pub first-map : (bits : Bool) → callOf (map 0 8 true) (openedBy bits) openedWords ≡ ended (firstBy bits) answer.Ok (tables [])
+pub first-map : (bits on : Bool) → callOf (map 0 8 true) (openedBy bits on) openedWords ≡ ended (firstBy bits on) answer.Ok (tables [])
 unfolding besides
-first-map false = rw inserts
-first-map true = rw inserts
+first-map false false = rw inserts
+first-map false true = rw inserts
+first-map true false = rw inserts
+first-map true true = rw inserts

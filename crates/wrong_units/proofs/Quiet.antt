@@ -23,11 +23,11 @@ mark = setMark 0 4 ∷ []
 abbrev day : List Call
 day = loadWord 0 ∷ storeWord 0x10 7 ∷ loadWord 0 ∷ []
 
-day-quiet : T (quiet day (specified memory 4 4 false (begin ++ mark)))
+day-quiet : T (quiet day (specified memory 4 4 false false (begin ++ mark)))
 unfolding specifying met onlyGranted noneWatched touched allFit quiet
 day-quiet = tt
 
-day-right : quietExits day (specified memory 4 4 false (begin ++ mark)) ≡ 1
+day-right : quietExits day (specified memory 4 4 false false (begin ++ mark)) ≡ 1
 unfolding specifying met touched newPaths quietExits
 day-right = refl
 
@@ -40,6 +40,6 @@ unfolding QuietDay forgetsAtStore afterBy
 forgets-at-store-not-quiet d =
     let u = unitBy forgetsAtStore in
     let comes : Comes forgetsAtStore (begin ++ mark) (afterBy u mark (firstRecord, mappedWords)) =
-    goes-on false forgetsAtStore begin mark (firstRecord, mappedWords) _ (begins-at forgetsAtStore refl other-maps) refl in
-    let e = sym forgets-pays ∙ ap (λ s. allPaid exitsPaid (runBy u day s)) (sym comes) ∙ d memory 4 4 (begin ++ mark) day (grants false) day-quiet ∙ day-right in
+    goes-on false false forgetsAtStore begin mark (firstRecord, mappedWords) _ (begins-at forgetsAtStore refl other-maps) refl in
+    let e = sym forgets-pays ∙ ap (λ s. allPaid exitsPaid (runBy u day s)) (sym comes) ∙ d memory 4 4 false (begin ++ mark) day (grants false) day-quiet ∙ day-right in
     omega (arith, e)

@@ -26,7 +26,7 @@ big-says : ((unitBy bigEndian) .call (load 0 1) (afterBy (unitBy bigEndian) plai
 unfolding bigEndian afterBy calling
 big-says = refl
 
-byte-right : (step (load 0 1) (specified memory 4 4 false (begin ++ plain))) .0 ≡ value 3 24 0
+byte-right : (step (load 0 1) (specified memory 4 4 false false (begin ++ plain))) .0 ≡ value 3 24 0
 unfolding specifying
 byte-right = refl
 
@@ -46,7 +46,7 @@ clears-says : ((unitBy clearsTheRest) .call (loadWord 0x10) (afterBy (unitBy cle
 unfolding clearsTheRest storeWith clearingIn afterBy calling
 clears-says = refl
 
-beside-right : (step (loadWord 0x10) (specified memory 4 4 false (begin ++ beside))) .0 ≡ value 0x3322 24 0
+beside-right : (step (loadWord 0x10) (specified memory 4 4 false false (begin ++ beside))) .0 ≡ value 0x3322 24 0
 unfolding specifying
 beside-right = refl
 
@@ -68,7 +68,7 @@ at-zero-says : ((unitBy dropsAtByteZero) .call (loadWord 0) (afterBy (unitBy dro
 unfolding dropsAtByteZero storeWith dropAtZero dropNothing afterBy calling
 at-zero-says = refl
 
-byte-one-right : (step (loadWord 0) (specified memory 4 4 false ((begin ++ hold) ++ byteOne))) .0 ≡ value 0x2003 16 1
+byte-one-right : (step (loadWord 0) (specified memory 4 4 false false ((begin ++ hold) ++ byteOne))) .0 ≡ value 0x2003 16 1
 unfolding specifying
 byte-one-right = refl
 
@@ -81,7 +81,7 @@ multiples-says : ((unitBy multiplesOfEight) .call (load 1 1) (openedRecord, open
 unfolding multiplesOfEight calling
 multiples-says = refl
 
-odd-right : (step (load 1 1) (specified memory 4 4 false [])) .0 ≡ fault 72 0 0 1 1
+odd-right : (step (load 1 1) (specified memory 4 4 false false [])) .0 ≡ fault 72 0 0 1 1
 unfolding specifying
 odd-right = refl
 
@@ -93,7 +93,7 @@ first-says : ((unitBy addressFirst) .call (load (2 ^ 48) 3) (openedRecord, opene
 unfolding addressFirst calling
 first-says = refl
 
-width-right : (step (load (2 ^ 48) 3) (specified memory 4 4 false [])) .0 ≡ no 15
+width-right : (step (load (2 ^ 48) 3) (specified memory 4 4 false false [])) .0 ≡ no 15
 unfolding specifying
 width-right = refl
 
@@ -105,7 +105,7 @@ whole-says : ((unitBy devicesWhole) .call (device 1 1 0) (openedRecord, openedWo
 unfolding devicesWhole calling
 whole-says = refl
 
-device-odd-right : (step (device 1 1 0) (specified memory 4 4 false [])) .0 ≡ fault 72 0 0 1 1
+device-odd-right : (step (device 1 1 0) (specified memory 4 4 false false [])) .0 ≡ fault 72 0 0 1 1
 unfolding specifying
 device-odd-right = refl
 

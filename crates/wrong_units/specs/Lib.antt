@@ -2,3 +2,4 @@ pub mod Unit
 pub mod Changed
 pub mod Wrong
 pub mod WrongBits
+pub mod WrongChoice

@@ -24,6 +24,7 @@ use Rattle.spec.specs.Search.{nothing as none, more}
 use Rattle.spec.specs.Serving.{loads}
 use Rattle.words.specs.After.{After, yields}
 use Rattle.words.specs.Words.{wordIn, setIn}
+use Rattle.entry.specs.declared.HostPhysical.{HostPhysical}
 use Rattle.pool.specs.declared.Pool.{Pool}
 use Rattle.host.specs.declared.Change.{Change}
 use Rattle.host.specs.Map.{mapOf, unmapOf}
@@ -31,12 +32,15 @@ use Rattle.walk.specs.declared.Walked.{Walked}
 use Rattle.walk.specs.declared.Walked.the-variants as walked
 use Rattle.walk.specs.Memory.{walkedOf}
 use Rattle.marks.specs.Key.{lowPage, keyOf, keyAt, levelAt}
-use Rattle.marks.specs.Table.{room, placeOf}
+use Rattle.marks.specs.Table.{room, placeOf, withoutKey}
 use Rattle.record.specs.declared.Record.{Record}
 use Rattle.record.specs.Record.{configOf, withMarks}
 use Rattle.shadow.specs.Watch.{watchedOf}
 use Rattle.drops.specs.declared.Left.{Left}
 use Rattle.drops.specs.Drop.{dropPrefixOf}
+use Rattle.charge.specs.declared.Charge.{Charge}
+use Rattle.charge.specs.declared.Charge.the-variants as charge
+use Rattle.automatic.specs.Moves.{markedOf, marksWith, choiceWith, above}
 use Rattle.translate.specs.declared.Held.{Held}
 use Rattle.translate.specs.declared.Translated.{Translated}
 use Rattle.translate.specs.Translate.{exitBy}
@@ -45,7 +49,7 @@ use Rattle.request.specs.declared.Served.{Served}
 use Rattle.request.specs.Access as access
 use Rattle.request.specs.Access.{serving, settledOf, put, bytesIn}
 use Rattle.calls.specs.declared.Reply.{Reply}
-use Rattle.calls.specs.Calls.{hostTop, heldOf, rootOf, withHeld, withHost, nothing, ended, refused, judged, placed, servedBy, lookupAt, depthAt, addressOk, translatedOf, keysOf, markRefusal, markedOf, marksAfter, callOf}
+use Rattle.calls.specs.Calls.{hostTop, heldOf, rootOf, withHeld, withHost, nothing, ended, refused, judged, placed, servedBy, lookupAt, depthAt, addressOk, translatedOf, keysOf, windowedBy, chargeAt, storeChargedOf, owing, markRefusal, movedBy, callOf}
 use Rattle.forecast.specs.declared.Outlook.{Outlook}
 use Rattle.forecast.specs.declared.Next.{Next}
 use Rattle.forecast.specs.declared.Next.the-variants.{Go, Damaged}
@@ -133,7 +137,7 @@ marksFull = onSets (λ a n r m. elim (ltb (ones (r .guest .marks .set)) 4) [ tru
 -- a load by another test of its address, and by another depth
 abbrev pub loadBy : (Config → ℕ → Bool) → (Record → ℕ → ℕ) → ℕ → ℕ → Does
 loadBy legal deep a w r m =
-    placed r m w (legal (configOf r) a && aligned a w) (servedBy r (access.loadOf (configOf r) (hostTop r) m (heldOf r) (rootOf r) a w (deep r a)))
+    placed r m w (legal (configOf r) a && aligned a w) (windowedBy r (access.loadOf (configOf r) (hostTop r) m (heldOf r) (rootOf r) a w (deep r a)))
 
 abbrev pub loadIf : (Config → ℕ → Bool) → ℕ → ℕ → Does
 loadIf legal = loadBy legal depthAt
@@ -153,7 +157,8 @@ devicesSigned = onDevices (λ a w v r m. placed r m w (addressOk false (configOf
 -- a mark that is set has the page number of all 64 bits in its key
 abbrev pub setByAllBits : ℕ → ℕ → Does
 setByAllBits a n r m =
-    judged r m (cond (eqb (markRefusal true r a n) 0) (markedOf r m a n (marksAfter true (r .guest .marks) (keyOf n (pageOf a)))) (refused r (markRefusal true r a n) m))
+    let k : ℕ = keyOf n (pageOf a) in
+    judged r m (cond (eqb (markRefusal true r a n) 0) (movedBy r (markedOf r m (r .layout .levels - n) (above a n) (marksWith r k) (choiceWith r k))) (refused r (markRefusal true r a n) m))
 
 unfoldable pub marksByAllBits : Calls
 marksByAllBits = onSets setByAllBits callOf
@@ -184,11 +189,28 @@ storeAs drops writes c h a w v set o (walked.Arrived t y n) =
 storeAs drops writes c h a w v set o (walked.Faulted x n) = serving (o .result .held) (answer.Faulted x n (o .result .exits)) (o .memory)
 storeAs drops writes c h a w v set o walked.Damaged = access.refused h 11 (o .memory)
 
-unfoldable pub storeWith : Drops → Writes → ℕ → ℕ → ℕ → Does
-storeWith drops writes a w v r m =
+-- what a store comes to where nobody is charged (plain); one that is charged is ours: these units are run without the automatic choice
+abbrev pub orCharged : Record → ℕ → ℕ → ℕ → After Translated → HostPhysical → ℕ → After Reply → Charge → After Reply
+orCharged r a w v o t n plain charge.Nobody = plain
+orCharged r a w v o t n plain (charge.To p) = storeChargedOf r (o .memory) a w v (owing (o .result) t n p)
+orCharged r a w v o t n plain charge.Damaged = refused r 11 (o .memory)
+
+abbrev pub storedAs : Record → ℕ → ℕ → ℕ → After Translated → After Reply → Walked → After Reply
+storedAs r a w v o plain (walked.Arrived t y n) = orCharged r a w v o t n plain (chargeAt r (o .result .held) (o .memory) (t .0) (wordOf a))
+storedAs r a w v o plain (walked.Faulted x n) = plain
+storedAs r a w v o plain walked.Damaged = plain
+
+-- a store by what is done once it is translated
+abbrev pub storeDoing : (Record → ℕ → ℕ → ℕ → After Translated → After Served) → ℕ → ℕ → ℕ → Does
+storeDoing does a w v r m =
     let o : After Translated = translatedOf r m true a in
-    placed r m w (addressOk false (configOf r) a w)
-    (servedBy r (storeAs drops writes (configOf r) (heldOf r) a w v (settledOf (configOf r) (hostTop r) (rootOf r) true a (o .result .sets)) o (o .result .walked)))
+    placed r m w (addressOk false (configOf r) a w) (storedAs r a w v o (windowedBy r (does r a w v o)) (o .result .walked))
+
+abbrev pub doneWith : Drops → Writes → Record → ℕ → ℕ → ℕ → After Translated → After Served
+doneWith drops writes r a w v o = storeAs drops writes (configOf r) (heldOf r) a w v (settledOf (configOf r) (hostTop r) (rootOf r) true a (o .result .sets)) o (o .result .walked)
+
+unfoldable pub storeWith : Drops → Writes → ℕ → ℕ → ℕ → Does
+storeWith drops writes = storeDoing (doneWith drops writes)
 
 abbrev pub deviceAs : Drops → Writes → Config → List ℕ → Held → ℕ → ℕ → ℕ → Walked → After Served
 deviceAs drops writes c m h a w v (walked.Arrived t y n) = writtenAs writes h h n 0 (t .0) a w v (λ x. x) (drops c m (h .pool) (t .0) a)
@@ -214,10 +236,12 @@ mapKeeping g f w r m = judged r m (remapped r (mapOf (configOf r) (r .pools .hos
 unfoldable pub unmapKeeping : ℕ → Does
 unmapKeeping g r m = judged r m (remapped r (unmapOf (configOf r) (r .pools .host) m g))
 
--- a mark is set or cleared, and no path is dropped
+-- a mark is set or cleared, and no path is dropped, nor does an automatic mark leave
 unfoldable pub markKeeping : Bool → ℕ → ℕ → Does
 markKeeping b a n r m =
-    judged r m (cond (eqb (markRefusal b r a n) 0) (ended (withMarks r (marksAfter b (r .guest .marks) (keyAt (r .layout .levels) n a))) answer.Ok m) (refused r (markRefusal b r a n) m))
+    let k : ℕ = keyAt (r .layout .levels) n a in
+    let next : Record = cond b (withMarks r (marksWith r k) (choiceWith r k)) (withMarks r (withoutKey (r .guest .marks) k) (r .guest .choice)) in
+    judged r m (cond (eqb (markRefusal b r a n) 0) (ended next answer.Ok m) (refused r (markRefusal b r a n) m))
 
 -- version 2: a remap drops nothing, so that a table's old host frame goes on being read
 unfoldable pub staleMapping : Calls

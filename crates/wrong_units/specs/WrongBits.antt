@@ -40,11 +40,11 @@ use Rattle.request.specs.declared.Served.{Served}
 use Rattle.request.specs.Access as access
 use Rattle.request.specs.Access.{serving, settledOf, put}
 use Rattle.calls.specs.declared.Reply.{Reply}
-use Rattle.calls.specs.Calls.{hostTop, heldOf, rootOf, withHeld, ended, refused, judged, placed, servedBy, depthAt, addressOk, translatedOf, callOf}
+use Rattle.calls.specs.Calls.{hostTop, heldOf, rootOf, withHeld, ended, refused, judged, placed, windowedBy, depthAt, addressOk, translatedOf, callOf}
 use Rattle.forecast.specs.Forecast.{start}
 use Rattle.wrong_units.specs.Unit.{Calls}
 use Rattle.wrong_units.specs.Changed.{Does, onLoads, onStores, onForecasts}
-use Rattle.wrong_units.specs.Wrong.{saying, ourStep, ourEnd, listWith}
+use Rattle.wrong_units.specs.Wrong.{saying, storeDoing, ourStep, ourEnd, listWith}
 
 -- memory as the walks of a record see it
 abbrev pub worldOf : Record → List ℕ → World
@@ -66,12 +66,13 @@ ourSets r st a sets m = settledOf (configOf r) (hostTop r) (rootOf r) st a sets 
 unfoldable pub loadSetting : Sets → ℕ → ℕ → Does
 loadSetting set a w r m =
     let o : After Translated = translatedOf r m false a in
-    placed r m w (addressOk false (configOf r) a w) (servedBy r (access.loadBy (heldOf r) a w (set r false a (o .result .sets)) o (o .result .walked)))
+    placed r m w (addressOk false (configOf r) a w) (windowedBy r (access.loadBy (heldOf r) a w (set r false a (o .result .sets)) o (o .result .walked)))
+
+abbrev pub doneSetting : Sets → Record → ℕ → ℕ → ℕ → After Translated → After Served
+doneSetting set r a w v o = access.storeBy (configOf r) (heldOf r) a w v (set r true a (o .result .sets)) o (o .result .walked)
 
 unfoldable pub storeSetting : Sets → ℕ → ℕ → ℕ → Does
-storeSetting set a w v r m =
-    let o : After Translated = translatedOf r m true a in
-    placed r m w (addressOk false (configOf r) a w) (servedBy r (access.storeBy (configOf r) (heldOf r) a w v (set r true a (o .result .sets)) o (o .result .walked)))
+storeSetting set = storeDoing (doneSetting set)
 
 abbrev pub setting : Sets → Calls
 setting set = onLoads (loadSetting set) (onStores (storeSetting set) callOf)
@@ -133,7 +134,7 @@ lateBy h a w set o walked.Damaged = access.refused h 11 (o .memory)
 abbrev pub loadLate : ℕ → ℕ → Does
 loadLate a w r m =
     let o : After Translated = translatedOf r m false a in
-    placed r m w (addressOk false (configOf r) a w) (servedBy r (lateBy (heldOf r) a w (ourSets r false a (o .result .sets)) o (o .result .walked)))
+    placed r m w (addressOk false (configOf r) a w) (windowedBy r (lateBy (heldOf r) a w (ourSets r false a (o .result .sets)) o (o .result .walked)))
 
 unfoldable pub setsAfter : Calls
 setsAfter = onLoads loadLate callOf
@@ -182,7 +183,7 @@ translateWith arrives c ht m h root st a d =
 unfoldable pub loadArriving : Arrives → ℕ → ℕ → Does
 loadArriving arrives a w r m =
     let o : After Translated = translateWith arrives (configOf r) (hostTop r) m (heldOf r) (rootOf r) false a (depthAt r a) in
-    placed r m w (addressOk false (configOf r) a w) (servedBy r (access.loadBy (heldOf r) a w (ourSets r false a (o .result .sets)) o (o .result .walked)))
+    placed r m w (addressOk false (configOf r) a w) (windowedBy r (access.loadBy (heldOf r) a w (ourSets r false a (o .result .sets)) o (o .result .walked)))
 
 -- a unit that gives another verdict past the shadow part, from whether the path may be written through, where the walk came to and ours
 unfoldable pub arriveBy : (Bool → Walked → Verdict → Verdict) → Arrives

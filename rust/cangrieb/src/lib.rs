@@ -1,7 +1,7 @@
 //! The proved memory unit, for a monitor to link.
 //!
 //! The monitor owns a memory, a slice of 64-bit words in frames of 512: first the host frames, then the shadow frames,
-//! then the guest area. [`Record::open`] lays it out, [`Record::open_with`] also with accessed and dirty bits; each later call
+//! then the guest area. [`Record::open`] lays it out, [`Record::open_with`] with what [`Choices`] offers beside; each later call
 //! takes the record and the same memory.
 //!
 //! Nothing else is asked of the caller: the archive's functions have no precondition. A memory of another length or a
@@ -48,7 +48,21 @@ pub struct Pool {
     pub top: u64,
 }
 
-/// The record without the places of its marks.
+/// What the automatic choice keeps in numbers. The unit's own: [`Record::marks`] says what a caller may want to know.
+#[repr(C)]
+#[derive(Clone, Copy, Debug, Default, PartialEq, Eq)]
+pub struct Tally {
+    /// 1 if it is chosen, as opened, else 0.
+    pub on: u64,
+    /// The window, one bit for each of the last 64 loads and stores, that of the last lowest: whether it was charged.
+    pub charged: u64,
+    /// Where the ring is written next, by its low six bits.
+    pub at: u64,
+    /// Automatic marks.
+    pub count: u64,
+}
+
+/// The record without its rows of 64 words.
 #[repr(C)]
 #[derive(Clone, Copy, Debug, Default, PartialEq, Eq)]
 pub struct Head {
@@ -72,6 +86,8 @@ pub struct Head {
     pub held: u64,
     /// The places of marks that are set, one bit each.
     pub set: u64,
+    /// The automatic choice.
+    pub choice: Tally,
 }
 
 /// The unit's record. It is plain data: it may be copied, kept and compared. A call changes it where it stands; a refusal
@@ -79,11 +95,16 @@ pub struct Head {
 #[repr(C)]
 #[derive(Clone, Copy, Debug, PartialEq, Eq)]
 pub struct Record {
-    /// All but the places of the marks.
+    /// All but the rows of 64 words.
     pub head: Head,
     /// The marks, in ascending order at the places that `head.set` names: each its level in bits
     /// 0 to 2 and above them the indexes that it keeps.
     pub place: [u64; 64],
+    /// What stores were charged to, written round and round. `head.choice` says where next, and how many of the last
+    /// ones count.
+    pub ring: [u64; 64],
+    /// The places of the automatic marks, the one set first first, as many as `head.choice` says.
+    pub order: [u64; 64],
 }
 
 /// What an opening chooses beside its sizes: [`Record::open_with`]. By default nothing is chosen. Later versions have further
@@ -95,6 +116,40 @@ pub struct Choices {
     /// not set, in a table whose guest frame is mapped read-only, is fault W with that frame. A device store needs and sets
     /// none. Forecasts are refused with 16.
     pub bits: bool,
+    /// The automatic choice: a table of level 1 that the guest writes often gets a mark of level 1 by itself, so that it is read
+    /// directly and a store to it costs no exit. A store that drops paths of depth 0 by their entries of level 1 is charged to
+    /// the lowest prefix of three indexes among theirs; one that has three charges or more in the window then gets its mark. The
+    /// window holds the last 64 loads and stores that were not refused, and a root load empties it. If 64 marks are set, the
+    /// automatic one with the fewest charges makes room, of several the one of the lowest address; if none is automatic, none
+    /// is set.
+    ///
+    /// No value, fault or refusal is another by it; references, exits and the figures of forecasts may be. [`Record::marks`]
+    /// tells automatic marks from the operator's.
+    pub automatic: bool,
+}
+
+/// Whose a mark is.
+#[derive(Clone, Copy, Debug, PartialEq, Eq)]
+pub enum Kind {
+    /// [`Record::set_mark`] set it, or took it over.
+    Operator,
+    /// The automatic choice set it.
+    Automatic,
+}
+
+/// A mark that is set: [`Record::marks`].
+#[derive(Clone, Copy, Debug, PartialEq, Eq)]
+pub struct Mark {
+    /// The lowest address that it holds for. With the level it names the mark to [`Record::set_mark`] and
+    /// [`Record::clear_mark`].
+    pub address: u64,
+    /// Its level, 1 to 5.
+    pub level: u64,
+    /// Whose it is.
+    pub kind: Kind,
+    /// How many loads and stores of the window are charged to its prefix. Only a mark of level 1 has charges, and none
+    /// without the automatic choice.
+    pub charges: u64,
 }
 
 /// What the search among the marks finds for an address.
@@ -258,6 +313,19 @@ impl Answer {
     }
 }
 
+impl Mark {
+    /// None if nothing stands there.
+    fn from_raw(raw: raw::Mark) -> Option<Mark> {
+        let raw::Mark { level, address, charges, .. } = raw;
+        let kind = match raw.kind {
+            1 => Kind::Operator,
+            2 => Kind::Automatic,
+            _ => return None,
+        };
+        Some(Mark { address, level, kind, charges })
+    }
+}
+
 impl Fault {
     fn from_raw(raw: raw::Answer) -> Fault {
         let raw::Answer { level, frame, .. } = raw;
@@ -271,12 +339,14 @@ impl Fault {
     }
 }
 
-/// Calls an exported function with the two parts of the record, the memory and the numbers.
+/// Calls an exported function with the parts of the record, the memory and the numbers.
 macro_rules! call {
-    ($function:ident($head:expr, $place:expr, $memory:expr $(, $number:expr)*)) => {{
-        // The pointer and the length are those of one slice, lent mutably for the call, as head and places are lent by
-        // reference: none overlaps another. The function asks for nothing else.
-        let answer = unsafe { raw::$function($head, $place, $memory.as_mut_ptr(), $memory.len() $(, $number)*) };
+    ($function:ident($record:expr, $memory:expr $(, $number:expr)*)) => {{
+        let Record { head, place, ring, order } = $record;
+        let (memory, words) = ($memory.as_mut_ptr(), $memory.len());
+        // The pointer and the length are those of one slice, lent mutably for the call, as the parts of the record are lent
+        // by reference: none overlaps another. The function asks for nothing else.
+        let answer = unsafe { raw::$function(head, place, ring, order, memory, words $(, $number)*) };
         Answer::from_raw(answer)
     }};
 }
@@ -326,7 +396,8 @@ impl Record {
     /// use cangrieb::{Answer, Choices, Record};
     ///
     /// let mut memory = vec![0; 16 * 512];
-    /// let mut unit = Record::open_with(&mut memory, 4, 4, Choices { bits: true }).unwrap();
+    /// let choices = Choices { bits: true, ..Choices::default() };
+    /// let mut unit = Record::open_with(&mut memory, 4, 4, choices).unwrap();
     /// unit.map(&mut memory, 0, 8, true);
     /// unit.device_store(&mut memory, 0, 8, 3);
     /// // The entry by which the word is found is the word itself: its accessed bit is set first, and by the store its dirty bit.
@@ -341,8 +412,8 @@ impl Record {
         choices: Choices,
     ) -> Result<Record, Refusal> {
         let mut record = Record::zeros();
-        let Choices { bits } = choices;
-        match call!(cangrieb_open(&mut record.head, &mut record.place, memory, hosts, shadows, bits)) {
+        let Choices { bits, automatic } = choices;
+        match call!(cangrieb_open(&mut record, memory, hosts, shadows, bits, automatic)) {
             Answer::Refused(refusal) => Err(refusal),
             _ => Ok(record),
         }
@@ -350,7 +421,7 @@ impl Record {
 
     /// The record that nothing has opened: every call refuses it with 3.
     pub fn zeros() -> Record {
-        Record { head: Head::default(), place: [0; 64] }
+        Record { head: Head::default(), place: [0; 64], ring: [0; 64], order: [0; 64] }
     }
 
     /// Loads `width` bytes, 1, 2, 4 or 8, at a guest-virtual address: 3, 15 for another width, 4, 11. The first byte is the
@@ -369,50 +440,52 @@ impl Record {
     /// ```
     #[inline]
     pub fn load(&mut self, memory: &mut [u64], address: u64, width: u64) -> Answer {
-        call!(cangrieb_load(&mut self.head, &self.place, memory, address, width))
+        call!(cangrieb_load(self, memory, address, width))
     }
 
     /// Stores the low `width` bytes of a value, 1, 2, 4 or 8, at a guest-virtual address: 3, 15 for another width, 4, 11. No
     /// other byte is changed; the bits of the value above the width are not read.
     #[inline]
     pub fn store(&mut self, memory: &mut [u64], address: u64, width: u64, value: u64) -> Answer {
-        call!(cangrieb_store(&mut self.head, &self.place, memory, address, width, value))
+        call!(cangrieb_store(self, memory, address, width, value))
     }
 
     /// A device stores as [`Record::store`] does, at a guest-physical address: 3, 15, 4, 11.
     #[inline]
     pub fn device_store(&mut self, memory: &mut [u64], address: u64, width: u64, value: u64) -> Answer {
-        call!(cangrieb_device_store(&mut self.head, &self.place, memory, address, width, value))
+        call!(cangrieb_device_store(self, memory, address, width, value))
     }
 
-    /// Loads the root, the guest frame of the guest's top table: 3, 8.
+    /// Loads the root, the guest frame of the guest's top table: 3, 8. It drops all held paths and empties the window of
+    /// the automatic choice.
     #[inline]
     pub fn root(&mut self, memory: &mut [u64], guest: u64) -> Answer {
-        call!(cangrieb_root(&mut self.head, &self.place, memory, guest))
+        call!(cangrieb_root(self, memory, guest))
     }
 
     /// Maps a guest frame to a host frame of the guest area, or maps it anew: 3, 8, 9, 10, 11.
     #[inline]
     pub fn map(&mut self, memory: &mut [u64], guest: u64, frame: u64, writable: bool) -> Answer {
-        call!(cangrieb_map(&mut self.head, &self.place, memory, guest, frame, writable))
+        call!(cangrieb_map(self, memory, guest, frame, writable))
     }
 
     /// Unmaps a guest frame: 3, 8, 12, 11.
     #[inline]
     pub fn unmap(&mut self, memory: &mut [u64], guest: u64) -> Answer {
-        call!(cangrieb_unmap(&mut self.head, &self.place, memory, guest))
+        call!(cangrieb_unmap(self, memory, guest))
     }
 
-    /// Sets a mark of level 1 to 5 at an address: 3, 4, 5, 6, 7, 11.
+    /// Sets a mark of level 1 to 5 at an address: 3, 4, 5, 6, 7, 11. One that is automatic becomes the operator's, without 6.
+    /// If 64 marks are set, an automatic one makes room for any other ([`Choices::automatic`]): 7 is for 64 of the operator's.
     #[inline]
     pub fn set_mark(&mut self, memory: &mut [u64], address: u64, level: u64) -> Answer {
-        call!(cangrieb_set_mark(&mut self.head, &mut self.place, memory, address, level))
+        call!(cangrieb_set_mark(self, memory, address, level))
     }
 
-    /// Clears a mark: 3, 4, 5, 6, 11.
+    /// Clears a mark: 3, 4, 5, 6, 11. An automatic one is not the operator's to clear: 6.
     #[inline]
     pub fn clear_mark(&mut self, memory: &mut [u64], address: u64, level: u64) -> Answer {
-        call!(cangrieb_clear_mark(&mut self.head, &mut self.place, memory, address, level))
+        call!(cangrieb_clear_mark(self, memory, address, level))
     }
 
     /// What loads of these guest-virtual addresses, in this order, would cost: 3, 16 if accessed and dirty bits are chosen, 14
@@ -440,6 +513,8 @@ impl Record {
             raw::cangrieb_forecast(
                 &self.head,
                 &self.place,
+                &self.ring,
+                &self.order,
                 memory.as_ptr(),
                 memory.len(),
                 addresses.as_ptr(),
@@ -472,5 +547,36 @@ impl Record {
     pub fn depth(&self, address: u64) -> Lookup {
         // Both parts are lent to be read. The function asks for nothing else.
         unsafe { raw::cangrieb_depth(&self.head, &self.place, address) }
+    }
+
+    /// The marks that are set, in the order of their places: ascending by the indexes that they keep, as one number, and then
+    /// by level.
+    ///
+    /// As [`Record::depth`] this is no call to the unit and refuses nothing. Of a record that a call would refuse with 3 it
+    /// yields at most 64 marks, which mean nothing.
+    ///
+    /// ```
+    /// use cangrieb::{Choices, Kind, Mark, Record};
+    ///
+    /// let mut memory = vec![0; 16 * 512];
+    /// let choices = Choices { automatic: true, ..Choices::default() };
+    /// let mut unit = Record::open_with(&mut memory, 4, 4, choices).unwrap();
+    /// unit.map(&mut memory, 0, 8, true);
+    /// unit.device_store(&mut memory, 0, 8, 3);
+    /// // Address 0 is the entry by which it is found, at each level. Each store of it drops its own path.
+    /// for _ in 0..3 {
+    ///     assert_eq!(unit.marks().count(), 0);
+    ///     unit.store(&mut memory, 0, 8, 3);
+    /// }
+    /// let mark = Mark { address: 0, level: 1, kind: Kind::Automatic, charges: 3 };
+    /// assert!(unit.marks().eq([mark]));
+    /// unit.set_mark(&mut memory, 0, 1);
+    /// assert!(unit.marks().eq([Mark { kind: Kind::Operator, ..mark }]));
+    /// ```
+    pub fn marks(&self) -> impl Iterator<Item = Mark> + '_ {
+        let Record { head, place, ring, order } = self;
+        // All four parts are lent to be read. The function asks for nothing else.
+        let at = |at| unsafe { raw::cangrieb_mark(head, place, ring, order, at) };
+        (0..64).filter_map(move |place| Mark::from_raw(at(place)))
     }
 }

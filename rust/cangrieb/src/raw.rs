@@ -1,6 +1,5 @@
-//! The exported functions as the archive has them. The head of the record, the places of its marks and the memory are
-//! lent. The memory is a pointer and a number of words; if there are none, the pointer may be null. The answer comes
-//! back by value.
+//! The exported functions as the archive has them. The four parts of the record and the memory are lent. The memory is a
+//! pointer and a number of words; if there are none, the pointer may be null. The answer comes back by value.
 
 use crate::{Head, Lookup};
 use core::mem::size_of;
@@ -25,26 +24,45 @@ pub struct Answer {
     pub exits: u64,
 }
 
-/// The library has these as rows of 16, 7 and 2 words.
-const _: () =
-    assert!(size_of::<Head>() == 16 * 8 && size_of::<Answer>() == 7 * 8 && size_of::<Lookup>() == 2 * 8);
+/// What stands at a place of the marks, in numbers. What a kind does not have is 0.
+#[repr(C)]
+#[derive(Clone, Copy, Debug, PartialEq, Eq)]
+pub struct Mark {
+    /// 0 nothing, 1 a mark of the operator's, 2 an automatic one.
+    pub kind: u64,
+    /// Its level.
+    pub level: u64,
+    /// The lowest address that it holds for.
+    pub address: u64,
+    /// The charges to it in the window.
+    pub charges: u64,
+}
+
+/// The library has these as rows of 20, 7, 2 and 4 words.
+const _: () = assert!(size_of::<Head>() == 20 * 8 && size_of::<Answer>() == 7 * 8);
+const _: () = assert!(size_of::<Lookup>() == 2 * 8 && size_of::<Mark>() == 4 * 8);
 
 extern "C" {
-    /// Lays the memory out and writes the record: 1, 2. A refusal sets the record to 0. The last argument chooses accessed
-    /// and dirty bits.
+    /// Lays the memory out and writes the record: 1, 2. A refusal sets the record to 0. The last two arguments choose
+    /// accessed and dirty bits, and the automatic choice.
     pub fn cangrieb_open(
         head: &mut Head,
         place: &mut [u64; 64],
+        ring: &mut [u64; 64],
+        order: &mut [u64; 64],
         memory: *mut u64,
         words: usize,
         hosts: u64,
         shadows: u64,
         bits: bool,
+        automatic: bool,
     ) -> Answer;
     /// Loads 1, 2, 4 or 8 bytes: 3, 15, 4, 11.
     pub fn cangrieb_load(
         head: &mut Head,
         place: &[u64; 64],
+        ring: &[u64; 64],
+        order: &[u64; 64],
         memory: *mut u64,
         words: usize,
         address: u64,
@@ -53,7 +71,9 @@ extern "C" {
     /// Stores the low 1, 2, 4 or 8 bytes of a value: 3, 15, 4, 11.
     pub fn cangrieb_store(
         head: &mut Head,
-        place: &[u64; 64],
+        place: &mut [u64; 64],
+        ring: &mut [u64; 64],
+        order: &mut [u64; 64],
         memory: *mut u64,
         words: usize,
         address: u64,
@@ -64,6 +84,8 @@ extern "C" {
     pub fn cangrieb_device_store(
         head: &mut Head,
         place: &[u64; 64],
+        ring: &[u64; 64],
+        order: &[u64; 64],
         memory: *mut u64,
         words: usize,
         address: u64,
@@ -74,6 +96,8 @@ extern "C" {
     pub fn cangrieb_root(
         head: &mut Head,
         place: &[u64; 64],
+        ring: &[u64; 64],
+        order: &[u64; 64],
         memory: *const u64,
         words: usize,
         guest: u64,
@@ -82,6 +106,8 @@ extern "C" {
     pub fn cangrieb_map(
         head: &mut Head,
         place: &[u64; 64],
+        ring: &[u64; 64],
+        order: &[u64; 64],
         memory: *mut u64,
         words: usize,
         guest: u64,
@@ -92,6 +118,8 @@ extern "C" {
     pub fn cangrieb_unmap(
         head: &mut Head,
         place: &[u64; 64],
+        ring: &[u64; 64],
+        order: &[u64; 64],
         memory: *mut u64,
         words: usize,
         guest: u64,
@@ -100,6 +128,8 @@ extern "C" {
     pub fn cangrieb_set_mark(
         head: &mut Head,
         place: &mut [u64; 64],
+        ring: &mut [u64; 64],
+        order: &mut [u64; 64],
         memory: *mut u64,
         words: usize,
         address: u64,
@@ -109,6 +139,8 @@ extern "C" {
     pub fn cangrieb_clear_mark(
         head: &mut Head,
         place: &mut [u64; 64],
+        ring: &mut [u64; 64],
+        order: &mut [u64; 64],
         memory: *mut u64,
         words: usize,
         address: u64,
@@ -118,6 +150,8 @@ extern "C" {
     pub fn cangrieb_forecast(
         head: &Head,
         place: &[u64; 64],
+        ring: &[u64; 64],
+        order: &[u64; 64],
         memory: *const u64,
         words: usize,
         addresses: *const u64,
@@ -125,4 +159,12 @@ extern "C" {
     ) -> Answer;
     /// The depth of an address, and how many marks are read to find it. Nothing is refused.
     pub fn cangrieb_depth(head: &Head, place: &[u64; 64], address: u64) -> Lookup;
+    /// What stands at one of the 64 places of the marks. Nothing is refused.
+    pub fn cangrieb_mark(
+        head: &Head,
+        place: &[u64; 64],
+        ring: &[u64; 64],
+        order: &[u64; 64],
+        at: u64,
+    ) -> Mark;
 }

@@ -6,7 +6,9 @@ use std::process::Command;
 const LINES: &str = "1 ok\n2 ok\n3 ok\n4 done 4 0\n5 fault H 0 1 9 1\n6 no 4\n\
                      7 tables 0 9 1\n8 tables 0 0 0\n9 done 4 0\n10 value 0000000000000003 4 1\n11 no 15\n\
                      12 ok\n13 ok\n14 depth 1, 2 read\n15 ok\n16 depth 5, 2 read\n17 no 3\n18 no 1\n\
-                     19 ok\n20 ok\n21 value 0000000000000023 4 1\n22 done 4 2\n23 value 0000000000000063 4 0\n24 no 16\n";
+                     19 ok\n20 ok\n21 value 0000000000000023 4 1\n22 done 4 2\n23 value 0000000000000063 4 0\n24 no 16\n\
+                     25 ok\n26 ok\n27 done 4 2\n28 done 4 2\n29 done 4 2\n30 automatic mark at 0x0 of level 1, 3 charges\n\
+                     31 no 6\n32 ok\n33 operator's mark at 0x0 of level 1, 3 charges\n34 ok\n";
 
 fn package() -> &'static Path {
     Path::new(env!("CARGO_MANIFEST_DIR"))

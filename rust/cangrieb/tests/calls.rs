@@ -1,6 +1,9 @@
 //! Document 01's sixteen-frame guest through the archive, with addresses of both halves, and the edges of the interface.
 
-use cangrieb::{raw, Answer, Choices, Fault, Head, Lookup, Record, Refusal};
+use cangrieb::{raw, Answer, Choices, Fault, Head, Kind, Lookup, Mark, Record, Refusal};
+
+const BITS: Choices = Choices { bits: true, automatic: false };
+const AUTOMATIC: Choices = Choices { bits: false, automatic: true };
 
 fn guest() -> (Record, Vec<u64>) {
     guest_with(Choices::default())
@@ -155,10 +158,18 @@ fn lookups() {
 fn lookups_in_broken_records() {
     assert_eq!(Record::zeros().depth(0), Lookup { depth: 0, read: 0 });
     let (unit, _) = guest();
-    let full = |key| Record { head: Head { set: u64::MAX, ..unit.head }, place: [key; 64] };
+    let full = |key| Record { head: Head { set: u64::MAX, ..unit.head }, place: [key; 64], ..unit };
     assert_eq!(full(7).depth(0), Lookup { depth: 7, read: 1 });
     assert_eq!(full(15).depth(0), Lookup { depth: 0, read: 64 });
     assert_eq!(full(0).depth(0), Lookup { depth: 0, read: 64 });
+    // So does a list of its marks, whatever they mean; with more automatic marks than there are places too.
+    for key in [0, 7, 15, u64::MAX] {
+        let mut record = full(key);
+        assert_eq!(record.marks().count(), 64);
+        record.head.choice.count = u64::MAX;
+        assert_eq!(record.marks().count(), 64);
+    }
+    assert_eq!(Record::zeros().marks().count(), 0);
 }
 
 #[test]
@@ -208,8 +219,9 @@ fn the_length_of_a_list() {
     assert_eq!(unit.forecast(&memory, &[4; 257]), refused(14));
     assert_eq!(unit.forecast(&memory[512..], &[0; 257]), refused(3));
     let null = std::ptr::null();
-    let none =
-        unsafe { raw::cangrieb_forecast(&unit.head, &unit.place, memory.as_ptr(), memory.len(), null, 0) };
+    let Record { head, place, ring, order } = &unit;
+    let (words, count) = (memory.as_ptr(), memory.len());
+    let none = unsafe { raw::cangrieb_forecast(head, place, ring, order, words, count, null, 0) };
     assert_eq!((none.kind, none.number, none.references, none.exits), (5, 0, 0, 0));
 }
 
@@ -292,22 +304,23 @@ fn bytes_of_an_entry() {
     }
 }
 
-/// The record has the choice, and no call changes it.
+/// The record has the choices, and no call changes them.
 #[test]
 fn choices() {
     let mut memory = vec![0; 16 * 512];
     assert_eq!(Record::open(&mut memory, 4, 4), Record::open_with(&mut memory, 4, 4, Choices::default()));
-    for bits in [false, true] {
-        let (mut unit, mut memory) = guest_with(Choices { bits });
-        assert_eq!(unit.head.bits, u64::from(bits));
+    for (bits, automatic) in [(false, false), (true, false), (false, true), (true, true)] {
+        let (mut unit, mut memory) = guest_with(Choices { bits, automatic });
+        let chosen = (u64::from(bits), u64::from(automatic));
+        assert_eq!((unit.head.bits, unit.head.choice.on), chosen);
         unit.set_mark(&mut memory, 0x20_0000, 1);
         unit.store(&mut memory, 0, 8, 1);
         unit.load(&mut memory, 0x20_0000, 8);
         unit.unmap(&mut memory, 4);
-        assert_eq!(unit.head.bits, u64::from(bits));
+        assert_eq!((unit.head.bits, unit.head.choice.on), chosen);
     }
-    assert_eq!(Record::open_with(&mut [], 4, 4, Choices { bits: true }), Err(Refusal(1)));
-    assert_eq!(Record::open_with(&mut vec![0; 8 * 512], 4, 4, Choices { bits: true }), Err(Refusal(2)));
+    assert_eq!(Record::open_with(&mut [], 4, 4, BITS), Err(Refusal(1)));
+    assert_eq!(Record::open_with(&mut vec![0; 8 * 512], 4, 4, BITS), Err(Refusal(2)));
 }
 
 /// The entries of address 0 at their four levels.
@@ -319,7 +332,7 @@ fn entries(memory: &[u64]) -> [u64; 4] {
 /// stores, so that the first one fills it anew.
 #[test]
 fn bits() {
-    let (mut unit, mut memory) = guest_with(Choices { bits: true });
+    let (mut unit, mut memory) = guest_with(BITS);
     assert_eq!(unit.load(&mut memory, 8, 8), value(0, 4, 1));
     assert_eq!(entries(&memory), [0x1023, 0x2023, 0x3023, 0x4023]);
     assert_eq!(unit.store(&mut memory, 8, 8, 7), Answer::Done { references: 4, exits: 1 });
@@ -349,10 +362,158 @@ fn bits() {
     assert_eq!(entries(&memory), [0x1023, 0x2023, 0x3023, 0x4063]);
 }
 
+/// One of the operator's, without charges.
+fn mark(address: u64, level: u64) -> Mark {
+    Mark { address, level, kind: Kind::Operator, charges: 0 }
+}
+
+fn automatic(address: u64, charges: u64) -> Mark {
+    Mark { kind: Kind::Automatic, charges, ..mark(address, 1) }
+}
+
+fn listed(unit: &Record) -> Vec<Mark> {
+    unit.marks().collect()
+}
+
+/// In the order of their places. The address of each is the lowest that it holds for, and names it.
+#[test]
+fn marks_listed() {
+    let (mut unit, mut memory) = guest();
+    assert_eq!(listed(&unit), []);
+    let last = 0xFFFF_FFFF_FFFF_FFFF;
+    for (address, level) in [(UPPER, 3), (last, 1), (0x20_0FFF, 1), (last, 2), (last, 3), (5, 2), (last, 5)] {
+        assert_eq!(unit.set_mark(&mut memory, address, level), Answer::Ok);
+    }
+    let expected = [
+        mark(0, 2),
+        mark(0, 5),
+        mark(0x20_0000, 1),
+        mark(UPPER, 3),
+        mark(0xFFFF_FF80_0000_0000, 3),
+        mark(0xFFFF_FFFF_C000_0000, 2),
+        mark(0xFFFF_FFFF_FFE0_0000, 1),
+    ];
+    assert_eq!(listed(&unit), expected);
+    for Mark { address, level, .. } in expected {
+        assert_eq!(unit.set_mark(&mut memory, address, level), refused(6));
+        assert_eq!(unit.clear_mark(&mut memory, address, level), Answer::Ok);
+    }
+    assert_eq!(listed(&unit), []);
+}
+
+/// A page is loaded and then its entry stored, as the table of level 1 is page 4. Each store drops the page's path, for an exit;
+/// the first one also fills its own. Three times: by the last one the table has a mark, if the choice is on.
+fn rewrite_thrice(unit: &mut Record, memory: &mut [u64]) {
+    for first in [1, 0, 0] {
+        assert_eq!(unit.load(memory, 0, 8), value(0, 4, 1));
+        let done = Answer::Done { references: 4, exits: first + 1 };
+        assert_eq!(unit.store(memory, 0x4000, 8, 0x4003), done);
+    }
+}
+
+#[test]
+fn a_table_written_often() {
+    let (mut unit, mut memory) = guest_with(AUTOMATIC);
+    rewrite_thrice(&mut unit, &mut memory);
+    assert_eq!(listed(&unit), [automatic(0, 3)]);
+    assert_eq!(unit.depth(0x4000), Lookup { depth: 1, read: 1 });
+    // A forecast goes by it. A store to the table costs no exit now, and is charged to nobody.
+    assert_eq!(unit.forecast(&memory, &[0, 0x4000]), figures(16, 1, 3));
+    assert_eq!(unit.load(&mut memory, 0, 8), value(0, 8, 1));
+    assert_eq!(unit.store(&mut memory, 0x4000, 8, 0x4003), Answer::Done { references: 8, exits: 0 });
+    assert_eq!(unit.load(&mut memory, 0, 8), value(0, 8, 0));
+    assert_eq!(listed(&unit), [automatic(0, 3)]);
+    // It is not the operator's to clear, until the operator sets it. That drops its path.
+    assert_eq!(unit.clear_mark(&mut memory, 0, 1), refused(6));
+    assert_eq!(unit.load(&mut memory, 0, 8), value(0, 8, 0));
+    assert_eq!(unit.set_mark(&mut memory, 0, 1), Answer::Ok);
+    assert_eq!(listed(&unit), [Mark { charges: 3, ..mark(0, 1) }]);
+    assert_eq!(unit.load(&mut memory, 0, 8), value(0, 8, 1));
+    assert_eq!(unit.set_mark(&mut memory, 0, 1), refused(6));
+    assert_eq!(unit.clear_mark(&mut memory, 0, 1), Answer::Ok);
+    assert_eq!(unit.clear_mark(&mut memory, 0, 1), refused(6));
+    assert_eq!(listed(&unit), []);
+    // The charges are in the window still, so that one more is enough.
+    assert_eq!(unit.load(&mut memory, 0, 8), value(0, 4, 1));
+    assert_eq!(unit.store(&mut memory, 0x4000, 8, 0x4003), Answer::Done { references: 4, exits: 2 });
+    assert_eq!(listed(&unit), [automatic(0, 4)]);
+    // A root load empties the window, and leaves the mark.
+    assert_eq!(unit.root(&mut memory, 0), Answer::Ok);
+    assert_eq!(listed(&unit), [automatic(0, 0)]);
+}
+
+/// With the choice off each store costs its exits, and the record keeps nothing of them.
+#[test]
+fn a_table_written_often_without_the_choice() {
+    let (mut unit, mut memory) = guest();
+    rewrite_thrice(&mut unit, &mut memory);
+    for _ in 0..100 {
+        assert_eq!(unit.load(&mut memory, 0, 8), value(0, 4, 1));
+        assert_eq!(unit.store(&mut memory, 0x4000, 8, 0x4003), Answer::Done { references: 4, exits: 1 });
+    }
+    assert_eq!(listed(&unit), []);
+    assert_eq!((unit.head.choice, unit.ring, unit.order), (Record::zeros().head.choice, [0; 64], [0; 64]));
+}
+
+/// The third charge sets a mark only while the first is in the window: so many loads between them. A faulting load is one of
+/// them; a refused one, a device store and a forecast are not.
+#[test]
+fn the_window() {
+    for (between, charges) in [(0, 3), (59, 3), (60, 2), (61, 2), (62, 1)] {
+        let (mut unit, mut memory) = guest_with(AUTOMATIC);
+        let mut charge = |unit: &mut Record| {
+            assert!(matches!(unit.load(&mut memory, 0, 8), Answer::Value { .. }));
+            assert!(matches!(unit.store(&mut memory, 0x4000, 8, 0x4003), Answer::Done { .. }));
+        };
+        charge(&mut unit);
+        charge(&mut unit);
+        let mut others = vec![0; memory.len()];
+        for number in 0..between {
+            assert_eq!(unit.load(&mut memory, 0x3000, 8), fault(Fault::Absent { level: 1 }, 20, 1));
+            assert_eq!(unit.load(&mut memory, 1 << 48, 8), refused(4));
+            assert_eq!(unit.load(&mut others[512..], 0, 8), refused(3));
+            assert!(matches!(unit.device_store(&mut memory, 0x5000, 8, number), Answer::Done { .. }));
+            assert!(matches!(unit.forecast(&memory, &[0; 100]), Answer::Figures { .. }));
+        }
+        assert!(matches!(unit.load(&mut memory, 0, 8), Answer::Value { .. }));
+        assert!(matches!(unit.store(&mut memory, 0x4000, 8, 0x4003), Answer::Done { .. }));
+        assert_eq!(unit.head.choice.charged.count_ones(), charges);
+        assert_eq!(listed(&unit), if charges == 3 { vec![automatic(0, 3)] } else { vec![] });
+    }
+}
+
+/// Of 64 marks one is automatic. The operator's next mark takes its place; then none has room, whether the operator or the
+/// unit would set it.
+#[test]
+fn all_marks_set() {
+    let (mut unit, mut memory) = guest_with(AUTOMATIC);
+    let far = |number: u64| UPPER + (number << 21);
+    rewrite_thrice(&mut unit, &mut memory);
+    for number in 0..63 {
+        assert_eq!(unit.set_mark(&mut memory, far(number), 1), Answer::Ok);
+    }
+    assert_eq!(listed(&unit)[..2], [automatic(0, 3), mark(far(0), 1)]);
+    // One that is set, and one of no level: nothing makes room for them.
+    assert_eq!(unit.set_mark(&mut memory, far(5), 1), refused(6));
+    assert_eq!(unit.set_mark(&mut memory, far(5), 6), refused(5));
+    assert_eq!(listed(&unit).len(), 64);
+    assert_eq!(unit.set_mark(&mut memory, far(63), 1), Answer::Ok);
+    let all: Vec<Mark> = (0..64).map(|number| mark(far(number), 1)).collect();
+    assert_eq!(listed(&unit), all);
+    assert_eq!(unit.set_mark(&mut memory, far(64), 1), refused(7));
+    rewrite_thrice(&mut unit, &mut memory);
+    assert_eq!(listed(&unit), all);
+    // With a place free the next charge sets it.
+    assert_eq!(unit.clear_mark(&mut memory, far(63), 1), Answer::Ok);
+    assert_eq!(unit.load(&mut memory, 0, 8), value(0, 4, 1));
+    assert_eq!(unit.store(&mut memory, 0x4000, 8, 0x4003), Answer::Done { references: 4, exits: 1 });
+    assert_eq!(listed(&unit)[..2], [automatic(0, 7), mark(far(0), 1)]);
+}
+
 /// 16 goes before 14 and after 3.
 #[test]
 fn no_forecast_with_bits() {
-    let (unit, memory) = guest_with(Choices { bits: true });
+    let (unit, memory) = guest_with(BITS);
     for list in [&[][..], &[0], &[4], &[0; 256], &[0; 257]] {
         assert_eq!(unit.forecast(&memory, list), refused(16));
         assert_eq!(unit.forecast(&memory[512..], list), refused(3));
@@ -412,23 +573,25 @@ unsafe fn every_call(
     guest: u64,
 ) -> [(Record, (u64, u64)); 9] {
     let list = [address; 257];
-    let on_a_copy = |call: &dyn Fn(&mut Head, &mut [u64; 64]) -> raw::Answer| {
-        let mut after = *record;
-        let said = call(&mut after.head, &mut after.place);
-        (after, (said.kind, said.number))
-    };
+    // On a copy of the record.
+    macro_rules! call {
+        ($function:ident($($number:expr),*)) => {{
+            let mut after = *record;
+            let Record { head, place, ring, order } = &mut after;
+            let said = raw::$function(head, place, ring, order, memory, words, $($number),*);
+            (after, (said.kind, said.number))
+        }};
+    }
     [
-        on_a_copy(&|head, place| raw::cangrieb_load(head, place, memory, words, address, width)),
-        on_a_copy(&|head, place| raw::cangrieb_store(head, place, memory, words, address, width, 1)),
-        on_a_copy(&|head, place| raw::cangrieb_device_store(head, place, memory, words, address, width, 1)),
-        on_a_copy(&|head, place| raw::cangrieb_root(head, place, memory, words, guest)),
-        on_a_copy(&|head, place| raw::cangrieb_map(head, place, memory, words, guest, 8, true)),
-        on_a_copy(&|head, place| raw::cangrieb_unmap(head, place, memory, words, guest)),
-        on_a_copy(&|head, place| raw::cangrieb_set_mark(head, place, memory, words, address, 1)),
-        on_a_copy(&|head, place| raw::cangrieb_clear_mark(head, place, memory, words, address, 1)),
-        on_a_copy(&|head, place| {
-            raw::cangrieb_forecast(head, place, memory, words, list.as_ptr(), list.len())
-        }),
+        call!(cangrieb_load(address, width)),
+        call!(cangrieb_store(address, width, 1)),
+        call!(cangrieb_device_store(address, width, 1)),
+        call!(cangrieb_root(guest)),
+        call!(cangrieb_map(guest, 8, true)),
+        call!(cangrieb_unmap(guest)),
+        call!(cangrieb_set_mark(address, 1)),
+        call!(cangrieb_clear_mark(address, 1)),
+        call!(cangrieb_forecast(list.as_ptr(), list.len())),
     ]
 }
 
@@ -446,18 +609,31 @@ fn no_memory() {
     }
 }
 
-/// A refused opening sets the head and the places to 0.
+/// A refused opening sets the record to 0. A granted one leaves nothing of it either.
 #[test]
-fn no_memory_to_open() {
-    let (unit, _) = guest();
-    let mut after = Record { place: [7; 64], ..unit };
-    let null = std::ptr::null_mut();
-    let opened = unsafe { raw::cangrieb_open(&mut after.head, &mut after.place, null, 0, 4, 4, true) };
-    assert_eq!((opened.kind, opened.number), (4, 1));
-    assert_eq!(after, Record::zeros());
+fn any_record_to_open() {
+    let (unit, mut memory) = guest();
+    for choices in [Choices::default(), BITS, AUTOMATIC] {
+        let Choices { bits, automatic } = choices;
+        for (words, said) in [(0, (4, 1)), (memory.len(), (0, 0))] {
+            let mut after = Record { place: [7; 64], ring: [8; 64], order: [9; 64], ..unit };
+            after.head.choice.at = 5;
+            let Record { head, place, ring, order } = &mut after;
+            let lent = if words == 0 { std::ptr::null_mut() } else { memory.as_mut_ptr() };
+            let opened =
+                unsafe { raw::cangrieb_open(head, place, ring, order, lent, words, 4, 4, bits, automatic) };
+            assert_eq!((opened.kind, opened.number), said);
+            let expected = if words == 0 { Ok(Record::zeros()) } else { open_anew(choices) };
+            assert_eq!(Ok(after), expected);
+        }
+    }
 }
 
-/// Any other refusal leaves the head, the places and the memory.
+fn open_anew(choices: Choices) -> Result<Record, Refusal> {
+    Record::open_with(&mut vec![0; 16 * 512], 4, 4, choices)
+}
+
+/// Any other refusal leaves the record and the memory.
 #[test]
 fn refused_calls() {
     let (mut unit, mut memory) = guest();
@@ -494,12 +670,25 @@ fn refused_openings() {
     assert!(Record::open(&mut vec![0; 65_536 * 512], 4, 4).is_ok());
 }
 
+/// Every call on these records is refused with 3, and changes nothing.
+fn assert_broken(records: &[Record], memory: &mut [u64]) {
+    let before = memory.to_vec();
+    for record in records {
+        for (after, said) in unsafe { every_call(record, memory.as_mut_ptr(), memory.len(), 0, 3, 0) } {
+            assert_eq!(said, (4, 3), "{record:?}");
+            assert_eq!(after, *record);
+        }
+    }
+    assert_eq!(memory, before);
+}
+
 /// A record that nothing opened, a mark out of order, a held frame that is none, other sizes, no top host table, a top
-/// shadow table before and after its area, a choice that is neither on nor off. Another length of memory.
+/// shadow table before and after its area, a choice that is neither on nor off, automatic marks and charges with the
+/// choice off. Another length of memory.
 #[test]
 fn broken_records() {
     let (unit, mut memory) = guest();
-    let mut broken = [unit; 10];
+    let mut broken = [unit; 16];
     broken[0] = Record::zeros();
     broken[1].head.set = 3;
     broken[2].head.held = 3;
@@ -510,17 +699,57 @@ fn broken_records() {
     broken[7].head.shadow.top = 8 << 12 | 1;
     broken[8].head.bits = 2;
     broken[9].head.bits = 1 << 63 | 1;
-    let before = memory.clone();
-    for record in broken {
-        for (after, said) in unsafe { every_call(&record, memory.as_mut_ptr(), memory.len(), 0, 3, 0) } {
-            assert_eq!(said, (4, 3), "{record:?}");
-            assert_eq!(after, record);
-        }
-    }
-    assert_eq!(memory, before);
+    broken[10].head.choice.on = 2;
+    broken[11].head.choice.on = 1 << 63 | 1;
+    broken[12].head.choice.charged = 1;
+    broken[13].head.choice.charged = 1 << 63;
+    broken[14].head.choice.count = 1;
+    // Of a mark that could be automatic.
+    broken[15].head.set = 1;
+    broken[15].place[0] = 1;
+    broken[15].head.choice.count = 1;
+    assert_broken(&broken, &mut memory);
     let mut after = unit;
     assert_eq!(after.load(&mut memory[512..], 0, 8), refused(3));
     assert_eq!(after, unit);
+}
+
+/// With the choice on, the automatic marks must be marks of level 1 that are set, each once. At place 0 is one, at place 1 the
+/// operator's of level 2.
+#[test]
+fn broken_automatic_marks() {
+    let (mut unit, mut memory) = guest_with(AUTOMATIC);
+    rewrite_thrice(&mut unit, &mut memory);
+    assert_eq!(unit.set_mark(&mut memory, UPPER, 2), Answer::Ok);
+    assert_eq!(listed(&unit), [automatic(0, 3), mark(UPPER, 2)]);
+    assert_eq!((unit.head.choice.count, unit.order[0]), (1, 0));
+    // The choice neither on nor off, or off all the same; too many; the first one of another level, not set, no place; the
+    // second one the first once more, and of another level.
+    let mut broken = [unit; 12];
+    broken[0].head.choice.on = 2;
+    broken[1].head.choice.on = 0;
+    broken[2].head.choice.count = 65;
+    broken[3].head.choice.count = 1 << 32 | 1;
+    broken[4].head.choice.count = u64::MAX;
+    broken[5].order[0] = 1;
+    broken[6].order[0] = 2;
+    broken[7].order[0] = 64;
+    broken[8].order[0] = u64::MAX;
+    broken[9].order[0] = 1 << 32;
+    broken[10].head.choice.count = 2;
+    broken[10].order[1] = 0;
+    broken[11].head.choice.count = 2;
+    broken[11].order[1] = 1;
+    assert_broken(&broken, &mut memory);
+    // What is nobody's breaks no rule: the order behind the automatic marks, the ring, where it is written next.
+    let mut other = unit;
+    other.order[1..].fill(u64::MAX);
+    other.ring.iter_mut().for_each(|word| *word ^= u64::MAX << 27);
+    other.head.choice.at ^= 64;
+    assert_eq!(listed(&other), listed(&unit));
+    assert_eq!(other.load(&mut memory, 0, 8), value(0, 8, 1));
+    assert_eq!(other.root(&mut memory, 0), Answer::Ok);
+    assert_eq!(listed(&other), [automatic(0, 0), mark(UPPER, 2)]);
 }
 
 /// What a monitor prints.

@@ -1,5 +1,7 @@
 //! Damage to a record and its memory, and what must hold of a call and of a lookup on them all the same.
 
+mod automatic;
+
 use crate::{address_in, answer, is_set, lookup, places};
 use cangrieb::{Head, Record};
 use std::collections::BTreeMap;
@@ -59,7 +61,8 @@ impl State {
     /// in the guest area, at its place in a frame; a forecast yields figures, 3, 14 or 11, and leaves
     /// the record and every word. With accessed and dirty bits a load that is done may also set bit 5 in as many
     /// guest words as there are levels, a store so too, and bit 6 in one of them, and a forecast is refused with 3
-    /// or 16. A record that says neither on nor off is refused with 3.
+    /// or 16. A record that says neither on nor off is refused with 3. So is one whose automatic choice breaks a rule, and no
+    /// other is for its choice; what a call may change of that is in `automatic`.
     pub fn checked_call(&mut self, before: &mut State, call: &Call, part: usize, counts: &mut Counts) {
         before.record = self.record;
         before.lent.words.copy_from_slice(&self.lent.words);
@@ -69,16 +72,24 @@ impl State {
         if bits {
             count(counts, format!("bits: {}", name(call, &said)));
         }
+        if before.record.head.choice.on == 1 {
+            count(counts, format!("choice: {}", name(call, &said)));
+        }
         assert!(before.record.head.bits <= 1 || said == Answer::No(3), "{call:?} => {said:?}: bits");
+        // A load that nothing but 3 keeps from being refused with 4.
+        let mut is_refused = |mut record: Record| {
+            let memory = &mut self.lent.memory()[..part];
+            answer(&mut record, memory, &Call::load_word(1 << 48)) == Answer::No(3)
+        };
+        let broken = automatic::broken_rules(&before.record);
+        let refused = !broken.is_empty() || is_refused(automatic::without_choice(&before.record));
+        assert_eq!(said == Answer::No(3), refused, "{call:?} => {said:?}: {broken:?}");
         if let Some(number) = refusal_by_numbers(call, bits) {
-            // A load that nothing but 3 keeps from being refused with 4.
-            let other =
-                answer(&mut self.record.clone(), &mut self.lent.memory()[..part], &Call::load_word(1 << 48));
-            let expected = if other == Answer::No(3) { 3 } else { number };
-            assert_eq!(said, Answer::No(expected), "{call:?}");
+            assert_eq!(said, Answer::No(if refused { 3 } else { number }), "{call:?}");
         }
         assert!(self.lent.margins_stand(), "{call:?} => {said:?}: a word outside the memory");
-        checked_lookup(&self.record, address_in(call), said == Answer::No(3), counts);
+        checked_lookup(&self.record, address_in(call), refused, counts);
+        checked_marks(&self.record, refused);
         if let Call::Forecast { addresses } = call {
             assert!(self.record == before.record, "{call:?} => {said:?}: the record");
             assert!(self.lent.words == before.lent.words, "{call:?} => {said:?}: a word");
@@ -90,6 +101,9 @@ impl State {
         }
         if said == Answer::No(3) {
             return;
+        }
+        if !matches!(said, Answer::No(_)) {
+            automatic::check_changes(call, &said, &before.record, &self.record, counts);
         }
         // The record broke no rule, so its sizes are those of the memory.
         let first = (before.record.head.hosts + before.record.head.shadows) as usize * FRAME;
@@ -142,10 +156,25 @@ impl State {
         }
     }
 
+    /// A call on this record, and on one that differs where no word counts: the answer is the same, and so is what counts
+    /// after it. This state is the one after the first of the two.
+    pub fn checked_twins(&mut self, twin: &mut State, call: &Call, random: &mut Random) {
+        twin.record = automatic::with_noise(&self.record, random);
+        twin.lent.words.copy_from_slice(&self.lent.words);
+        let said = answer(&mut self.record, self.lent.memory(), call);
+        let other = answer(&mut twin.record, twin.lent.memory(), call);
+        assert_eq!(said, other, "{call:?}: words that are nobody's");
+        assert!(self.lent.words == twin.lent.words, "{call:?} => {said:?}: words that are nobody's");
+        if said != Answer::No(3) {
+            let (one, other) = (automatic::what_counts(&self.record), automatic::what_counts(&twin.record));
+            assert!(one == other, "{call:?} => {said:?}: {one:?}, {other:?}");
+        }
+    }
+
     /// One to four kinds of damage.
     pub fn damage(&mut self, random: &mut Random, counts: &mut Counts) {
         for _ in 0..1 + random.below(4) {
-            match random.below(15) {
+            match random.below(18) {
                 0 => damage_record(&mut self.record, random),
                 1 => damage_fields(&mut self.record, random),
                 2 | 3 => damage_pools(&mut self.record, random),
@@ -156,10 +185,13 @@ impl State {
                 10 | 11 => close_cycles(&self.record.clone(), self.lent.memory(), random),
                 12 => move_marks(&mut self.record, random),
                 13 => damage_choice(&mut self.record, random),
+                14 => automatic::damage_tally(&mut self.record, random),
+                15 | 16 => automatic::damage_rows(&mut self.record, random),
                 _ => damage_marks(&mut self.record, random),
             }
         }
-        odd_marks(&self.record).iter().for_each(|odd| count(counts, format!("record with {odd}")));
+        let odd = [odd_marks(&self.record), automatic::broken_rules(&self.record)].concat();
+        odd.iter().for_each(|odd| count(counts, format!("record with {odd}")));
     }
 }
 
@@ -203,6 +235,17 @@ fn checked_lookup(record: &Record, address: u64, refused: bool, counts: &mut Cou
     // The walker takes far longer than the unit.
     if counts["lookup: record not refused"] % 4 == 1 {
         check_by_walker(record, address, counts);
+    }
+}
+
+/// As many marks are listed as are set, each with no more charges than the window can have; of a record that is not refused,
+/// what its words say.
+fn checked_marks(record: &Record, refused: bool) {
+    let set = record.head.set.count_ones() as usize;
+    let few_charges = record.marks().filter(|mark| mark.charges <= 64);
+    assert_eq!(few_charges.count(), set, "{record:?}");
+    if !refused {
+        automatic::check_listed(record);
     }
 }
 
@@ -296,10 +339,14 @@ fn flip(word: &mut u64, random: &mut Random) {
 
 /// One bit of the record.
 fn damage_record(record: &mut Record, random: &mut Random) {
-    let at = random.below(FIELDS + 64);
-    match field(&mut record.head, at) {
+    let at = random.below(FIELDS + 3 * 64);
+    let Record { head, place, ring, order } = record;
+    match field(head, at) {
         Some(word) => flip(word, random),
-        None => flip(&mut record.place[(at - FIELDS) as usize], random),
+        None => {
+            let at = (at - FIELDS) as usize;
+            flip(&mut [place, ring, order][at / 64][at % 64], random);
+        }
     }
 }
 
@@ -354,11 +401,11 @@ fn damage_choice(record: &mut Record, random: &mut Random) {
     };
 }
 
-/// The marks with one of level 5 at any places. No rule of the record is broken.
+/// The marks with one of level 5 at any places. No rule of the record is broken: the order follows.
 fn move_marks(record: &mut Record, random: &mut Random) {
     let unset = (0..64).find(|at| !is_set(record, *at));
     let ends = (0..64).any(|at| is_set(record, at) && record.place[at] == 5);
-    let Record { head, place } = record;
+    let Record { head, place, order, .. } = record;
     if let (Some(at), false) = (unset, ends) {
         place[at] = 5;
         head.set |= 1 << at;
@@ -368,12 +415,21 @@ fn move_marks(record: &mut Record, random: &mut Random) {
         place.swap(one as usize, other as usize);
         let differ = (head.set >> one ^ head.set >> other) & 1;
         head.set ^= differ << one | differ << other;
+        for at in order.iter_mut() {
+            *at = if *at == one {
+                other
+            } else if *at == other {
+                one
+            } else {
+                *at
+            };
+        }
     }
 }
 
 /// Places set and not set at will, and marks of any level and with any indexes, out of order or twice.
 fn damage_marks(record: &mut Record, random: &mut Random) {
-    let Record { head, place } = record;
+    let Record { head, place, .. } = record;
     let sets = [head.set, head.set << 1, head.set >> 1, !head.set, 0, u64::MAX, random.word()];
     head.set = random.pick(&sets);
     for _ in 0..random.below(8) {
@@ -389,7 +445,7 @@ fn damage_marks(record: &mut Record, random: &mut Random) {
 }
 
 /// The words of the head.
-const FIELDS: u64 = 16;
+const FIELDS: u64 = 20;
 
 fn field(head: &mut Head, at: u64) -> Option<&mut u64> {
     Some(match at {
@@ -409,6 +465,10 @@ fn field(head: &mut Head, at: u64) -> Option<&mut u64> {
         13 => &mut head.root,
         14 => &mut head.held,
         15 => &mut head.set,
+        16 => &mut head.choice.on,
+        17 => &mut head.choice.charged,
+        18 => &mut head.choice.at,
+        19 => &mut head.choice.count,
         _ => return None,
     })
 }

@@ -1,17 +1,18 @@
 //! The proved unit and the second walker on the same calls.
 
 pub mod damage;
+pub mod rewrites;
 
 use cangrieb::{Choices, Record};
-use walker::book::{Lookup, Mark};
-use walker::numbers::{indexes, page_from};
+use walker::book::{Kind, ListedMark, Lookup, Mark, WINDOW_LENGTH};
+use walker::numbers::{address_of, frame_of, indexes, page_from};
 use walker::random::{Random, Run};
-use walker::{Answer, Call, Fault};
+use walker::{Answer, Call, Fault, Unit};
 
 /// The proved unit's record after the run's opening, with what that chooses.
 pub fn open(run: &Run, memory: &mut [u64]) -> Record {
-    let choices = Choices { bits: run.choices.bits };
-    Record::open_with(memory, run.sizes.h, run.sizes.s, choices).unwrap()
+    let walker::Choices { bits, automatic } = run.choices;
+    Record::open_with(memory, run.sizes.h, run.sizes.s, Choices { bits, automatic }).unwrap()
 }
 
 /// The proved unit's answer to one of the walker's calls, in the walker's terms.
@@ -111,6 +112,50 @@ fn mark(word: u64, levels: u32) -> Mark {
     let prefix = indexes(word >> 3, kept);
     assert_eq!(page_from(&prefix, kept), word >> 3, "{word:#x}: more than the indexes that its level keeps");
     Mark { level, prefix }
+}
+
+/// The proved unit's marks with their kinds and charges, in the order of their places and in the walker's terms.
+pub fn listed_marks(record: &Record) -> Vec<ListedMark> {
+    record.marks().map(|mark| listed_mark(mark, record.head.levels as u32)).collect()
+}
+
+/// The address is the lowest that the mark holds for.
+fn listed_mark(said: cangrieb::Mark, levels: u32) -> ListedMark {
+    let level = said.level as u32;
+    let prefix = indexes(frame_of(said.address), levels)[..levels.saturating_sub(level) as usize].to_vec();
+    assert_eq!(address_of(page_from(&prefix, levels), levels), said.address, "{said:?}");
+    let kind = match said.kind {
+        cangrieb::Kind::Operator => Kind::Operator,
+        cangrieb::Kind::Automatic => Kind::Automatic,
+    };
+    ListedMark { mark: Mark { level, prefix }, kind, charges: said.charges as usize }
+}
+
+/// The automatic marks in the order in which the record has them, that of their setting.
+pub fn automatic_marks(record: &Record) -> Vec<Mark> {
+    let levels = record.head.levels as u32;
+    let order = &record.order[..record.head.choice.count as usize];
+    order.iter().map(|place| mark(record.place[*place as usize], levels)).collect()
+}
+
+/// The window as the record has it, the last request first: what it was charged to, if it was.
+pub fn window(record: &Record) -> Vec<Option<Vec<u64>>> {
+    let choice = record.head.choice;
+    let kept = record.head.levels as u32 - 1;
+    let mut at = choice.at;
+    let charged = (0..WINDOW_LENGTH).map(|place| choice.charged >> place & 1 == 1);
+    let mut prefix = || {
+        at = at.wrapping_sub(1);
+        indexes(record.ring[(at % 64) as usize], kept)
+    };
+    charged.map(|is_charged| is_charged.then(&mut prefix)).collect()
+}
+
+/// The walker's window in the same way, with none for requests that it does not hold.
+pub fn window_of(walker: &Unit) -> Vec<Option<Vec<u64>>> {
+    let window = walker.book().window();
+    let requests = window.into_iter().flat_map(|window| window.requests().iter().rev().cloned());
+    requests.chain(std::iter::repeat(None)).take(WINDOW_LENGTH).collect()
 }
 
 /// The run's memory with random words in the host and shadow frames: an opening clears them.

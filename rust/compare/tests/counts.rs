@@ -20,8 +20,9 @@ fn times(case: &str) -> u64 {
 }
 
 /// A case, and how many tenths of the instructions of another it may take: a forecast of the loads that it speaks of, a search
-/// that a mark of level 5 ends of one among fewer marks, a load with accessed and dirty bits that sets none of one without.
-const AT_MOST: [(&str, u64, &str); 7] = [
+/// that a mark of level 5 ends of one among fewer marks, a load with accessed and dirty bits that sets none of one without, a load or
+/// store with the automatic choice that is charged to nobody of one without.
+const AT_MOST: [(&str, u64, &str); 9] = [
     ("forecast-256-missing", 40, "serve-256-missing"),
     ("forecast-256-spread", 40, "serve-256-spread"),
     ("depth-top-and-63", 10, "depth-top-and-5"),
@@ -29,6 +30,8 @@ const AT_MOST: [(&str, u64, &str); 7] = [
     ("load-depth-1-bits", 11, "load-depth-1"),
     ("load-depth-4-bits", 11, "load-depth-4"),
     ("load-depth-5-bits", 11, "load-depth-5"),
+    ("load-depth-0-choice", 11, "load-depth-0"),
+    ("store-choice", 12, "store"),
 ];
 
 /// For the program and what callgrind writes.

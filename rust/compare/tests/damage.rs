@@ -1,11 +1,11 @@
-//! A million calls on damaged records and memories, half of them opened with accessed and dirty bits, and a lookup after each:
-//! each ends, and leaves what it may not change.
+//! A million calls on damaged records and memories, a third of them opened with accessed and dirty bits, two thirds with the
+//! automatic choice, and a lookup and a list of the marks after each: each ends, and leaves what it may not change.
 //! DAMAGED_CALLS sets another number, MARGIN the words on each side of the lent memory.
 
 use cangrieb::Record;
 use compare::damage::{Counts, Lent, State};
 use compare::{answer, memory_before, open};
-use walker::random::{bits_run, run, Random, Run, Sizes};
+use walker::random::{automatic_run, bits_run, run, Random, Run, Sizes};
 use walker::{Answer, Call};
 
 /// Calls after each damage, and damages of one run.
@@ -33,7 +33,7 @@ fn sound_state(run: &Run, random: &mut Random) -> State {
 
 fn damaged_run(seed: u64, sizes: Sizes, counts: &mut Counts) {
     let mut random = Random::new(seed ^ 0xDA4A_6E00);
-    let sort = if seed % 2 == 1 { bits_run } else { run };
+    let sort = [run, bits_run, automatic_run][seed as usize % 3];
     let run = sort(seed, sizes, 300 + 2 * sizes.frames as usize);
     // The calls before these map the guest's frames.
     let later = &run.calls[run.calls.len() - 250..];
@@ -42,9 +42,16 @@ fn damaged_run(seed: u64, sizes: Sizes, counts: &mut Counts) {
     for _ in 0..DAMAGES {
         let mut state = sound.clone();
         state.damage(&mut random, counts);
+        let mut at = 0;
         for _ in 0..CALLS {
-            let call = &later[random.below(later.len() as u64) as usize];
+            // Mostly one after the other: a table is written often only if it is used in between.
+            at = if random.one_in(4) { random.below(later.len() as u64) as usize } else { at + 1 };
+            let call = &later[at % later.len()];
             let words = state.lent.memory().len();
+            if random.one_in(16) {
+                state.checked_twins(&mut before, call, &mut random);
+                continue;
+            }
             // Now and then only a part of the memory is lent, or nothing.
             let part = if random.one_in(100) { random.below(words as u64 + 1) as usize } else { words };
             state.checked_call(&mut before, call, part, counts);
@@ -81,6 +88,14 @@ fn damaged_runs(first_seed: u64, calls: u64, sizes: fn(&mut Random) -> Sizes) {
             "marks out of order",
             "another number of levels",
             "bits neither on nor off",
+            "a choice neither on nor off",
+            "charges, the choice off",
+            "automatic marks, the choice off",
+            "more automatic marks than places",
+            "an automatic mark at no place",
+            "an automatic mark that is not set",
+            "an automatic mark of another level",
+            "an automatic mark twice",
         ];
         let odd = odd.map(|odd| format!("record with {odd}"));
         let answers = refusals.iter().chain(&faults).chain(&others).chain(&forecasts);
@@ -90,7 +105,17 @@ fn damaged_runs(first_seed: u64, calls: u64, sizes: fn(&mut Random) -> Sizes) {
         let with_bits = with_bits.map(|name| format!("bits: {name}"));
         let of_bits = ["forecast: refusal 3", "forecast: refusal 16", "set by a load", "set by a store"];
         let of_bits: Vec<String> = with_bits.chain(of_bits.map(|name| format!("bits: {name}"))).collect();
-        for name in answers.into_iter().chain(&of_bits).chain(&lookups).chain(&odd) {
+        let of_choice = [
+            "a charge",
+            "an automatic mark set",
+            "one cleared for a store",
+            "one cleared for the operator",
+            "an automatic mark taken over",
+        ];
+        let with_choice = answers.iter().map(|name| format!("choice: {name}"));
+        let of_choice: Vec<String> =
+            with_choice.chain(of_choice.map(|name| format!("choice: {name}"))).collect();
+        for name in answers.into_iter().chain(&of_bits).chain(&of_choice).chain(&lookups).chain(&odd) {
             assert!(counts.contains_key(name), "no damaged run had: {name}");
         }
     }

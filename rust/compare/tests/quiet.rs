@@ -1,4 +1,5 @@
-//! What a settled controller costs (document 02, 5). In random runs of both units the second walker finds the quiet stretches.
+//! What a settled controller costs (document 02, 5). In random runs of both units, half of them with the automatic choice, the
+//! second walker finds the quiet stretches.
 //! Over each of them the exits in the proved unit's answers are as many as the different paths touched that were not held at
 //! its start, and what is held after it is what was held and what was touched. Wrong figures and wrong conditions are tried on
 //! the same runs, and each must be seen to be wrong.
@@ -6,8 +7,7 @@
 
 use std::collections::BTreeSet;
 
-use cangrieb::Record;
-use compare::{answer, memory_before};
+use compare::{answer, memory_before, open};
 use walker::events::Events;
 use walker::machine::{Access, Word};
 use walker::numbers::{different_proper_prefixes, frame_of, word_in_frame};
@@ -380,10 +380,9 @@ impl Stretches {
 }
 
 fn stretches_of(seed: u64, run: &Run) -> Events {
-    let Sizes { levels, h, s, .. } = run.sizes;
     let mut memory = memory_before(run, &mut Random::new(!seed));
-    let mut record = Record::open(&mut memory, h, s).unwrap();
-    let mut walker = Unit::open(levels, run.words.clone(), h, s).unwrap();
+    let mut record = open(run, &mut memory);
+    let mut walker = run.open().unwrap();
     let mut chances = Random::new(seed ^ 0x7175_6965);
     let mut stretches = Stretches::default();
     for (number, call) in run.calls.iter().enumerate() {

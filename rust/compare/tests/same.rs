@@ -1,15 +1,19 @@
-//! Random runs, half of them with accessed and dirty bits: every answer of the proved unit, with its counts, is the second
-//! walker's, and so are the guest words, with their bits. Each forecast is also what the unit takes to serve its list, and changes
-//! nothing. The unit's places hold the walker's marks, and lookups about them are the walker's.
+//! Random runs, half of them with accessed and dirty bits, half with the automatic choice: every answer of the proved unit, with
+//! its counts, is the second walker's, and so are the guest words, with their bits. Each forecast is also what the unit takes to
+//! serve its list, and changes nothing. The unit's places hold the walker's marks, of the same kinds and with the same charges, and
+//! lookups about them are the walker's.
 //! TIMES sets how many times as many runs there are; `-- --nocapture` shows how often each thing happened.
 
 use cangrieb::Record;
-use compare::{address_in, answer, first_guest_word, lookup, memory_before, open, places, served};
-use walker::book::Mark;
-use walker::events::{of_bits, of_forecasts, of_halves, of_lookups, of_widths, Events};
+use compare::{
+    address_in, answer, automatic_marks, first_guest_word, listed_marks, lookup, memory_before, open, places,
+    served, window, window_of,
+};
+use walker::book::{Kind, Mark};
+use walker::events::{of_automatic, of_bits, of_forecasts, of_halves, of_lookups, of_widths, Events};
 use walker::numbers::{address_of, different_proper_prefixes, indexes, page_from, sign_bit};
-use walker::random::{bits_run, mark_run, run, Random, Run, Sizes};
-use walker::{Answer, Call, Unit};
+use walker::random::{automatic_run, bits_run, mark_run, run, Random, Run, Sizes, Sort};
+use walker::{Answer, Call, Choices, Unit};
 
 const CALLS: usize = 1000;
 
@@ -23,6 +27,7 @@ fn same(seed: u64, run: &Run) -> Events {
     assert!(memory[first..] == *walker.guest_words(), "seed {seed}, {:?}: the opening", run.sizes);
     let mut copy = memory.clone();
     let mut lookups = Events::default();
+    let mut in_order = Vec::new();
     for (number, call) in run.calls.iter().enumerate() {
         let before = record;
         if matches!(call, Call::Forecast { .. }) {
@@ -31,7 +36,9 @@ fn same(seed: u64, run: &Run) -> Events {
         let said = answer(&mut record, &mut memory, call);
         let expected = walker.call(call);
         assert_eq!(said, expected, "seed {seed}, {:?}, call {number}: {call:?}", run.sizes);
-        assert_eq!(record.head.bits, run.choices.bits as u64, "seed {seed}, call {number}: {call:?}");
+        let choices = (record.head.bits == 1, record.head.choice.on == 1);
+        let chosen = (run.choices.bits, run.choices.automatic);
+        assert_eq!(choices, chosen, "seed {seed}, call {number}: {call:?}");
         let unchanged = !matches!(said, Answer::No(_)) || record == before;
         assert!(unchanged, "seed {seed}, {:?}, call {number}: {call:?} => {said:?}: the record", run.sizes);
         if let Call::Forecast { addresses } = call {
@@ -41,9 +48,14 @@ fn same(seed: u64, run: &Run) -> Events {
                 assert_eq!(said, served(before, &mut copy, addresses), "{place}: its loads");
             }
         }
-        if number % 17 == 16 || changes_marks(call, &said) {
+        let marks_changed = marks_of(&record) != marks_of(&before);
+        let charged = record.head.choice.at != before.head.choice.at;
+        if number % 17 == 16 || marks_changed || charged {
             let after = format!("seed {seed}, {:?}, after call {number}: {call:?}", run.sizes);
-            same_lookups(&record, &walker, call, number as u64, &mut lookups, &after);
+            same_marks(&record, &walker, &mut in_order, &after);
+            if number % 17 == 16 || marks_changed {
+                same_lookups(&record, &walker, call, number as u64, &mut lookups, &after);
+            }
         }
         if frames <= 24 || number % 100 == 99 {
             let place =
@@ -57,8 +69,25 @@ fn same(seed: u64, run: &Run) -> Events {
     lookups
 }
 
-fn changes_marks(call: &Call, said: &Answer) -> bool {
-    matches!((call, said), (Call::SetMark { .. } | Call::ClearMark { .. }, Answer::Ok))
+/// What the record has of its marks.
+fn marks_of(record: &Record) -> impl PartialEq + '_ {
+    (record.head.set, record.head.choice.count, &record.place, &record.order)
+}
+
+/// The marks with their kinds and charges, and the window. The automatic marks stand in the order of their setting: those of the
+/// last time that still are, and behind them a new one.
+fn same_marks(record: &Record, walker: &Unit, in_order: &mut Vec<Mark>, after: &str) {
+    let mut listed = listed_marks(record);
+    listed.sort();
+    assert_eq!(listed, walker.listed_marks(), "{after}: the marks");
+    assert_eq!(window(record), window_of(walker), "{after}: the window");
+    let automatic = listed.into_iter().filter(|mark| mark.kind == Kind::Automatic);
+    let automatic: Vec<Mark> = automatic.map(|listed| listed.mark).collect();
+    in_order.retain(|mark| automatic.contains(mark));
+    let new: Vec<Mark> = automatic.into_iter().filter(|mark| !in_order.contains(mark)).collect();
+    assert!(new.len() <= 1, "{after}: {new:?}");
+    in_order.extend(new);
+    assert_eq!(automatic_marks(record), *in_order, "{after}: the order of the automatic marks");
 }
 
 /// Some lookups after a call. They leave the record. The unit has its marks in ascending order, where of each lower level only
@@ -167,9 +196,6 @@ fn events(bits: bool, overflows: bool) -> Vec<String> {
     names
 }
 
-/// How a run is made from a seed.
-type Sort = fn(u64, Sizes, usize) -> Run;
-
 /// So many runs, and that they had every event of the list.
 fn same_with(
     names: &[String],
@@ -244,4 +270,75 @@ fn marks_that_come_and_go() {
     let mut names = of_lookups(4);
     names.extend((1..=5).map(|read| format!("lookup ended, {read} read")));
     same_with(&names, 50_000, 100, mark_run, |random| Sizes::small(random, 4));
+}
+
+/// What happened to automatic marks.
+const MOVES: [&str; 5] = [
+    "charge",
+    "automatic mark set, place free",
+    "automatic mark set, another cleared",
+    "automatic mark cleared for the operator",
+    "automatic mark taken over",
+];
+
+/// Where tables are written often: S is the least, so that paths of one prefix alone fit at depth 0; little more; and so much
+/// that no fill overflows, or nearly none.
+#[test]
+fn tables_written_often() {
+    let mut all = Events::default();
+    let mut add = |first_seed: u64, several: bool, overflows: bool, sizes: fn(&mut Random) -> Sizes| {
+        let names = of_automatic(4, several, overflows);
+        all.join(&same_with(&names, first_seed, 300, automatic_run, sizes));
+    };
+    add(60_000, false, true, |_| Sizes { levels: 4, frames: 16, h: 4, s: 4 });
+    add(70_000, true, true, |random| Sizes::small(random, 4));
+    add(80_000, true, false, |random| Sizes::large(random, 4));
+    add(90_000, true, true, |random| Sizes { levels: 4, frames: 80, h: 12, s: 4 + random.below(4) });
+    println!("In all of them:");
+    for event in MOVES {
+        println!("{:>9} {event}", all.count(event));
+        assert!(all.count(event) >= 1000, "{} times: {event}", all.count(event));
+    }
+}
+
+/// The same calls with the automatic choice on and off: answers may differ in their counts alone, and the guest words do not. Says
+/// how many answers do.
+fn off_and_on(seed: u64, run: &Run) -> usize {
+    let said = |automatic: bool| {
+        let run = Run { choices: Choices { automatic, ..run.choices }, ..run.clone() };
+        let mut memory = memory_before(&run, &mut Random::new(!seed));
+        let mut record = open(&run, &mut memory);
+        let said: Vec<Answer> = run.calls.iter().map(|call| answer(&mut record, &mut memory, call)).collect();
+        (said, memory.split_off(first_guest_word(&run)))
+    };
+    let ((off, words_off), (on, words_on)) = (said(false), said(true));
+    for (number, (off, on)) in off.iter().zip(&on).enumerate() {
+        let call = &run.calls[number];
+        assert_eq!(without_counts(*off), without_counts(*on), "seed {seed}, call {number}: {call:?}");
+    }
+    assert!(words_off == words_on, "seed {seed}: the guest words");
+    off.iter().zip(&on).filter(|(off, on)| off != on).count()
+}
+
+fn without_counts(said: Answer) -> Answer {
+    let (references, exits) = (0, 0);
+    match said {
+        Answer::Value { value, .. } => Answer::Value { value, references, exits },
+        Answer::Done { .. } => Answer::Done { references, exits },
+        Answer::Fault { fault, .. } => Answer::Fault { fault, references, exits },
+        Answer::Figures { .. } => Answer::Figures { references, exits, tables: 0 },
+        Answer::Ok | Answer::No(_) => said,
+    }
+}
+
+#[test]
+fn the_automatic_choice_changes_counts_alone() {
+    let mut differ = 0;
+    for seed in 100_000..100_300 {
+        let random = &mut Random::new(seed + 1);
+        let sizes = if seed % 3 == 0 { Sizes::large(random, 4) } else { Sizes::small(random, 4) };
+        differ += off_and_on(seed, &automatic_run(seed, sizes, CALLS));
+    }
+    println!("{differ:>9} answers with other counts");
+    assert!(differ >= 10_000, "{differ} answers with other counts");
 }

@@ -3,7 +3,7 @@
 
 use std::ffi::c_void;
 
-use cangrieb::{Choices, Record};
+use cangrieb::{Choices, Kind, Record};
 
 /// The bound that the C header names.
 const MOST: usize = 8 * 1024;
@@ -52,11 +52,23 @@ fn used(mut run: &mut dyn FnMut()) -> usize {
 
 #[test]
 fn calls_stay_within_the_bound() {
-    let most = most_used(Choices::default());
+    let mut most = most_used(Choices::default());
     println!("With accessed and dirty bits:");
-    let most_with_bits = most_used(Choices { bits: true });
-    let most = most.max(most_with_bits);
+    most = most.max(most_used(Choices { bits: true, ..Choices::default() }));
+    println!("With the automatic choice:");
+    most = most.max(most_used(Choices { automatic: true, ..Choices::default() }));
+    println!("With both:");
+    most = most.max(most_used(Choices { bits: true, automatic: true }));
     assert!(most > 0 && most <= MOST, "{most} bytes of stack");
+}
+
+/// Where marks are set that fill the places, and another prefix that is charged.
+const UPPER: u64 = 0xFFFF_8000_0000_0000;
+const FAR: u64 = 1 << 39;
+
+/// The addresses of the automatic marks.
+fn automatic(unit: &Record) -> impl Iterator<Item = u64> + '_ {
+    unit.marks().filter(|mark| mark.kind == Kind::Automatic).map(|mark| mark.address)
 }
 
 /// The most that any of the calls takes.
@@ -191,6 +203,41 @@ fn most_used(choices: Choices) -> usize {
         "store of a byte that fills and drops",
         used(&mut || {
             unit.store(&mut memory, 7, 1, 0);
+        }),
+    );
+    // With the automatic choice this is the third charge, and sets a mark.
+    take(
+        "store that fills, drops and sets a mark",
+        used(&mut || {
+            unit.store(&mut memory, 0, 8, 3);
+        }),
+    );
+    assert!(automatic(&unit).eq(choices.automatic.then_some(0)));
+    // The operator's marks take the other places. The third charge of another prefix clears the first one's mark, and a mark of
+    // the operator's clears this one.
+    for number in 0..63 {
+        unit.set_mark(&mut memory, UPPER + (number << 21), 1);
+    }
+    for name in ["store that drops", "the same, second charge", "the same, which clears and sets marks"] {
+        take(
+            name,
+            used(&mut || {
+                unit.store(&mut memory, FAR, 8, 3);
+            }),
+        );
+    }
+    assert!(automatic(&unit).eq(choices.automatic.then_some(FAR)));
+    take(
+        "set mark that clears another",
+        used(&mut || {
+            unit.set_mark(&mut memory, UPPER + (63 << 21), 1);
+        }),
+    );
+    assert_eq!(automatic(&unit).count(), 0);
+    take(
+        "marks, 64 of them",
+        used(&mut || {
+            unit.marks().count();
         }),
     );
     take(

@@ -14,9 +14,10 @@ pub const NOT_OPEN: u32 = 3;
 pub const BAD_ADDRESS: u32 = 4;
 /// "5 if the level is not 1 to 5"
 pub const BAD_LEVEL: u32 = 5;
-/// "6 if set already"; for a clear "6 if not set"
+/// "6 if set already"; for a clear "6 if not set". An automatic mark is no mark of the
+/// operator's: to them it is not set.
 pub const MARK_AS_IS: u32 = 6;
-/// "7 if 64 are set"
+/// "7 if 64 are set", all by the operator.
 pub const MARKS_FULL: u32 = 7;
 /// "8 if the number is 2^36 or more"
 pub const BAD_GUEST_FRAME: u32 = 8;
@@ -41,6 +42,9 @@ pub const NO_FORECAST: u32 = 16;
 pub struct Choices {
     /// Accessed and dirty bits (document 02, 6).
     pub bits: bool,
+    /// The automatic choice: marks that the unit sets itself, on tables of level 1 that
+    /// are written often (document 02, 7).
+    pub automatic: bool,
 }
 
 /// A call after a granted opening.

@@ -1,5 +1,10 @@
 //! The book: the marks and the held paths, "each with the guest words and
-//! mappings its shadow part used and its writable bit; none at opening".
+//! mappings its shadow part used and its writable bit; none at opening". With the
+//! automatic choice also which marks are automatic, and the window.
+
+mod automatic;
+
+pub use automatic::{Kind, ListedMark, Window, CHARGES_FOR_A_MARK, WINDOW_LENGTH};
 
 use crate::machine::{Step, Walk, Word};
 use crate::numbers::{different_proper_prefixes, frame_of, indexes, DIRTY};
@@ -22,6 +27,9 @@ pub struct Lookup {
     pub read: usize,
 }
 
+/// Some paths, each with what the book has of it.
+pub type Paths = Vec<(Vec<u64>, HeldPath)>;
+
 /// What the shadow part of a held path used, and its writable bit.
 #[derive(Clone, Debug, PartialEq, Eq)]
 pub struct HeldPath {
@@ -34,14 +42,32 @@ pub struct HeldPath {
 pub struct Book {
     levels: u32,
     shadow_frames: u64,
+    /// All that are set, automatic ones too.
     pub marks: BTreeSet<Mark>,
+    /// Those of them that are automatic. All are of level 1.
+    automatic: BTreeSet<Mark>,
+    /// None if the automatic choice is off.
+    window: Option<Window>,
     /// A path is the first N - d indexes of an address.
     pub held: BTreeMap<Vec<u64>, HeldPath>,
 }
 
 impl Book {
+    /// One without the automatic choice.
     pub fn new(levels: u32, shadow_frames: u64) -> Book {
-        Book { levels, shadow_frames, marks: BTreeSet::new(), held: BTreeMap::new() }
+        Book {
+            levels,
+            shadow_frames,
+            marks: BTreeSet::new(),
+            automatic: BTreeSet::new(),
+            window: None,
+            held: BTreeMap::new(),
+        }
+    }
+
+    /// The same book with the automatic choice on or off.
+    pub fn with_automatic_choice(self, on: bool) -> Book {
+        Book { window: on.then(Window::default), ..self }
     }
 
     fn indexes(&self, address: u64) -> Vec<u64> {
@@ -52,6 +78,29 @@ impl Book {
     pub fn mark(&self, address: u64, level: u32) -> Mark {
         let kept = self.levels.saturating_sub(level) as usize;
         Mark { level, prefix: self.indexes(address)[..kept].to_vec() }
+    }
+
+    /// Sets a mark of this kind, or makes one that is set one of this kind. Yields how
+    /// many paths were dropped.
+    pub fn set_mark(&mut self, mark: Mark, kind: Kind) -> usize {
+        let dropped = self.drop_by_prefix(&mark.prefix);
+        match kind {
+            Kind::Operator => self.automatic.remove(&mark),
+            Kind::Automatic => self.automatic.insert(mark.clone()),
+        };
+        self.marks.insert(mark);
+        dropped
+    }
+
+    /// Clears a mark, whosever it is. Yields how many paths were dropped.
+    pub fn clear_mark(&mut self, mark: &Mark) -> usize {
+        self.marks.remove(mark);
+        self.automatic.remove(mark);
+        self.drop_by_prefix(&mark.prefix)
+    }
+
+    pub fn marks_full(&self) -> bool {
+        self.marks.len() >= MOST_MARKS
     }
 
     /// "The depth d of an address is the greatest level among marks whose prefix
@@ -95,11 +144,12 @@ impl Book {
     }
 
     /// "If a new path would make them more than S, all held paths are dropped
-    /// first." Yields how many paths were dropped. A path that is held is filled anew
-    /// and needs no table more.
-    pub fn fill(&mut self, path: Vec<u64>, held: HeldPath) -> usize {
+    /// first." Yields the dropped paths. A path that is held is filled anew and needs
+    /// no table more.
+    pub fn fill(&mut self, path: Vec<u64>, held: HeldPath) -> Paths {
         let tables = different_proper_prefixes(self.held.keys().chain([&path]));
-        let dropped = if tables > self.shadow_frames { self.drop_all() } else { 0 };
+        let overflows = tables > self.shadow_frames;
+        let dropped = self.drop_where(|_, _| overflows);
         self.held.insert(path, held);
         dropped
     }
@@ -113,7 +163,7 @@ impl Book {
     /// "A guest or device store drops every held path whose shadow part read the
     /// word stored to, and no other, even if the value is the same."
     /// Yields the dropped paths.
-    pub fn drop_by_word(&mut self, word: Word) -> Vec<(Vec<u64>, HeldPath)> {
+    pub fn drop_by_word(&mut self, word: Word) -> Paths {
         self.drop_where(|_, held| held.words.contains(&word))
     }
 
@@ -133,7 +183,7 @@ impl Book {
         self.drop_where(|_, _| true).len()
     }
 
-    fn drop_where(&mut self, drops: impl Fn(&[u64], &HeldPath) -> bool) -> Vec<(Vec<u64>, HeldPath)> {
+    fn drop_where(&mut self, drops: impl Fn(&[u64], &HeldPath) -> bool) -> Paths {
         let paths: Vec<Vec<u64>> =
             self.held.iter().filter(|(path, held)| drops(path, held)).map(|(path, _)| path.clone()).collect();
         paths.into_iter().filter_map(|path| self.held.remove_entry(&path)).collect()

@@ -301,6 +301,77 @@ pub fn of_bits(levels: u32, overflows: bool) -> Vec<String> {
     names
 }
 
+/// What many runs of so many levels with tables that are written often must have had
+/// (document 02, 7); `several` if paths of several prefixes fit at depth 0, `overflows` if
+/// the shadow tables are few.
+pub fn of_automatic(levels: u32, several: bool, overflows: bool) -> Vec<String> {
+    let mut names = Vec::new();
+    let mut add = |name: String| names.push(name);
+    for half in ["lower half", "upper half"] {
+        add(format!("charge, {half}"));
+        add(format!("automatic mark set, {half}"));
+    }
+    // Marks of level N and N + 1 leave no address at depth 0.
+    (0..levels).for_each(|depth| add(format!("charge by a store at depth {depth}")));
+    (0..=3).for_each(|charges| add(format!("automatic mark cleared, {charges} charges")));
+    for access in ["Load", "Store"] {
+        for way in ["path held", "path not held"] {
+            add(format!("granted {access} at an automatic mark, {way}"));
+            add(format!("fault of a {access} at an automatic mark, {way}"));
+        }
+    }
+    let others = [
+        "charge",
+        "charge, 1 in the window",
+        "charge, 2 in the window",
+        "charge, 3 in the window",
+        "charge, 4 in the window or more",
+        "charge by a narrow store",
+        "charge by the store's own path alone",
+        "charge, a path has the word at level 1 and above",
+        "no charge, depth 0 dropped by upper entries alone",
+        "no charge, no path of depth 0 dropped",
+        "no charge, dropped by a device store",
+        "window full, the oldest leaves",
+        "window full, a charge leaves",
+        "third charge, the first has just left",
+        "third charge, the first is about to leave",
+        "root load, charges in the window",
+        "root load, automatic marks stay",
+        "automatic mark set, place free",
+        "automatic mark set, another cleared",
+        "no automatic mark set, all marks are the operator's",
+        "paths dropped by setting an automatic mark",
+        "paths dropped by clearing an automatic mark",
+        "automatic mark cleared for a store",
+        "automatic mark cleared for the operator",
+        "automatic mark cleared, the only one",
+        "automatic mark cleared, fewest charges",
+        "automatic mark cleared, lowest of a tie",
+        "automatic mark cleared, a lower one has more charges",
+        "automatic mark taken over",
+        "automatic mark taken over, all marks set",
+        "paths dropped by taking an automatic mark over",
+        "refusal 6 of clearing an automatic mark",
+        "refusal 7",
+        "automatic mark below a deeper one",
+        "forecast: granted Load at an automatic mark, path held",
+        "forecast: granted Load at an automatic mark, path not held",
+    ];
+    others.iter().for_each(|name| add((*name).into()));
+    if several {
+        add("charge, several prefixes".into());
+        add("charge, the store's own path among others".into());
+        add("charge, the store's own path not the lowest".into());
+        add("charge, a lower path dropped by an upper entry".into());
+    }
+    if overflows {
+        add("no charge, the store's own fill dropped the paths".into());
+        add("charge, a lower path dropped by the store's own fill".into());
+    }
+    names
+}
+
 /// What the forecasts of many runs of so many levels must have had; `overflows` if
 /// the shadow tables are few.
 pub fn of_forecasts(levels: u32, overflows: bool) -> Vec<String> {

@@ -1,6 +1,7 @@
 //! A quiet stretch of a run (document 02, 5): which calls may stand in it, which paths
 //! they touch, and how many exits it costs. Nothing here looks at the exits of an
-//! answer, for these are what the figure is compared with. It is for bits off.
+//! answer, for these are what the figure is compared with. It is for bits off. The
+//! automatic choice does not matter to it: what drops no path is charged to nobody.
 
 use crate::answer::{Answer, Call};
 use crate::book::{note_shadow_part, Book};

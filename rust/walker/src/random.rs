@@ -7,8 +7,13 @@
 //! wrong width, but not in jobs. Runs of another sort mostly set and clear marks, and
 //! quiet ones mostly load and store where it is granted. Those with accessed and dirty
 //! bits have more read-only tables, and entries that have some bits and lack others.
+//! Half of all runs but jobs have the automatic choice, and in runs of one more sort tables
+//! are written again and again.
 
+mod automatic;
 mod bits;
+
+use automatic::Rewrite;
 
 use crate::answer::{Call, Choices};
 use crate::job::{raw_record, write_record, Record, JOB_FRAMES, JOB_LEVELS};
@@ -103,43 +108,64 @@ impl Run {
     }
 }
 
-const OFF: Choices = Choices { bits: false };
-const BITS: Choices = Choices { bits: true };
-
 /// A run of so many calls. The first ones map the guest's frames and load the root.
 /// The sizes must be those of a granted opening, with four or five levels.
 pub fn run(seed: u64, sizes: Sizes, calls: usize) -> Run {
-    run_by(Guest::next_call, seed, sizes, OFF, calls)
+    run_by(Guest::next_call, Guest::new(Random::new(seed), sizes, by_seed(seed, false)), calls)
 }
 
 /// A run with accessed and dirty bits.
 pub fn bits_run(seed: u64, sizes: Sizes, calls: usize) -> Run {
-    run_by(Guest::next_bits_call, seed, sizes, BITS, calls)
+    run_by(Guest::next_bits_call, Guest::new(Random::new(seed), sizes, by_seed(seed, true)), calls)
 }
 
 /// A run in which most calls set or clear a mark.
 pub fn mark_run(seed: u64, sizes: Sizes, calls: usize) -> Run {
-    run_by(Guest::next_mark_call, seed, sizes, OFF, calls)
+    run_by(Guest::next_mark_call, Guest::new(Random::new(seed), sizes, by_seed(seed, false)), calls)
 }
 
 /// A run in which most calls are loads and stores of pages that grant them.
 pub fn quiet_run(seed: u64, sizes: Sizes, calls: usize) -> Run {
-    run_by(Guest::next_quiet_call, seed, sizes, OFF, calls)
+    run_by(Guest::next_quiet_call, Guest::new(Random::new(seed), sizes, by_seed(seed, false)), calls)
+}
+
+/// A run with the automatic choice, in which tables are written often. One in four has
+/// accessed and dirty bits too.
+pub fn automatic_run(seed: u64, sizes: Sizes, calls: usize) -> Run {
+    let choices = Choices { bits: Random::new(!seed).one_in(4), automatic: true };
+    let guest = Guest::with_tables_written_often(Random::new(seed), sizes, choices);
+    run_by(Guest::next_automatic_call, guest, calls)
 }
 
 /// A run of the calls that a job's records can make.
 pub fn job_run(seed: u64, sizes: Sizes, calls: usize) -> Run {
-    run_by(Guest::next_job_call, seed, sizes, OFF, calls)
+    run_by(Guest::next_job_call, Guest::new(Random::new(seed), sizes, Choices::default()), calls)
 }
 
-fn run_by(next: fn(&mut Guest) -> Call, seed: u64, sizes: Sizes, choices: Choices, calls: usize) -> Run {
-    let mut guest = Guest::new(Random::new(seed), sizes, choices);
+/// How a run is made from a seed.
+pub type Sort = fn(u64, Sizes, usize) -> Run;
+
+/// The sort that the programs call by this name; by any other, the plain one.
+pub fn named_sort(name: &str) -> Sort {
+    match name {
+        "bits" => bits_run,
+        "automatic" => automatic_run,
+        _ => run,
+    }
+}
+
+/// The automatic choice in half of the runs, which are the same but for it.
+fn by_seed(seed: u64, bits: bool) -> Choices {
+    Choices { bits, automatic: Random::new(!seed).one_in(2) }
+}
+
+fn run_by(next: fn(&mut Guest) -> Call, mut guest: Guest, calls: usize) -> Run {
     let mut list = guest.setup(calls);
     while list.len() < calls {
         list.push(next(&mut guest));
     }
     list.truncate(calls);
-    Run { sizes, choices, words: guest.memory(), calls: list }
+    Run { sizes: guest.sizes, choices: guest.choices, words: guest.memory(), calls: list }
 }
 
 /// The top bit of an index: the top level's tells the half.
@@ -179,6 +205,8 @@ struct Guest {
     /// Two pages whose walks find the same entry of level 1, and the greatest level of a
     /// mark at the second that does not hold for the first.
     twins: Vec<(u64, u64, u64)>,
+    /// Entries of level 1 that the guest can store to, if the run is one for that.
+    rewrites: Vec<Rewrite>,
     marks: Vec<(u64, u64)>,
     undo: Vec<Call>,
     /// Calls that come next, the last one first.
@@ -187,7 +215,17 @@ struct Guest {
 
 impl Guest {
     fn new(random: Random, sizes: Sizes, choices: Choices) -> Guest {
-        let mut guest = Guest {
+        let mut guest = Guest::unplanned(random, sizes, choices);
+        guest.choose_names();
+        guest.choose_indexes();
+        guest.choose_entries();
+        guest.choose_pages();
+        guest.find_all();
+        guest
+    }
+
+    fn unplanned(random: Random, sizes: Sizes, choices: Choices) -> Guest {
+        Guest {
             random,
             sizes,
             choices,
@@ -205,23 +243,23 @@ impl Guest {
             store_pages: Vec::new(),
             last_page: 0,
             twins: Vec::new(),
+            rewrites: Vec::new(),
             marks: Vec::new(),
             undo: Vec::new(),
             soon: Vec::new(),
-        };
-        guest.choose_names();
-        guest.choose_indexes();
-        guest.choose_entries();
-        guest.choose_pages();
-        if choices.bits {
-            guest.choose_self_map();
         }
-        guest.find_entries();
-        guest.find_granted_pages();
-        if choices.bits {
-            guest.find_twins();
+    }
+
+    /// What the calls need to know of the plan.
+    fn find_all(&mut self) {
+        if self.choices.bits {
+            self.choose_self_map();
         }
-        guest
+        self.find_entries();
+        self.find_granted_pages();
+        if self.choices.bits {
+            self.find_twins();
+        }
     }
 
     /// The memory at opening: zeros but for the guest's tables.
@@ -530,12 +568,23 @@ impl Guest {
         for _ in 0..self.random.below(3) {
             list.push(self.set_mark());
         }
-        if calls >= 200 && self.random.one_in(3) {
-            for number in 0..60 {
-                list.push(self.far_mark(number));
-            }
-        }
+        let far_marks = self.far_marks_at_first(calls);
+        list.extend((0..far_marks).map(|number| self.far_mark(number)));
         list
+    }
+
+    /// Where tables are written often, just enough at times that few automatic marks, or
+    /// none, have a place.
+    fn far_marks_at_first(&mut self, calls: usize) -> u64 {
+        if calls < 200 {
+            0
+        } else if !self.rewrites.is_empty() {
+            self.random.pick(&[0, 58, 60, 60, 61, 61, 62, 62, 63, 64])
+        } else if self.random.one_in(3) {
+            60
+        } else {
+            0
+        }
     }
 
     /// One of three levels at an index of its own, in the two halves by turns.
@@ -790,11 +839,21 @@ impl Guest {
     /// A device store of an entry as it was at opening.
     fn repair(&mut self) -> Call {
         let places: Vec<(u64, u64)> = self.entries.keys().copied().collect();
-        let (frame, index) = self.random.pick(&places);
+        let place = self.random.pick(&places);
+        self.repair_of(place)
+    }
+
+    fn repair_of(&mut self, place: (u64, u64)) -> Call {
+        Call::device_store_word(self.device_address_at(place), self.entries[&place])
+    }
+
+    /// By any name that the plan has for the frame.
+    fn device_address_at(&mut self, place: (u64, u64)) -> u64 {
+        let (frame, index) = place;
         let names = self.plan.iter().filter(|(_, host, _)| *host == frame);
         let names: Vec<u64> = names.map(|(guest, _, _)| *guest).collect();
         let name = if names.is_empty() { self.names[0] } else { self.random.pick(&names) };
-        Call::device_store_word(device_address_of(name) + 8 * index, self.entries[&(frame, index)])
+        device_address_of(name) + 8 * index
     }
 
     fn map(&mut self) -> Call {

@@ -1,9 +1,10 @@
 //! The calls: each one asks the first refusal that applies, then steps machine and book.
 
+mod automatic;
 mod bits;
 
 use crate::answer::*;
-use crate::book::{faults_in_shadow_part, note_shadow_part, shadow_steps, Book, MOST_MARKS};
+use crate::book::{faults_in_shadow_part, note_shadow_part, shadow_steps, Book, Kind, ListedMark, Paths};
 use crate::events::Events;
 use crate::machine::{words_read, Access, Machine, Mapping, Step, Walk, Word};
 use crate::numbers::*;
@@ -61,12 +62,23 @@ struct Served {
     last_frame: u64,
     references: u64,
     exits: u64,
+    /// The paths that its fill dropped.
+    overflowed: Paths,
+}
+
+/// A granted store, the device's too, once it is written.
+struct Written {
+    word: Word,
+    /// "for a store into a frame that is watched once the store is translated"
+    exits: u64,
+    /// The paths that it dropped.
+    dropped: Paths,
 }
 
 impl Unit {
     /// "Open (H, S): 1 if the words are no multiple of 512 or the frames are 0 or
     /// more than 65,536; then 2 if H or S is below 4 or H + S leaves no guest
-    /// frame." With N levels, below N. It chooses nothing else: bits are off.
+    /// frame." With N levels, below N. It chooses nothing else.
     pub fn open(levels: u32, words: Vec<u64>, h: u64, s: u64) -> Result<Unit, u32> {
         Unit::open_with(levels, words, h, s, Choices::default())
     }
@@ -85,7 +97,7 @@ impl Unit {
         // "keeps guest words; root 0, no marks"
         let guest_area = words[((h + s) * FRAME_WORDS) as usize..].to_vec();
         let machine = Machine::new(levels, h, s, guest_area, choices.bits);
-        Ok(Unit::of(machine, Book::new(levels, s)))
+        Ok(Unit::of(machine, Book::new(levels, s).with_automatic_choice(choices.automatic)))
     }
 
     fn of(machine: Machine, book: Book) -> Unit {
@@ -103,6 +115,11 @@ impl Unit {
 
     pub fn book(&self) -> &Book {
         &self.book
+    }
+
+    /// The marks, each with its kind and the charges to it.
+    pub fn listed_marks(&self) -> Vec<ListedMark> {
+        self.book.listed_marks()
     }
 
     pub fn events(&self) -> &Events {
@@ -140,6 +157,8 @@ impl Unit {
         self.machine.root = frame;
         let dropped = self.book.drop_all();
         self.events.add_many("paths dropped by root", dropped);
+        self.note_emptied_window();
+        self.book.empty_window();
         Answer::Ok
     }
 
@@ -192,14 +211,19 @@ impl Unit {
             return Answer::No(number);
         }
         let mark = self.book.mark(address, level as u32);
-        if self.book.marks.contains(&mark) {
+        let kind = self.book.kind(&mark);
+        if kind == Some(Kind::Operator) {
             return Answer::No(MARK_AS_IS);
         }
-        if self.book.marks.len() == MOST_MARKS {
+        // An automatic mark has its place already, and becomes the operator's.
+        if kind.is_none() && !self.make_room("the operator") {
             return Answer::No(MARKS_FULL);
         }
-        let dropped = self.book.drop_by_prefix(&mark.prefix);
-        self.book.marks.insert(mark);
+        let full = self.book.marks_full();
+        let dropped = self.book.set_mark(mark, Kind::Operator);
+        if kind.is_some() {
+            self.note_taken_over(full, dropped);
+        }
         self.events.add(format!("mark of level {level} set, {}", self.half(address)));
         self.events.add_many(format!("paths dropped by setting a mark of level {level}"), dropped);
         Answer::Ok
@@ -210,10 +234,12 @@ impl Unit {
             return Answer::No(number);
         }
         let mark = self.book.mark(address, level as u32);
-        if !self.book.marks.remove(&mark) {
+        let kind = self.book.kind(&mark);
+        if kind != Some(Kind::Operator) {
+            self.events.add_if(kind.is_some(), "refusal 6 of clearing an automatic mark");
             return Answer::No(MARK_AS_IS);
         }
-        let dropped = self.book.drop_by_prefix(&mark.prefix);
+        let dropped = self.book.clear_mark(&mark);
         self.events.add(format!("mark of level {level} cleared, {}", self.half(address)));
         self.events.add_many(format!("paths dropped by clearing a mark of level {level}"), dropped);
         Answer::Ok
@@ -231,6 +257,7 @@ impl Unit {
             return Answer::No(number);
         }
         let served = self.serve(Request { address, width, access: Access::Load });
+        self.enter_window(None);
         let Served { references, exits, .. } = served;
         match served.end {
             Err(fault) => Answer::Fault { fault, references, exits },
@@ -248,16 +275,21 @@ impl Unit {
         if let Some(number) = refuse_request(self.levels(), address, width) {
             return Answer::No(number);
         }
-        let served = self.serve(Request { address, width, access: Access::Store });
+        let request = Request { address, width, access: Access::Store };
+        let served = self.serve(request);
         let Served { references, exits, .. } = served;
         match served.end {
-            Err(fault) => Answer::Fault { fault, references, exits },
+            Err(fault) => {
+                self.enter_window(None);
+                Answer::Fault { fault, references, exits }
+            }
             Ok(page) => {
                 let word = Word { frame: page.host, index: word_in_frame(address) };
                 self.note_own_drop(address, word);
                 let bytes = Bytes::at(address, width);
-                let watched = self.write_and_drop("Store", served.last_frame, word, bytes, value);
-                Answer::Done { references, exits: exits + watched }
+                let written = self.write_and_drop("Store", served.last_frame, word, bytes, value);
+                self.charge(request, &written, &served.overflowed);
+                Answer::Done { references, exits: exits + written.exits }
             }
         }
     }
@@ -279,16 +311,16 @@ impl Unit {
             Some(page) => {
                 let word = Word { frame: page.host, index: word_in_frame(address) };
                 let bytes = Bytes::at(address, width);
-                let watched = self.write_and_drop("DeviceStore", frame, word, bytes, value);
-                Answer::Done { references: words, exits: watched }
+                let written = self.write_and_drop("DeviceStore", frame, word, bytes, value);
+                self.note_device_drops(&written);
+                Answer::Done { references: words, exits: written.exits }
             }
         }
     }
 
     /// Writes the bytes and drops by the word around them, whichever of its bytes they
-    /// are. Yields the exit "for a store into a frame that is watched once the store is
-    /// translated".
-    fn write_and_drop(&mut self, name: &str, through: u64, word: Word, bytes: Bytes, value: u64) -> u64 {
+    /// are.
+    fn write_and_drop(&mut self, name: &str, through: u64, word: Word, bytes: Bytes, value: u64) -> Written {
         let watched = self.book.watched(word.frame);
         let before = self.machine.read(word);
         let after = bytes.put(before, value);
@@ -306,7 +338,7 @@ impl Unit {
         self.events.add_many("paths dropped by word", dropped.len());
         let by_alias = dropped.iter().filter(|(_, held)| !held.frames.contains(&through)).count();
         self.events.add_many("paths dropped through a guest frame they did not use", by_alias);
-        watched as u64
+        Written { word, exits: watched as u64, dropped }
     }
 
     /// The walk of a load or store, its counts, and the fill of its path.
@@ -342,25 +374,28 @@ impl Unit {
 
         let met = Met { depth, not_held, forbidden, shadow_fault };
         self.note_request(&walk, request, met);
+        self.note_automatic_mark(&walk, request, met);
         self.note_changed_entries(&walk);
         self.events.add_if(fills, &format!("fill at depth {depth}"));
         if bits {
             self.note_bits(&walk, request, met);
         }
+        let mut overflowed = Paths::new();
         if let (Some(path), true) = (path, fills || refills) {
             let watched_before = self.watches_target(&walk, access);
             let dirty_counts = bits && access == Access::Load;
-            let dropped = self.book.fill(path, note_shadow_part(&walk, levels, depth, dirty_counts));
-            self.events.add_if(dropped > 0, &format!("overflow at depth {depth}"));
-            self.events.add_many("paths dropped by overflow", dropped);
+            overflowed = self.book.fill(path, note_shadow_part(&walk, levels, depth, dirty_counts));
+            self.events.add_if(!overflowed.is_empty(), &format!("overflow at depth {depth}"));
+            self.events.add_many("paths dropped by overflow", overflowed.len());
             self.note_own_fill(watched_before, self.watches_target(&walk, access));
         }
+        self.note_half(&walk, request, depth);
         // Before the caller uses the word. No path is dropped for it and nothing counted: the
         // book is not told. A fault sets none.
         if bits && granted {
             self.machine.set_bits(&walk, access);
         }
-        Served { last_frame: last_frame(&walk), end: walk.end, references, exits }
+        Served { last_frame: last_frame(&walk), end: walk.end, references, exits, overflowed }
     }
 
     // The forecast.
@@ -419,7 +454,7 @@ impl Unit {
         }
     }
 
-    /// The half of a guest-virtual address that was walked, or why an address was refused.
+    /// Why an address was refused, and what a device's would be as a guest-virtual one.
     fn note_address(&mut self, call: &Call, answer: &Answer) {
         let (name, address, width) = match *call {
             Call::Load { address, width } => ("Load", address, width),
@@ -437,8 +472,7 @@ impl Unit {
             Answer::No(BAD_WIDTH) => {
                 self.events.add_refused_width(name, is_legal(address, self.levels()), address, width)
             }
-            Answer::No(_) | Answer::Ok => {}
-            _ => self.note_half(name, address, answer),
+            _ => {}
         }
     }
 
@@ -450,13 +484,13 @@ impl Unit {
         }
     }
 
-    /// A load or store that was not refused.
-    fn note_half(&mut self, name: &str, address: u64, answer: &Answer) {
+    /// A load or store that was not refused, once its path is filled.
+    fn note_half(&mut self, walk: &Walk, request: Request, depth: u32) {
+        let Request { address, access, .. } = request;
         let half = self.half(address);
-        let depth = self.book.depth(address);
-        match answer {
-            Answer::Fault { fault, .. } => self.events.add(format!("fault {}, {half}", fault.letter())),
-            _ => self.events.add(format!("granted {name} at depth {depth}, {half}")),
+        match walk.end {
+            Err(fault) => self.events.add(format!("fault {}, {half}", fault.letter())),
+            Ok(_) => self.events.add(format!("granted {access:?} at depth {depth}, {half}")),
         }
         let other = in_other_half(address, self.levels());
         self.events.add_if(self.book.depth(other) != depth, "depth unlike the other half's");

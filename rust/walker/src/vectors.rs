@@ -11,7 +11,9 @@ pub fn lines(run: &Run) -> Result<(Vec<String>, Events), u32> {
     let mut unit = run.open()?;
     let first = run.words.len() - unit.guest_words().len();
     let bits = if run.choices.bits { " bits" } else { "" };
-    let mut lines = vec![format!("open {} {} {} {}{bits}", sizes.levels, run.words.len(), sizes.h, sizes.s)];
+    let automatic = if run.choices.automatic { " automatic" } else { "" };
+    let (levels, length) = (sizes.levels, run.words.len());
+    let mut lines = vec![format!("open {levels} {length} {} {}{bits}{automatic}", sizes.h, sizes.s)];
     lines.extend(nonzero_words("word", first, unit.guest_words()));
     for call in &run.calls {
         let answer = unit.call(call);

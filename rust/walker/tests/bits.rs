@@ -12,7 +12,7 @@ use guest::*;
 use walker::answer::{Answer, Call, Choices, Fault};
 use walker::Unit;
 
-const ON: Choices = Choices { bits: true };
+const ON: Choices = Choices { bits: true, automatic: false };
 
 /// The guest with bits on.
 fn guest_with_bits() -> Unit {
@@ -95,7 +95,7 @@ fn a_store_sets_bit_6_at_level_1_alone() {
 #[test]
 fn off_no_bit_is_set() {
     for depth in 0..=5 {
-        let mut unit = sixteen_frame_guest(Choices { bits: false });
+        let mut unit = sixteen_frame_guest(Choices::default());
         if depth > 0 {
             set_mark(&mut unit, 0, depth);
         }
@@ -719,7 +719,7 @@ fn refusal_16() {
     for addresses in [vec![], vec![0], vec![4], vec![0x3000, 1 << 48], vec![0; 256], vec![0; 257]] {
         changes_nothing(&mut unit, Call::Forecast { addresses }, Answer::No(16));
     }
-    let mut unit = sixteen_frame_guest(Choices { bits: false });
+    let mut unit = sixteen_frame_guest(Choices::default());
     assert_eq!(forecast(&mut unit, &[0; 257]), Answer::No(14));
     assert!(matches!(forecast(&mut unit, &[0; 256]), Answer::Figures { .. }));
 }

@@ -1,17 +1,19 @@
 //! Random runs: the walker beside a separate plain walk over real host tables, the
-//! rules of the book checked after each call, lookups beside a search that stops, and
-//! the exits of quiet stretches beside their figure.
+//! rules of the book checked after each call, lookups beside a search that stops,
+//! automatic marks beside a second count of charges, and the exits of quiet stretches
+//! beside their figure.
 
 mod naive;
 
+use naive::automatic::Automatic;
 use naive::{Naive, Seen};
 use std::collections::{BTreeMap, BTreeSet};
-use walker::answer::{Answer, Call};
-use walker::book::{HeldPath, Lookup, Mark};
-use walker::events::{of_bits, of_forecasts, of_halves, of_lookups, of_widths, Events};
+use walker::answer::{Answer, Call, Choices};
+use walker::book::{HeldPath, Kind, ListedMark, Lookup, Mark};
+use walker::events::{of_automatic, of_bits, of_forecasts, of_halves, of_lookups, of_widths, Events};
 use walker::numbers::{address_of, page_from};
 use walker::quiet::{part, Part, Stretch};
-use walker::random::{bits_run, mark_run, quiet_run, run, Random, Run, Sizes};
+use walker::random::{automatic_run, bits_run, job_run, mark_run, quiet_run, run, Random, Run, Sizes, Sort};
 use walker::vectors::lines;
 use walker::Unit;
 
@@ -28,7 +30,10 @@ type End = Result<u64, (char, u32, u64)>;
 struct Pair {
     unit: Unit,
     naive: Naive,
+    /// All marks, automatic ones too.
     marks: Marks,
+    /// Only with the automatic choice.
+    automatic: Option<Automatic>,
     /// A place for each mark, as a unit might choose it.
     places: Vec<Option<Mark>>,
     lookups: Events,
@@ -39,7 +44,14 @@ impl Pair {
         let Sizes { levels, h, s, .. } = run.sizes;
         let unit = run.open().unwrap();
         let naive = Naive::open(levels, run.words.clone(), h, s, run.choices.bits);
-        Pair { unit, naive, marks: Marks::new(), places: vec![None; 64], lookups: Events::default() }
+        Pair {
+            unit,
+            naive,
+            marks: Marks::new(),
+            automatic: run.choices.automatic.then(Automatic::default),
+            places: vec![None; 64],
+            lookups: Events::default(),
+        }
     }
 
     fn step(&mut self, call: &Call) {
@@ -52,6 +64,11 @@ impl Pair {
         }
         assert_eq!(self.unit.guest_words(), self.naive.guest_words());
         self.check_book();
+        self.check_window();
+        // What a load did to the marks shows after the next other call.
+        if !matches!(call, Call::Load { .. }) {
+            self.check_marks();
+        }
     }
 
     fn held(&self) -> Held {
@@ -64,6 +81,7 @@ impl Pair {
 
     fn change(&mut self, call: &Call) {
         let before = self.unit.book().held.clone();
+        let cleared = self.cleared_for(call);
         let answer = self.unit.call(call);
         let levels = self.naive.levels;
         if let Call::SetMark { address, level } | Call::ClearMark { address, level } = *call {
@@ -78,17 +96,36 @@ impl Pair {
                 Call::Map { guest, .. } | Call::Unmap { guest } => held.frames.contains(&guest),
                 Call::SetMark { address, level } | Call::ClearMark { address, level } => {
                     let kept = levels.saturating_sub(level as u32) as usize;
-                    path.len() >= kept && path[..kept] == path_of(address, levels, kept)[..]
+                    let own = path.len() >= kept && path[..kept] == path_of(address, levels, kept)[..];
+                    own || cleared.is_some_and(|prefix| begins(path, prefix, levels))
                 }
                 _ => unreachable!(),
             };
             assert_eq!(after.contains_key(path), refused || !dropped, "{call:?}");
         }
         assert!(after.keys().all(|path| before.contains_key(path)));
+        if let (Some(prefix), false) = (cleared, refused) {
+            self.clear_automatic(prefix);
+        }
         self.change_naive(call, &answer);
     }
 
-    /// What setting or clearing a mark must answer, from the marks set so far.
+    /// The automatic mark that makes room, if the call is a set mark that needs some.
+    fn cleared_for(&self, call: &Call) -> Option<u64> {
+        match *call {
+            Call::SetMark { address, level } if self.marks.len() == 64 => {
+                let is_set = self.marks.contains(&mark(address, level, self.naive.levels));
+                self.automatic.as_ref().and_then(Automatic::to_clear).filter(|_| !is_set)
+            }
+            _ => None,
+        }
+    }
+
+    fn is_automatic(&self, mark: (u64, u64)) -> bool {
+        mark.0 == 1 && self.automatic.as_ref().is_some_and(|automatic| automatic.marks.contains(&mark.1))
+    }
+
+    /// What setting or clearing a mark must answer, from the operator's marks so far.
     fn mark_answer(&self, sets: bool, address: u64, level: u64) -> Answer {
         let levels = self.naive.levels;
         if !legal(address, levels) {
@@ -97,10 +134,12 @@ impl Pair {
         if !(1..=levels as u64 + 1).contains(&level) {
             return Answer::No(5);
         }
-        if self.marks.contains(&mark(address, level, levels)) == sets {
+        let theirs = self.marks.iter().filter(|mark| !self.is_automatic(**mark));
+        let theirs: Vec<(u64, u64)> = theirs.copied().collect();
+        if theirs.contains(&mark(address, level, levels)) == sets {
             return Answer::No(6);
         }
-        if sets && self.marks.len() == 64 {
+        if sets && theirs.len() == 64 {
             return Answer::No(7);
         }
         Answer::Ok
@@ -116,21 +155,94 @@ impl Pair {
                 assert!(!self.naive.map(guest, host, writable))
             }
             (_, Answer::No(_)) => {}
-            (Call::Root { frame }, Answer::Ok) => self.naive.root = frame,
+            (Call::Root { frame }, Answer::Ok) => {
+                self.naive.root = frame;
+                self.automatic.iter_mut().for_each(|automatic| automatic.charged.clear());
+            }
             (Call::Unmap { guest }, Answer::Ok) => self.naive.unmap(guest),
             (Call::SetMark { address, level }, Answer::Ok) => {
-                assert!(self.marks.insert(mark(address, level, levels)));
-                self.put_in_place(address, level as u32);
+                let mark = mark(address, level, levels);
+                if self.is_automatic(mark) {
+                    self.automatic.iter_mut().for_each(|automatic| assert!(automatic.marks.remove(&mark.1)));
+                } else {
+                    self.set(address, level);
+                }
                 self.check_lookups(address);
             }
             (Call::ClearMark { address, level }, Answer::Ok) => {
-                assert!(self.marks.remove(&mark(address, level, levels)));
-                let mark = mark_in_place(address, level as u32, levels);
-                self.places.iter_mut().filter(|place| **place == mark).for_each(|place| *place = None);
+                self.clear(address, level);
                 self.check_lookups(address);
             }
             other => panic!("{other:?}"),
         }
+    }
+
+    fn set(&mut self, address: u64, level: u64) {
+        assert!(self.marks.insert(mark(address, level, self.naive.levels)));
+        self.put_in_place(address, level as u32);
+    }
+
+    fn clear(&mut self, address: u64, level: u64) {
+        let levels = self.naive.levels;
+        assert!(self.marks.remove(&mark(address, level, levels)));
+        let mark = mark_in_place(address, level as u32, levels);
+        self.places.iter_mut().filter(|place| **place == mark).for_each(|place| *place = None);
+    }
+
+    // Automatic marks.
+
+    fn clear_automatic(&mut self, prefix: u64) {
+        self.automatic.iter_mut().for_each(|automatic| assert!(automatic.marks.remove(&prefix)));
+        self.clear(prefix << 21, 1);
+    }
+
+    /// The least prefix of the paths of depth 0 that end at the word.
+    fn charged(&self, held: &Held, host: u64, address: u64) -> Option<u64> {
+        let word = (host, address / 8 % 512);
+        let at_depth_0 = held.iter().filter(|(path, _)| path.len() == self.naive.levels as usize);
+        let ending = at_depth_0.filter(|(_, (words, _))| words[words.len() - 1] == word);
+        ending.map(|(path, _)| page_from(path, self.naive.levels) / 512).min()
+    }
+
+    /// A request that was not refused: it may be charged to a prefix, and that may set a mark.
+    fn add_request(&mut self, charged: Option<u64>, held: &mut Held) {
+        let levels = self.naive.levels;
+        let Some(automatic) = &mut self.automatic else { return };
+        automatic.add(charged);
+        let Some(prefix) = charged.filter(|prefix| automatic.charges(*prefix) >= 3) else { return };
+        if self.marks.len() == 64 {
+            let Some(cleared) = automatic.to_clear() else { return };
+            self.clear_automatic(cleared);
+            held.retain(|path, _| !begins(path, cleared, levels));
+        }
+        self.automatic.iter_mut().for_each(|automatic| assert!(automatic.marks.insert(prefix)));
+        self.set(prefix << 21, 1);
+        held.retain(|path, _| !begins(path, prefix, levels));
+    }
+
+    /// The book's marks are these, each with its kind and its charges.
+    fn check_marks(&self) {
+        let listed = |entry: ListedMark| {
+            let levels = self.naive.levels;
+            let first = page_from(&entry.mark.prefix, levels) << 12;
+            (mark(first, entry.mark.level as u64, levels), (entry.kind, entry.charges))
+        };
+        let listed: BTreeMap<_, _> = self.unit.listed_marks().into_iter().map(listed).collect();
+        assert!(listed.keys().eq(&self.marks));
+        for (mark, (kind, charges)) in listed {
+            let automatic = self.automatic.as_ref().filter(|_| mark.0 == 1);
+            assert_eq!(charges, automatic.map_or(0, |automatic| automatic.charges(mark.1)));
+            assert_eq!(kind == Kind::Automatic, self.is_automatic(mark));
+        }
+    }
+
+    /// The book's window has just these charges, in their order.
+    fn check_window(&self) {
+        let number = |prefix: &Vec<u64>| page_from(prefix, self.naive.levels) / 512;
+        let window = self.unit.book().window().map(|window| {
+            window.requests().iter().rev().map(|charged| charged.as_ref().map(number)).collect::<Vec<_>>()
+        });
+        assert_eq!(window.as_ref(), self.automatic.as_ref().map(|automatic| &automatic.charged));
     }
 
     // Lookups.
@@ -166,10 +278,13 @@ impl Pair {
             self.naive.touch(&seen, value.is_some());
         }
         // The write and the drops.
+        let mut charged = None;
         if let (Ok(host), Some(value)) = (end, value) {
             exits += watched(&held, host) as u64;
+            charged = self.charged(&held, host, address);
             self.write(&mut held, host, address, width, value);
         }
+        self.add_request(charged, &mut held);
         let answer = self.unit.call(call);
         assert_eq!((end_of(&answer), answer.counts()), (end.err(), (references, exits)), "{call:?}");
         assert_eq!(self.held(), held, "{call:?}");
@@ -375,6 +490,11 @@ fn mark(address: u64, level: u64, levels: u32) -> (u64, u64) {
     (level, page / 512u64.pow(levels.min(level as u32)))
 }
 
+/// Whether a path begins with all but the last index of a page, given as one number.
+fn begins(path: &[u64], prefix: u64, levels: u32) -> bool {
+    path.starts_with(&path_of(prefix << 21, levels, levels as usize - 1))
+}
+
 /// The greatest level whose mark at the address is set.
 fn depth(marks: &Marks, address: u64, levels: u32) -> u64 {
     let at_address = |level: &u64| marks.contains(&mark(address, *level, levels));
@@ -447,9 +567,6 @@ fn check_run(run: &Run) -> Events {
     pair.lookups
 }
 
-/// How a run is made from a seed.
-type Sort = fn(u64, Sizes, usize) -> Run;
-
 fn check_small_runs(sort: Sort, levels: u32, seeds: std::ops::Range<u64>, calls: usize) -> Events {
     let mut all = Events::default();
     for seed in seeds {
@@ -516,6 +633,89 @@ fn long_runs_with_five_levels_and_bits() {
     assert_all_met(of_bits(5, true), &events);
 }
 
+/// Tables that are written often. What can be rare is seen dozens of times.
+#[test]
+fn long_runs_with_tables_written_often() {
+    let events = check_small_runs(automatic_run, 4, 1000..2000, 600);
+    let names = of_automatic(4, true, true);
+    for name in &names {
+        println!("{:>9}  {name}", events.count(name));
+    }
+    for name in names {
+        assert!(events.count(&name) >= 50, "{} times: {name}", events.count(&name));
+    }
+    for name in seen_often() {
+        assert!(events.count(name) >= 1000, "{} times: {name}", events.count(name));
+    }
+    assert_all_met(of_halves(4), &events);
+}
+
+/// What each of many such runs has a few times.
+fn seen_often() -> [&'static str; 30] {
+    [
+        "charge",
+        "charge, 1 in the window",
+        "charge, 2 in the window",
+        "charge, 3 in the window",
+        "charge, 4 in the window or more",
+        "charge, lower half",
+        "charge, upper half",
+        "charge by a narrow store",
+        "charge by a store at depth 0",
+        "charge by a store at depth 1",
+        "charge by the store's own path alone",
+        "charge, several prefixes",
+        "charge, a path has the word at level 1 and above",
+        "no charge, dropped by a device store",
+        "no charge, depth 0 dropped by upper entries alone",
+        "no charge, no path of depth 0 dropped",
+        "no charge, the store's own fill dropped the paths",
+        "window full, the oldest leaves",
+        "window full, a charge leaves",
+        "root load, charges in the window",
+        "root load, automatic marks stay",
+        "automatic mark set, place free",
+        "automatic mark set, another cleared",
+        "no automatic mark set, all marks are the operator's",
+        "automatic mark cleared for a store",
+        "automatic mark cleared for the operator",
+        "automatic mark cleared, the only one",
+        "automatic mark taken over",
+        "refusal 6 of clearing an automatic mark",
+        "refusal 7",
+    ]
+}
+
+#[test]
+fn long_runs_with_five_levels_and_tables_written_often() {
+    let events = check_small_runs(automatic_run, 5, 1000..1200, 600);
+    assert_all_met(of_automatic(5, true, true), &events);
+}
+
+/// With the least number of shadow frames, paths of one prefix alone fit at depth 0.
+#[test]
+fn tables_written_often_with_few_shadow_frames() {
+    let mut events = Events::default();
+    for seed in 0..200 {
+        let sizes = Sizes { levels: 4, frames: 16, h: 4, s: 4 };
+        events.join(&check_run(&automatic_run(seed, sizes, 600)));
+    }
+    assert_all_met(of_automatic(4, false, true), &events);
+    assert_eq!(events.count("charge, several prefixes"), 0);
+}
+
+/// The seed alone says which runs have the automatic choice: about half. Jobs never have.
+#[test]
+fn half_of_the_runs_have_the_automatic_choice() {
+    let sizes = Sizes { levels: 4, frames: 16, h: 4, s: 4 };
+    for sort in [run, bits_run, mark_run, quiet_run] {
+        let many = (0..400).filter(|seed| sort(*seed, sizes, 1).choices.automatic).count();
+        assert!((160..=240).contains(&many), "{many}");
+    }
+    assert!((0..100).all(|seed| job_run(seed, sizes, 1).choices == Choices::default()));
+    assert!((0..100).all(|seed| automatic_run(seed, sizes, 1).choices.automatic));
+}
+
 #[test]
 fn lookups_among_marks_that_come_and_go() {
     for levels in [4, 5] {
@@ -567,6 +767,10 @@ fn quiet_stretches_cost_their_figure() {
             let sizes = Sizes::small(&mut Random::new(seed + 1), levels);
             check_stretches(&quiet_run(seed, sizes, 600), &mut events);
             check_stretches(&run(seed, sizes, 300), &mut events);
+            let often = automatic_run(seed, sizes, 300);
+            if !often.choices.bits {
+                check_stretches(&often, &mut events);
+            }
         }
         let on = (0..=levels + 1).map(|depth| format!("stretch goes on at depth {depth}"));
         let pays = (0..=levels).map(|depth| format!("stretch pays at depth {depth}"));
@@ -658,15 +862,18 @@ fn large_runs() {
         let sizes = Sizes::large(&mut Random::new(seed), levels);
         check_run(&run(seed, sizes, 1000));
         check_run(&bits_run(seed, sizes, 1000));
+        check_run(&automatic_run(seed, sizes, 1000));
     }
 }
 
 #[test]
 fn the_same_seed_gives_the_same_lines() {
-    let text = || {
-        let sizes = Sizes::small(&mut Random::new(8), 4);
-        lines(&run(7, sizes, 60)).unwrap().0
-    };
-    assert_eq!(text(), text());
-    assert!(text()[0].starts_with("open 4 "));
+    for sort in [run, automatic_run] {
+        let text = || {
+            let sizes = Sizes::small(&mut Random::new(8), 4);
+            lines(&sort(7, sizes, 60)).unwrap().0
+        };
+        assert_eq!(text(), text());
+        assert!(text()[0].starts_with("open 4 "));
+    }
 }

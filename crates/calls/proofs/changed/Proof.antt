@@ -1,57 +1,70 @@
--- A refusal comes first; then what the frame's host walk was: mapped, so paths may go, or absent, or damage.
+-- A refusal, or by what the host walk came to before. Assumes nothing.
 use borrow.Author.Tests.{eq-eqb, ne-eqb}
+use Rattle.record.specs.Record.{headTables}
+use Rattle.calls.specs.Calls.{headHost}
 use borrow.Author.Needs.{needs}
 use Rattle.calls.proofs.changed.Statement.{statement}
 use Rattle.calls.proofs.changed.Tie as tie
 
-returns : tie.Need-returns
-returns c =
-    let if1 = c .before .if1 in
-    let refused-in = c .refused-in in
-    rw (ne-eqb _ _ (if1 .taken), refused-in .ensures)
+unmoved-requires : tie.Need-unmoved-requires
+unmoved-requires c κs = search needs
 
-remapped-requires : tie.Need-remapped-requires
-remapped-requires c κs =
-    let pre = c .before .before .before .before .before .before .before .before .pre in
-    pre
+returns : tie.Need-returns
+unfolding headTables
+returns c = rw (ne-eqb _ _ (c .before .if1 .taken), c .unmoved .ensures)
+
+enum-known-was : tie.Need-enum-known-was
+enum-known-was c = search needs
+
+drop-users-requires : tie.Need-drop-users-requires
+drop-users-requires c κs = c .before .before .before .before .before .before .before .before .pre
+
+enum-known-was-2 : tie.Need-enum-known-was-2
+enum-known-was-2 c = search needs
+
+held-in-requires : tie.Need-held-in-requires
+held-in-requires c κs = search needs
 
 enum-told : tie.Need-enum-told
 enum-told c = search needs
 
+unmoved-requires-2 : tie.Need-unmoved-requires-2
+unmoved-requires-2 c κs = search needs
+
+same-length : tie.Need-same-length
+same-length c = search needs
+
 returns-2 : tie.Need-returns-2
 returns-2 c =
-    let if1 = c .before .before .before .before .before .before .before .if1 in
     let was = c .before .before .before .before .before .was in
-    let remapped = c .before .before .remapped in
-    rw (eq-eqb _ _ (if1 .left), was .given .1) (remapped .ensures)
+    let if1 = c .before .before .before .before .before .before .before .if1 in
+    rw (eq-eqb _ _ (if1 .left), was .given .1) (c .before .before .drop-users .ensures)
 
 returns-3 : tie.Need-returns-3
+unfolding headHost headTables
 returns-3 c =
     let if1 = c .before .before .before .before .if1 in
-    let was2 = c .before .before .was2 in
-    let with-host = c .with-host in
-    rw (eq-eqb _ _ (if1 .left), was2 .given .1, with-host .ensures)
+    rw (eq-eqb _ _ (if1 .left), c .before .before .was2 .given .1, c .held-in .ensures)
 
 returns-4 : tie.Need-returns-4
+unfolding headTables
 returns-4 c =
     let if1 = c .before .before .before .if1 in
-    let enum-told = c .before .enum-told in
-    let refused-in2 = c .refused-in2 in
-    rw (eq-eqb _ _ (if1 .left), enum-told .given .1, refused-in2 .ensures)
+    rw (eq-eqb _ _ (if1 .left), c .before .enum-told .given .1, c .unmoved2 .ensures)
 
 pub changed-spec : {M : Type 1} → statement M
 changed-spec =
     tie.close
     (tie.spec
-    (λ c κs. search needs)
+    unmoved-requires
     returns
-    (λ c. search needs)
-    remapped-requires
-    (λ c. search needs)
-    (λ c κs. search needs)
+    enum-known-was
+    drop-users-requires
+    enum-known-was-2
+    held-in-requires
     enum-told
-    (λ c κs. search needs)
-    (λ c. search needs)
+    unmoved-requires-2
+    same-length
     returns-2
     returns-3
     returns-4)

@@ -1,25 +1,44 @@
--- A mapping may change the whole head, so all 16 words are written from the head that the call in parts hands back.
-use Rattle.cangrieb.specs.Flat.{leftOf}
+-- Of the words those of the host tables and of what is held are written. Assumes nothing.
 use mathlib.Core.Path.{ap}
+use Rattle.cangrieb.specs.Flat.{leftOf}
 use borrow.Author.Needs.{needs}
 use Rattle.cangrieb.proofs.cangrieb_map.Statement.{statement}
 use Rattle.cangrieb.proofs.cangrieb_map.Tie as tie
 
+fits-requires : tie.Need-fits-requires
+fits-requires c κs = search needs
+
+head-in-requires : tie.Need-head-in-requires
+head-in-requires c κs = search needs
+
+map-at-requires : tie.Need-map-at-requires
+map-at-requires c κs =
+    let fits2 = c .before .before .before .fits2 in
+    rw (c .before .head-in .ensures) (fits2 .ensures)
+
+put-tables-requires : tie.Need-put-tables-requires
+put-tables-requires c κs = search needs
+
+answer-of-requires : tie.Need-answer-of-requires
+answer-of-requires c κs = search needs
+
+same-length : tie.Need-same-length
+same-length c = search needs
+
 returns : tie.Need-returns
 returns c =
-    let head-in = c .before .before .before .before .before .before .before .head-in in
     let map-at = c .before .before .before .before .before .map-at in
-    let head-words = c .before .head-words in
-    let answer-of = c .answer-of in
-    rw (answer-of .ensures, head-words .ensures) (ap leftOf (rw (head-in .ensures) at (map-at .ensures)))
+    let head-in = c .before .before .before .before .before .before .before .head-in in
+    rw (c .answer-of .ensures, c .before .put-tables .ensures) (ap leftOf (rw (head-in .ensures) at (map-at .ensures)))
 
 pub cangrieb-map-spec : {M : Type 1} → statement M
 cangrieb-map-spec =
     tie.close
     (tie.spec
-    (λ c κs. search needs)
-    (λ c κs. search needs)
-    (λ c κs. search needs)
-    (λ c κs. search needs)
-    (λ c. search needs)
+    fits-requires
+    head-in-requires
+    map-at-requires
+    put-tables-requires
+    answer-of-requires
+    same-length
     returns)

@@ -1,25 +1,44 @@
--- The head that the call in parts hands back is written as 16 words; answer and memory are that call's.
-use Rattle.cangrieb.specs.Flat.{leftOf}
+-- Of the words those of the host tables and of what is held are written. Assumes nothing.
 use mathlib.Core.Path.{ap}
+use Rattle.cangrieb.specs.Flat.{leftOf}
 use borrow.Author.Needs.{needs}
 use Rattle.cangrieb.proofs.cangrieb_unmap.Statement.{statement}
 use Rattle.cangrieb.proofs.cangrieb_unmap.Tie as tie
 
+fits-requires : tie.Need-fits-requires
+fits-requires c κs = search needs
+
+head-in-requires : tie.Need-head-in-requires
+head-in-requires c κs = search needs
+
+unmap-at-requires : tie.Need-unmap-at-requires
+unmap-at-requires c κs =
+    let fits2 = c .before .before .before .fits2 in
+    rw (c .before .head-in .ensures) (fits2 .ensures)
+
+put-tables-requires : tie.Need-put-tables-requires
+put-tables-requires c κs = search needs
+
+answer-of-requires : tie.Need-answer-of-requires
+answer-of-requires c κs = search needs
+
+same-length : tie.Need-same-length
+same-length c = search needs
+
 returns : tie.Need-returns
 returns c =
-    let head-in = c .before .before .before .before .before .before .before .head-in in
     let unmap-at = c .before .before .before .before .before .unmap-at in
-    let head-words = c .before .head-words in
-    let answer-of = c .answer-of in
-    rw (answer-of .ensures, head-words .ensures) (ap leftOf (rw (head-in .ensures) at (unmap-at .ensures)))
+    let head-in = c .before .before .before .before .before .before .before .head-in in
+    rw (c .answer-of .ensures, c .before .put-tables .ensures) (ap leftOf (rw (head-in .ensures) at (unmap-at .ensures)))
 
 pub cangrieb-unmap-spec : {M : Type 1} → statement M
 cangrieb-unmap-spec =
     tie.close
     (tie.spec
-    (λ c κs. search needs)
-    (λ c κs. search needs)
-    (λ c κs. search needs)
-    (λ c κs. search needs)
-    (λ c. search needs)
+    fits-requires
+    head-in-requires
+    unmap-at-requires
+    put-tables-requires
+    answer-of-requires
+    same-length
     returns)

@@ -1,7 +1,7 @@
 -- Five words are written; a list of 16 words is told apart word by word, so the others are seen to stay.
 use mathlib.Core.Path.{ap, _∙_}
 use Rattle.calls.specs.Calls.{headHeld}
-use Rattle.cangrieb.specs.Flat.{headIn, headWords}
+use Rattle.record.specs.Words.{headIn, headWords}
 use Rattle.cangrieb.proofs.Words.{put-held}
 use borrow.Author.Needs.{needs}
 use Rattle.cangrieb.proofs.put_held.Statement.{statement}

@@ -40,7 +40,7 @@ mod counted {
 /// time costs the same.
 type Case = (&'static str, fn() -> Guest, fn(&mut Record, &mut [u64]));
 
-const CASES: [Case; 43] = [
+const CASES: [Case; 50] = [
     ("load-depth-0", || held(0, 0), load::<0>),
     ("load-depth-0-marks-8", || held(0, 8), load::<0>),
     ("load-depth-0-marks-62", || held(0, 62), load::<0>),
@@ -63,13 +63,20 @@ const CASES: [Case; 43] = [
     ("load-depth-1-bits", || held_with_bits(1), load::<1>),
     ("load-depth-4-bits", || held_with_bits(4), load::<4>),
     ("load-depth-5-bits", || held_with_bits(5), load::<5>),
+    ("load-depth-0-choice", || held_in(guest_with(SHADOWS, AUTOMATIC), 0, 0), load::<0>),
     ("depth-no-mark", || held(0, 0), |unit, _| depth(unit, 0, 0)),
     ("depth-marks-8", || held(0, 8), |unit, _| depth(unit, 0, 8)),
     ("depth-marks-62", || held(0, 62), |unit, _| depth(unit, 0, 62)),
     ("depth-top-and-5", || below_top(1), |unit, _| depth(unit, 5, 5)),
     ("depth-top-and-63", || below_top(59), |unit, _| depth(unit, 5, 5)),
-    ("store", || held(0, 0), store),
-    ("store-bits", || held_with_bits(0), store),
+    ("store", || held(0, 0), store::<0>),
+    ("store-depth-1", || held(1, 0), store::<1>),
+    ("store-depth-4", || held(4, 0), store::<4>),
+    ("store-bits", || held_with_bits(0), store::<0>),
+    ("store-choice", || held_in(guest_with(SHADOWS, AUTOMATIC), 0, 0), store::<0>),
+    ("store-drops", || self_mapped(Choices::default()), store_drops),
+    ("store-charged", || self_mapped(AUTOMATIC), store_drops),
+    ("store-sets-mark", || self_mapped(AUTOMATIC), store_sets_mark),
     ("device-store", || held(0, 0), device_store),
     ("load-byte", || held(0, 0), load_byte),
     ("store-byte", || held(0, 0), store_byte),
@@ -104,9 +111,38 @@ fn depth(unit: &Record, depth: u64, read: u64) {
     assert_eq!(counted::depth(unit, 0), Lookup { depth, read });
 }
 
-fn store(unit: &mut Record, memory: &mut [u64]) {
+fn store<const DEPTH: u64>(unit: &mut Record, memory: &mut [u64]) {
     let said = counted::store(unit, memory, 0, 8, WORD);
-    assert_eq!(said, Answer::Done { references: 4, exits: 0 });
+    assert_eq!(said, Answer::Done { references: 4 + 4 * DEPTH, exits: 0 });
+}
+
+/// To the entry of a page whose path is held, with no charge in the window before. Nothing else is counted.
+fn store_drops(unit: &mut Record, memory: &mut [u64]) {
+    assert_eq!(unit.root(memory, 0), Answer::Ok);
+    hold_table(unit, memory);
+    let said = counted::store(unit, memory, TABLE, 8, ENTRY);
+    assert_eq!(said, Answer::Done { references: 4, exits: 1 });
+}
+
+/// The third such store. The mark that it sets is taken away again.
+fn store_sets_mark(unit: &mut Record, memory: &mut [u64]) {
+    assert_eq!(unit.root(memory, 0), Answer::Ok);
+    for _ in 0..2 {
+        hold_table(unit, memory);
+        assert_eq!(unit.store(memory, TABLE, 8, ENTRY), Answer::Done { references: 4, exits: 1 });
+    }
+    hold_table(unit, memory);
+    let said = counted::store(unit, memory, TABLE, 8, ENTRY);
+    assert_eq!(said, Answer::Done { references: 4, exits: 1 });
+    assert_eq!(unit.set_mark(memory, 0, 1), Answer::Ok);
+    assert_eq!(unit.clear_mark(memory, 0, 1), Answer::Ok);
+}
+
+/// The paths of the page and of its table are held.
+fn hold_table(unit: &mut Record, memory: &mut [u64]) {
+    for (address, value) in [(0, WORD), (TABLE, ENTRY)] {
+        assert!(matches!(unit.load(memory, address, 8), Answer::Value { word, .. } if word == value));
+    }
 }
 
 fn device_store(unit: &mut Record, memory: &mut [u64]) {
@@ -192,6 +228,13 @@ const GUESTS: u64 = 32;
 const BASE: u64 = HOSTS + SHADOWS;
 const PAGE: u64 = 4;
 
+/// Where the table of level 1 is itself a page, if it is, and the entry that each of its pages has.
+const TABLE: u64 = 256 << 12;
+const ENTRY: u64 = PAGE << 12 | 3;
+
+const BITS: Choices = Choices { bits: true, automatic: false };
+const AUTOMATIC: Choices = Choices { bits: false, automatic: true };
+
 /// Aligned, so that neither arguments nor environment move it and the calls' own places on the stack within a page: the
 /// instructions of a copy may depend on where it reads and writes.
 #[repr(align(4096))]
@@ -245,11 +288,19 @@ fn held(depth: u64, elsewhere: u64) -> Guest {
 
 /// The same with accessed and dirty bits, all of which are set: no request of the page sets one.
 fn held_with_bits(depth: u64) -> Guest {
-    let Guest { mut unit, mut memory } = held_in(guest_with(SHADOWS, Choices { bits: true }), depth, 0);
+    let Guest { mut unit, mut memory } = held_in(guest_with(SHADOWS, BITS), depth, 0);
     // At depth 0 this fills the path anew, which the load before it filled while the page was not dirty.
     let exits = u64::from(depth == 0);
     let said = unit.store(&mut memory, 0, 8, WORD);
     assert_eq!(said, Answer::Done { references: 4 + 4 * depth, exits });
+    Guest { unit, memory }
+}
+
+/// The guest with an entry more, by which the table of level 1 is a page.
+fn self_mapped(choices: Choices) -> Guest {
+    let Guest { unit, mut memory } = guest_with(SHADOWS, choices);
+    let table = PAGE - 1;
+    memory[((BASE + table) * 512 + 256) as usize] = table << 12 | 3;
     Guest { unit, memory }
 }
 

@@ -1,7 +1,7 @@
 //! Times calls of the proved unit beside hand-written safe Rust over the same memory. Nanoseconds a call: the least of
 //! the rounds, all ways in turn in each round. `cargo run --release --bin speed`
 
-use cangrieb::{Answer, Record};
+use cangrieb::{Answer, Choices, Record};
 use std::hint::black_box;
 use std::time::Instant;
 use walker::random::Random;
@@ -16,9 +16,9 @@ const PAGES: u64 = 1024;
 
 /// A guest whose frames are mapped in order: 0 the root, 1 and 2 the tables below it, 3 and 4 the tables of level 1,
 /// then its pages.
-fn guest() -> (Record, Vec<u64>) {
+fn guest_with(choices: Choices) -> (Record, Vec<u64>) {
     let mut memory = vec![0; (FRAMES * 512) as usize];
-    let mut unit = Record::open(&mut memory, HOSTS, SHADOWS).unwrap();
+    let mut unit = Record::open_with(&mut memory, HOSTS, SHADOWS, choices).unwrap();
     for guest in 0..5 + PAGES {
         assert_eq!(unit.map(&mut memory, guest, BASE + guest, true), Answer::Ok);
     }
@@ -34,6 +34,23 @@ fn guest() -> (Record, Vec<u64>) {
     (unit, memory)
 }
 
+fn guest() -> (Record, Vec<u64>) {
+    guest_with(Choices::default())
+}
+
+/// With the automatic choice, each address loaded once.
+fn automatic(addresses: &[u64]) -> (Record, Vec<u64>) {
+    let (mut unit, mut memory) = guest_with(Choices { automatic: true, ..Choices::default() });
+    load_each(&mut unit, &mut memory, addresses);
+    (unit, memory)
+}
+
+fn load_each(unit: &mut Record, memory: &mut [u64], addresses: &[u64]) {
+    for address in addresses {
+        word(unit.load(memory, *address, 8));
+    }
+}
+
 /// The guest with a mark of that level at each of its two tables of level 1 (0: no mark), and so many marks elsewhere;
 /// each address is loaded once.
 fn prepared(level: u64, elsewhere: u64, addresses: &[u64]) -> (Record, Vec<u64>) {
@@ -46,9 +63,7 @@ fn prepared(level: u64, elsewhere: u64, addresses: &[u64]) -> (Record, Vec<u64>)
     for number in 0..elsewhere {
         assert_eq!(unit.set_mark(&mut memory, (1 << 40) + (number << 21), 1), Answer::Ok);
     }
-    for address in addresses {
-        word(unit.load(&mut memory, *address, 8));
-    }
+    load_each(&mut unit, &mut memory, addresses);
     (unit, memory)
 }
 
@@ -148,6 +163,12 @@ fn loads(title: &str, addresses: &[u64]) {
     let (mut unit, mut memory) = prepared(0, 0, addresses);
     let store = move |address| word(unit.store(&mut memory, address, 8, 1));
     ways.push(("unit: store at depth 0, 0 marks".into(), Box::new(store)));
+    let (mut unit, mut memory) = automatic(addresses);
+    let load = move |address| word(unit.load(&mut memory, address, 8));
+    ways.push(("unit: load at depth 0, automatic choice".into(), Box::new(load)));
+    let (mut unit, mut memory) = automatic(addresses);
+    let store = move |address| word(unit.store(&mut memory, address, 8, 1));
+    ways.push(("unit: store at depth 0, automatic choice".into(), Box::new(store)));
     let (_, memory) = guest();
     let nested = move |address| nested_load(&memory, 0, address).unwrap();
     ways.push(("by hand: load, nested walk of 24 entries".into(), Box::new(nested)));

@@ -1,22 +1,23 @@
 //! Prints what random small runs reach, and a few seeds that reach it all:
-//! `events [bits] RUNS CALLS [LEVELS [FRAMES H S]]`. With `bits` the runs have accessed
-//! and dirty bits, and what they must reach is marked.
+//! `events [bits|automatic] RUNS CALLS [LEVELS [FRAMES H S]]`. With `bits` the runs have
+//! accessed and dirty bits, with `automatic` their tables are written often, and what they
+//! must reach is marked.
 
 use std::collections::BTreeSet;
-use walker::events::{of_bits, Events};
-use walker::random::{bits_run, run, Random, Sizes};
+use walker::events::{of_automatic, of_bits, Events};
+use walker::random::{named_sort, Random, Sizes};
 use walker::vectors::lines;
 
 fn main() {
-    let bits = std::env::args().nth(1).is_some_and(|word| word == "bits");
-    let sort = if bits { bits_run } else { run };
+    let name = std::env::args().nth(1).unwrap_or_default();
+    let sort = named_sort(&name);
     let numbers: Vec<u64> = std::env::args().skip(1).filter_map(|word| word.parse().ok()).collect();
     let (runs, calls, levels, fixed) = match numbers[..] {
         [runs, calls] => (runs, calls, 4, None),
         [runs, calls, levels] => (runs, calls, levels as u32, None),
         [runs, calls, levels, frames, h, s] => (runs, calls, levels as u32, Some((frames, h, s))),
         _ => {
-            eprintln!("events [bits] RUNS CALLS [LEVELS [FRAMES H S]]");
+            eprintln!("events [bits|automatic] RUNS CALLS [LEVELS [FRAMES H S]]");
             std::process::exit(2);
         }
     };
@@ -32,8 +33,11 @@ fn main() {
             by_seed.push((seed, events.counts.keys().cloned().collect()));
         }
     }
-    let sought: BTreeSet<String> =
-        if bits { of_bits(levels, true).into_iter().collect() } else { BTreeSet::new() };
+    let sought: BTreeSet<String> = match name.as_str() {
+        "bits" => of_bits(levels, true).into_iter().collect(),
+        "automatic" => of_automatic(levels, true, true).into_iter().collect(),
+        _ => BTreeSet::new(),
+    };
     for (name, many) in &all.counts {
         println!("{many:>9} {} {name}", if sought.contains(name) { '*' } else { ' ' });
     }

@@ -1,21 +1,21 @@
 //! Prints random runs as lines of text:
-//! `vectors [bits] SEED CALLS [LEVELS [FRAMES H S]]`. Without sizes the seed chooses
-//! small ones. With `bits` the run has accessed and dirty bits.
+//! `vectors [bits|automatic] SEED CALLS [LEVELS [FRAMES H S]]`. Without sizes the seed
+//! chooses small ones. With `bits` the run has accessed and dirty bits, with `automatic`
+//! its tables are written often.
 
-use walker::random::{bits_run, run, Random, Sizes};
+use walker::random::{named_sort, Random, Sizes};
 use walker::vectors::lines;
 use walker::Unit;
 
 fn main() {
-    let bits = std::env::args().nth(1).is_some_and(|word| word == "bits");
-    let sort = if bits { bits_run } else { run };
+    let sort = named_sort(&std::env::args().nth(1).unwrap_or_default());
     let numbers: Vec<u64> = std::env::args().skip(1).filter_map(|word| word.parse().ok()).collect();
     let (seed, calls, levels, sizes) = match numbers[..] {
         [seed, calls] => (seed, calls, 4, None),
         [seed, calls, levels] => (seed, calls, levels as u32, None),
         [seed, calls, levels, frames, h, s] => (seed, calls, levels as u32, Some((frames, h, s))),
         _ => {
-            eprintln!("vectors [bits] SEED CALLS [LEVELS [FRAMES H S]]");
+            eprintln!("vectors [bits|automatic] SEED CALLS [LEVELS [FRAMES H S]]");
             std::process::exit(2);
         }
     };

@@ -47,7 +47,7 @@ impl Guest {
     }
 
     /// The place of the entry of level 1 that the page's walk reads by the plan.
-    fn planned_entry(&self, page: u64) -> Option<(u64, u64)> {
+    pub(super) fn planned_entry(&self, page: u64) -> Option<(u64, u64)> {
         self.planned_entries(page).get(self.sizes.levels as usize - 1).copied()
     }
 

@@ -1,6 +1,8 @@
 //! An entirely separate plain walk: host tables are real words in a memory, and a
 //! host walk reads them. It shares nothing with the library but the calls.
 
+pub mod automatic;
+
 pub struct Naive {
     pub levels: u32,
     pub h: u64,

@@ -1,4 +1,4 @@
--- Both pools are those from which nothing was handed out; all else is 0 already.
+-- Both pools are those from which nothing was handed out, and the choice keeps nothing; all else is 0 already.
 use Rattle.record.specs.Record.{zeros}
 use borrow.Author.Needs.{needs}
 use Rattle.record.proofs.Record.zeros.Statement.{statement}
@@ -7,9 +7,10 @@ use Rattle.record.proofs.Record.zeros.Tie as tie
 returns : tie.Need-returns
 unfolding zeros
 returns c =
-    let no-tables = c .before .no-tables in
-    let no-tables2 = c .no-tables2 in
-    rw (no-tables .ensures, no-tables2 .ensures)
+    let no-tables = c .before .before .no-tables in
+    let no-tables2 = c .before .no-tables2 in
+    let no-choice = c .no-choice in
+    rw (no-tables .ensures, no-tables2 .ensures, no-choice .ensures)
 
 pub zeros-spec : {M : Type 1} → statement M
-zeros-spec = tie.close (tie.spec (λ c κs. search needs) (λ c κs. search needs) returns)
+zeros-spec = tie.close (tie.spec (λ c κs. search needs) (λ c κs. search needs) (λ c κs. search needs) returns)

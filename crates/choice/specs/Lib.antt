@@ -1,0 +1,4 @@
+pub mod Window
+pub mod Order
+pub mod Reading
+pub mod Refusal
