@@ -74,7 +74,7 @@ use Rattle.request.proofs.Device.{device-in}
 use Rattle.charge.specs.declared.Charge.{Charge}
 use Rattle.charge.specs.declared.Charge.the-variants as charge
 use Rattle.automatic.specs.Moves.{Move, chargedOf, setOf, clearedOf}
-use Rattle.calls.specs.Calls.{hostTop, heldOf, rootOf, headHeld, headHost, headWindow, headRooted, nothing, ended, refused, judged, placed, withHeld, withHost, windowedBy, servedBy, addressOk, depthAt, translatedOf, chargeAt, finishedBy, paidBy, storeChargedOf, plainStore, storeBy, storedBy, loadCall, storeCall, deviceCall, rootCall, droppedBy, unmappedOf, mappedBy, mapCall, unmapCall, keysOf, markRefusal, movedBy, callOf, setMarkCall, clearMarkCall, forecastCall, openCall}
+use Rattle.calls.specs.Calls.{hostTop, heldOf, rootOf, headHeld, headHost, headWindow, headRooted, nothing, ended, refused, judged, placed, withHeld, withHost, windowedBy, servedBy, addressOk, requestDepth, translatedOf, chargeAt, finishedBy, paidBy, storeChargedOf, plainStore, storeBy, storedBy, loadCall, storeCall, deviceCall, rootCall, droppedBy, unmappedOf, mappedBy, mapCall, unmapCall, keysOf, markRefusal, movedBy, callOf, setMarkCall, clearMarkCall, forecastCall, openCall}
 use Rattle.calls.proofs.Ranges.{fits-held}
 use Rattle.claims.specs.Safety.{GuestKept, BitsOnly, Numbered, RefusalKept, Untouched, Foretells, Keeps, OpenKeeps}
 use Rattle.claims.specs.Run.{guestArea}
@@ -362,7 +362,7 @@ module _ (r : Record) (m : List ℕ) where
 
   leaves : fitsOf r (length m) ≡ true → (st : Bool) (a : ℕ) → Leaves (configOf r) m (translatedOf r m st a)
   unfolding translatedOf
-  leaves f st a = translate-leaves (configOf r) (hostTop r) m st (heldOf r) (fits-held r (length m) f) (rootOf r) a (depthAt r a)
+  leaves f st a = translate-leaves (configOf r) (hostTop r) m st (heldOf r) (fits-held r (length m) f) (rootOf r) a (requestDepth r m a) (omega (arith, fits-layout r (length m) f .sizes .deep))
 
   -- over a memory whose tables alone differ from m's, it sets a request's bits
   abbrev SetsBits : (List ℕ → List ℕ) → Type 0

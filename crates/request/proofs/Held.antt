@@ -144,10 +144,10 @@ module _ (c : Config) (ht : ℕ) (m : List ℕ) (h : Held) (root : ℕ) (st : Bo
               let f : host.Absent 0 ≡ host.Found t w = sym (ap (λ b. cond b (host.Found u v) (host.Absent 0)) q) ∙ e in
               let z : _≡_ {A = ℕ} 0 1 = cc in absurd (omega arith)
 
-  module _ (f : HeldFits c h) where
+  module _ (f : HeldFits c h) (five : c .levels ≤ 5) where
     -- what a translation leaves, told of an equal one
     pub leaves-as : (o : After Translated) → translateOf c ht m h root st a d ≡ o → Leaves c m o
-    leaves-as o e = subst (Leaves c m) e (translate-leaves c ht m st h f root a d)
+    leaves-as o e = subst (Leaves c m) e (translate-leaves c ht m st h f root a d five)
 
     pub reaches-as : (o : After Translated) → c .frames ≤ 65536 → translateOf c ht m h root st a d ≡ o → ReachesFrame (o .result .walked)
     reaches-as o few e = reaches c (o .result .walked) few (leaves-as o e .arrived)

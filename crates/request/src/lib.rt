@@ -1,6 +1,7 @@
 // Load, store and device store: from an address and its depth to the bytes read or written, and the held paths that a store drops.
 ghost use mathlib.Core.Path.{_≡_};
-ghost use mathlib.Core.Bool.{true, false};
+ghost use mathlib.Core.Bool.{true, false, not};
+ghost use lib.Dec.{eqb};
 ghost use Prim.Native.Nat.{_<_, _≤_};
 ghost use Rattle.spec.specs.Bytes.{bytesAt, withBytes};
 ghost use Rattle.spec.specs.Entry.{wordOf, frameLimit};
@@ -9,7 +10,7 @@ ghost use Rattle.words.specs.Words.{wordIn};
 ghost use Rattle.layout.specs.Layout.{LayoutFits, config};
 ghost use Rattle.layout.specs.declared.HostWalk.the-variants as host;
 ghost use Rattle.shadow.specs.Watch.{watchedOf};
-ghost use Rattle.translate.specs.Translate.{HeldFits, translation, translateOf};
+ghost use Rattle.translate.specs.Translate.{HeldFits, translation, translateOf, turnedDepth, depthOf};
 ghost use Rattle.request.specs.Access.{Inside, ReachesFrame, setBy, bitsOf, settledOf, droppedOf, bytesIn, pathHeldOf, Unserved, loadBy, loadOf, finishBy, writtenBy, storeBy, storeFrom, storeOf, plainlyOf, deviceOf};
 use entry::GuestPhysical;
 use entry::GuestVirtual;
@@ -141,8 +142,13 @@ fn set_own(mem: &mut [u64], space: Space, root: GuestPhysical, store: bool, addr
             writable,
             reads,
         } => {
-            let number = address.page();
-            accessed::set_bits(mem, store, number, space.layout.levels, &trail.tables);
+            let read = accessed::read_by(
+                space.layout,
+                address.page(),
+                space.layout.levels,
+                &trail.tables,
+            );
+            accessed::set_bits(mem, store, read.path, read.steps, &trail.tables);
         }
         Walked::Faulted { fault, reads } => {}
         Walked::Damaged => {}
@@ -336,7 +342,77 @@ fn load_through(
     loaded(mem, held, after, end, t.exits, address.0, width)
 }
 
-// A load: 11. Most are of depth 0 and held: they are told here, with nothing handed on.
+// Does the walk of a request, whose marks give that depth, come into a large page above the marked levels?
+fn is_turned(
+    mem: &[u64],
+    space: Space,
+    root: GuestPhysical,
+    address: GuestVirtual,
+    depth: u64,
+) -> bool
+    requires { ⌜ LayoutFits (space .layout) ⌝ }
+    ensures { λ r. ⌜ r ≡ not (eqb (turnedDepth (config (space .layout)) (space .top) (now (mem .entry)) (root .0) (address .0) depth) depth) ⌝ }
+{
+    if translate::may_turn(depth) {
+        return translate::walked_depth(mem, space, root, address, depth) != depth;
+    }
+    false
+}
+
+// A load of depth 0 whose held path leads to that page.
+fn load_page(
+    mem: &mut [u64],
+    space: Space,
+    root: GuestPhysical,
+    held: Held,
+    address: GuestVirtual,
+    width: u64,
+    page: HostPhysical,
+    writable: bool,
+) -> Served
+    requires { ⌜ (LayoutFits (space .layout)) × (HeldFits (config (space .layout)) held) × (Inside (address .0) width) × (pathHeldOf (config (space .layout)) (now mem) held false (address .0) 0 ≡ host.Found page writable) ⌝ }
+    ensures { λ r. ⌜ yields r (now (mem .exit)) ≡ loadOf (config (space .layout)) (space .top) (now (mem .entry)) held (root .0) (address .0) width 0 ⌝ }
+{
+    Served {
+        held: held,
+        answer: Answer::Value {
+            word: read_bytes(mem, page, address.0, width),
+            references: space.layout.levels,
+            exits: 0,
+        },
+    }
+}
+
+// A load at depth 0 from a large page that lies above the marked levels: 11.
+fn load_large(
+    mem: &mut [u64],
+    space: Space,
+    root: GuestPhysical,
+    held: Held,
+    address: GuestVirtual,
+    width: u64,
+) -> Served
+    requires { ⌜ (LayoutFits (space .layout)) × (HeldFits (config (space .layout)) held) × (Inside (address .0) width) ⌝ }
+    ensures { λ r. ⌜ yields r (now (mem .exit)) ≡ loadOf (config (space .layout)) (space .top) (now (mem .entry)) held (root .0) (address .0) width 0 ⌝ }
+{
+    match path_held(mem, space.layout, held, false, address, 0) {
+        HostWalk::Found { page, writable } => load_page(
+            mem,
+            space,
+            root,
+            held,
+            address,
+            width,
+            page,
+            writable,
+        ),
+        HostWalk::Absent { reads } => load_unserved(mem, space, root, held, address, width, 0),
+        HostWalk::Damaged => refused(held, 11),
+    }
+}
+
+// A load whose marks give that depth: 11. Most are of depth 0 and held: they are told here, with nothing handed on. What is held at the
+// marks' depth says that there is no large page above it; only a path that is not asks.
 pub fn load(
     mem: &mut [u64],
     space: Space,
@@ -346,21 +422,14 @@ pub fn load(
     width: u64,
     depth: u64,
 ) -> Served
-    requires { ⌜ (LayoutFits (space .layout)) × (HeldFits (config (space .layout)) held) × (Inside (address .0) width) ⌝ }
-    ensures { λ r. ⌜ yields r (now (mem .exit)) ≡ loadOf (config (space .layout)) (space .top) (now (mem .entry)) held (root .0) (address .0) width depth ⌝ }
+    requires { ⌜ (LayoutFits (space .layout)) × (HeldFits (config (space .layout)) held) × (Inside (address .0) width) × (2 ≤ space .layout .levels) ⌝ }
+    ensures { λ r. ⌜ yields r (now (mem .exit)) ≡ loadOf (config (space .layout)) (space .top) (now (mem .entry)) held (root .0) (address .0) width (depthOf (config (space .layout)) (space .top) (now (mem .entry)) held (root .0) (address .0) depth) ⌝ }
 {
     if depth <= space.layout.levels {
         match path_held(mem, space.layout, held, false, address, depth) {
             HostWalk::Found { page, writable } => {
                 if depth == 0 {
-                    return Served {
-                        held: held,
-                        answer: Answer::Value {
-                            word: read_bytes(mem, page, address.0, width),
-                            references: space.layout.levels,
-                            exits: 0,
-                        },
-                    };
+                    return load_page(mem, space, root, held, address, width, page, writable);
                 }
                 return load_through(
                     mem,
@@ -374,8 +443,15 @@ pub fn load(
                     writable,
                 );
             }
-            HostWalk::Absent { reads } => {}
+            HostWalk::Absent { reads } => {
+                if is_turned(mem, space, root, address, depth) {
+                    return load_large(mem, space, root, held, address, width);
+                }
+            }
             HostWalk::Damaged => {
+                if translate::may_turn(depth) {
+                    return load_large(mem, space, root, held, address, width);
+                }
                 return refused(held, 11);
             }
         }
@@ -569,6 +645,161 @@ pub fn store_plainly(
     }
 }
 
+// A store whose held path leads to a page, or to a guest table in that frame.
+fn store_through(
+    mem: &mut [u64],
+    space: Space,
+    root: GuestPhysical,
+    held: Held,
+    address: GuestVirtual,
+    width: u64,
+    depth: u64,
+    value: u64,
+    page: HostPhysical,
+    writable: bool,
+) -> Served
+    requires { ⌜ (LayoutFits (space .layout)) × (HeldFits (config (space .layout)) held) × (Inside (address .0) width) × (depth ≤ space .layout .levels) × (pathHeldOf (config (space .layout)) (now mem) held true (address .0) depth ≡ host.Found page writable) ⌝ }
+    ensures { λ r. ⌜ yields r (now (mem .exit)) ≡ storeOf (config (space .layout)) (space .top) (now (mem .entry)) held (root .0) (address .0) width depth value ⌝ }
+{
+    let request = Request {
+        store: true,
+        address: address,
+        depth: depth,
+    };
+    if translate::bitless(space.layout, depth) {
+        let walked = translate::direct(mem, space, request, page, writable);
+        let exits = translate::exit_of(walked);
+        return stored(
+            mem,
+            space.layout,
+            held,
+            walked,
+            exits,
+            address.0,
+            width,
+            value,
+        );
+    }
+    let t = translate::through(mem, space, root, held, request, page, writable);
+    stored_by_bits(mem, space, root, held, t, address, width, value)
+}
+
+// A store that no held path serves.
+fn store_unserved(
+    mem: &mut [u64],
+    space: Space,
+    root: GuestPhysical,
+    held: Held,
+    address: GuestVirtual,
+    width: u64,
+    depth: u64,
+    value: u64,
+) -> Served
+    requires { ⌜ (LayoutFits (space .layout)) × (HeldFits (config (space .layout)) held) × (Inside (address .0) width) × (Unserved (config (space .layout)) (space .top) (now mem) held (root .0) true (address .0) depth) ⌝ }
+    ensures { λ r. ⌜ yields r (now (mem .exit)) ≡ storeOf (config (space .layout)) (space .top) (now (mem .entry)) held (root .0) (address .0) width depth value ⌝ }
+{
+    let request = Request {
+        store: true,
+        address: address,
+        depth: depth,
+    };
+    let t = translate::unserved(mem, space, root, held, request);
+    stored_by_bits(mem, space, root, held, t, address, width, value)
+}
+
+// A load's or a store's translation at depth 0, of a large page that lies above the marked levels.
+fn reached_large(
+    mem: &mut [u64],
+    space: Space,
+    root: GuestPhysical,
+    held: Held,
+    store: bool,
+    address: GuestVirtual,
+) -> Translated
+    requires { ⌜ (LayoutFits (space .layout)) × (HeldFits (config (space .layout)) held) ⌝ }
+    ensures { λ r. ⌜ yields r (now (mem .exit)) ≡ translateOf (config (space .layout)) (space .top) (now (mem .entry)) held (root .0) store (address .0) 0 ⌝ }
+{
+    let request = Request {
+        store: store,
+        address: address,
+        depth: 0,
+    };
+    match path_held(mem, space.layout, held, store, address, 0) {
+        HostWalk::Found { page, writable } => translate::through(
+            mem,
+            space,
+            root,
+            held,
+            request,
+            page,
+            writable,
+        ),
+        HostWalk::Absent { reads } => translate::unserved(mem, space, root, held, request),
+        HostWalk::Damaged => translate::damaged(held),
+    }
+}
+
+// A load's or a store's translation, by the path held for it or without one; the request's depth is the one that its marks give.
+pub fn reached(
+    mem: &mut [u64],
+    space: Space,
+    root: GuestPhysical,
+    held: Held,
+    request: Request,
+) -> Translated
+    requires { ⌜ (LayoutFits (space .layout)) × (HeldFits (config (space .layout)) held) × (2 ≤ space .layout .levels) ⌝ }
+    ensures { λ r. ⌜ yields r (now (mem .exit)) ≡ translateOf (config (space .layout)) (space .top) (now (mem .entry)) held (root .0) (request .store) (request .address .0) (depthOf (config (space .layout)) (space .top) (now (mem .entry)) held (root .0) (request .address .0) (request .depth)) ⌝ }
+{
+    let store = request.store;
+    let address = request.address;
+    let depth = request.depth;
+    if depth <= space.layout.levels {
+        match path_held(mem, space.layout, held, store, address, depth) {
+            HostWalk::Found { page, writable } => {
+                return translate::through(mem, space, root, held, request, page, writable);
+            }
+            HostWalk::Absent { reads } => {
+                if is_turned(mem, space, root, address, depth) {
+                    return reached_large(mem, space, root, held, store, address);
+                }
+            }
+            HostWalk::Damaged => {
+                if translate::may_turn(depth) {
+                    return reached_large(mem, space, root, held, store, address);
+                }
+                return translate::damaged(held);
+            }
+        }
+    }
+    translate::unserved(mem, space, root, held, request)
+}
+
+// A store at depth 0 into a large page that lies above the marked levels: 11.
+fn store_large(
+    mem: &mut [u64],
+    space: Space,
+    root: GuestPhysical,
+    held: Held,
+    address: GuestVirtual,
+    width: u64,
+    value: u64,
+) -> Served
+    requires { ⌜ (LayoutFits (space .layout)) × (HeldFits (config (space .layout)) held) × (Inside (address .0) width) ⌝ }
+    ensures { λ r. ⌜ yields r (now (mem .exit)) ≡ storeOf (config (space .layout)) (space .top) (now (mem .entry)) held (root .0) (address .0) width 0 value ⌝ }
+{
+    if store_plainly(mem, space.layout, held, address, width, 0, value) {
+        return Served {
+            held: held,
+            answer: Answer::Done {
+                references: space.layout.levels,
+                exits: 0,
+            },
+        };
+    }
+    let t = reached_large(mem, space, root, held, true, address);
+    stored_by_bits(mem, space, root, held, t, address, width, value)
+}
+
 // Any store, by its translation; the paths whose shadow part read the word around its bytes are dropped: 11.
 fn store_translated(
     mem: &mut [u64],
@@ -580,45 +811,42 @@ fn store_translated(
     depth: u64,
     value: u64,
 ) -> Served
-    requires { ⌜ (LayoutFits (space .layout)) × (HeldFits (config (space .layout)) held) × (Inside (address .0) width) ⌝ }
-    ensures { λ r. ⌜ yields r (now (mem .exit)) ≡ storeOf (config (space .layout)) (space .top) (now (mem .entry)) held (root .0) (address .0) width depth value ⌝ }
+    requires { ⌜ (LayoutFits (space .layout)) × (HeldFits (config (space .layout)) held) × (Inside (address .0) width) × (2 ≤ space .layout .levels) ⌝ }
+    ensures { λ r. ⌜ yields r (now (mem .exit)) ≡ storeOf (config (space .layout)) (space .top) (now (mem .entry)) held (root .0) (address .0) width (depthOf (config (space .layout)) (space .top) (now (mem .entry)) held (root .0) (address .0) depth) value ⌝ }
 {
-    let request = Request {
-        store: true,
-        address: address,
-        depth: depth,
-    };
     if depth <= space.layout.levels {
         match path_held(mem, space.layout, held, true, address, depth) {
             HostWalk::Found { page, writable } => {
-                if translate::bitless(space.layout, depth) {
-                    let walked = translate::direct(mem, space, request, page, writable);
-                    let exits = translate::exit_of(walked);
-                    return stored(
-                        mem,
-                        space.layout,
-                        held,
-                        walked,
-                        exits,
-                        address.0,
-                        width,
-                        value,
-                    );
-                }
-                let t = translate::through(mem, space, root, held, request, page, writable);
-                return stored_by_bits(mem, space, root, held, t, address, width, value);
+                return store_through(
+                    mem,
+                    space,
+                    root,
+                    held,
+                    address,
+                    width,
+                    depth,
+                    value,
+                    page,
+                    writable,
+                );
             }
-            HostWalk::Absent { reads } => {}
+            HostWalk::Absent { reads } => {
+                if is_turned(mem, space, root, address, depth) {
+                    return store_large(mem, space, root, held, address, width, value);
+                }
+            }
             HostWalk::Damaged => {
+                if translate::may_turn(depth) {
+                    return store_large(mem, space, root, held, address, width, value);
+                }
                 return refused(held, 11);
             }
         }
     }
-    let t = translate::unserved(mem, space, root, held, request);
-    stored_by_bits(mem, space, root, held, t, address, width, value)
+    store_unserved(mem, space, root, held, address, width, depth, value)
 }
 
-// A store, the common case first: 11.
+// A store whose marks give that depth, the common case first: 11.
 pub fn store(
     mem: &mut [u64],
     space: Space,
@@ -629,8 +857,8 @@ pub fn store(
     depth: u64,
     value: u64,
 ) -> Served
-    requires { ⌜ (LayoutFits (space .layout)) × (HeldFits (config (space .layout)) held) × (Inside (address .0) width) ⌝ }
-    ensures { λ r. ⌜ yields r (now (mem .exit)) ≡ storeOf (config (space .layout)) (space .top) (now (mem .entry)) held (root .0) (address .0) width depth value ⌝ }
+    requires { ⌜ (LayoutFits (space .layout)) × (HeldFits (config (space .layout)) held) × (Inside (address .0) width) × (2 ≤ space .layout .levels) ⌝ }
+    ensures { λ r. ⌜ yields r (now (mem .exit)) ≡ storeOf (config (space .layout)) (space .top) (now (mem .entry)) held (root .0) (address .0) width (depthOf (config (space .layout)) (space .top) (now (mem .entry)) held (root .0) (address .0) depth) value ⌝ }
 {
     if store_plainly(mem, space.layout, held, address, width, depth, value) {
         return Served {
@@ -642,38 +870,6 @@ pub fn store(
         };
     }
     store_translated(mem, space, root, held, address, width, depth, value)
-}
-
-// A load's or a store's translation, by the path held for it or without one.
-pub fn reached(
-    mem: &mut [u64],
-    space: Space,
-    root: GuestPhysical,
-    held: Held,
-    request: Request,
-) -> Translated
-    requires { ⌜ (LayoutFits (space .layout)) × (HeldFits (config (space .layout)) held) ⌝ }
-    ensures { λ r. ⌜ yields r (now (mem .exit)) ≡ translateOf (config (space .layout)) (space .top) (now (mem .entry)) held (root .0) (request .store) (request .address .0) (request .depth) ⌝ }
-{
-    if request.depth <= space.layout.levels {
-        match path_held(
-            mem,
-            space.layout,
-            held,
-            request.store,
-            request.address,
-            request.depth,
-        ) {
-            HostWalk::Found { page, writable } => {
-                return translate::through(mem, space, root, held, request, page, writable);
-            }
-            HostWalk::Absent { reads } => {}
-            HostWalk::Damaged => {
-                return translate::damaged(held);
-            }
-        }
-    }
-    translate::unserved(mem, space, root, held, request)
 }
 
 // A device's store at a guest-physical address: its host walk, then the bytes as for a store; no bits: 11.

@@ -105,7 +105,7 @@ same-touched : T (SameOn (touchedOf heldRecord heldWords false 0))
 unfolding touchedOf calling
 same-touched = tt
 
-path-held : HeldOrPlain ((specified memory 4 4 false false (begin ++ hold)) .config) ((specified memory 4 4 false false (begin ++ hold)) .book) false 0
+path-held : HeldOrPlain ((specified memory 4 4 false false (begin ++ hold)) .config) ((specified memory 4 4 false false (begin ++ hold)) .machine) ((specified memory 4 4 false false (begin ++ hold)) .book) false 0
 unfolding HeldOrPlain specifying
 path-held = inl tt
 

@@ -24,7 +24,7 @@ use Rattle.charge.specs.declared.Charge.{Charge}
 use Rattle.charge.specs.declared.Charge.the-variants as charge
 use Rattle.walk.specs.declared.Walked.{Walked}
 use Rattle.walk.specs.declared.Walked.the-variants as walked
-use Rattle.walk.specs.Memory.{walkedOf, trailOf}
+use Rattle.walk.specs.Memory.{walkedOf, rootTrail}
 use Rattle.record.specs.declared.Record.{Record}
 use Rattle.record.specs.Record.{configOf, configBy}
 use Rattle.record.specs.Open.{grantedOf}
@@ -39,7 +39,7 @@ use Rattle.forecast.specs.declared.Next.{Next}
 use Rattle.forecast.specs.declared.Next.the-variants.{Go, Damaged}
 use Rattle.forecast.specs.Forecast.{addressOf, onward, listOf, start, forecastOf}
 use Rattle.calls.specs.Calls as calls
-use Rattle.calls.specs.Calls.{hostTop, heldOf, rootOf, keysOf, ended, judged, placed, refused, servedBy, windowedBy, addressOk, lookupAt, depthAt, translatedOf, chargeAt, plainStore, storedBy, openCall, callOf, loadCall, storeCall, deviceCall, forecastCall}
+use Rattle.calls.specs.Calls.{hostTop, heldOf, rootOf, keysOf, ended, judged, placed, refused, servedBy, windowedBy, addressOk, lookupAt, requestDepth, translatedOf, chargeAt, plainStore, storedBy, openCall, callOf, loadCall, storeCall, deviceCall, forecastCall}
 use Rattle.claims.specs.Run.{guestArea, unitRun, unitAfter, heardUnit}
 use Rattle.claims.specs.Counted.{SameWords, SetsNone, countedOf, touchedOf}
 use Rattle.claims.proofs.Invariant.{Inv}
@@ -239,7 +239,7 @@ missed-as-ours c ht m h root st a d gs walked.Damaged = refl
 
 missed-with-ours : (c : Config) (ht : ℕ) (m : List ℕ) (h : Held) (root : ℕ) (st : Bool) (a d : ℕ) → missedWith ours c ht m h root st a d ≡ missedOf c ht m h root st a d
 unfolding missedOf
-missed-with-ours c ht m h root st a d = let r = trailOf c ht m 0 (walk c st root (pathIndexes c d a)) in missed-as-ours c ht m h root st a d (r .tables) (r .walked)
+missed-with-ours c ht m h root st a d = let r = rootTrail c ht m st root (pathIndexes c d a) in missed-as-ours c ht m h root st a d (r .tables) (r .walked)
 
 found-as-ours : (c : Config) (ht : ℕ) (m : List ℕ) (h : Held) (root : ℕ) (st : Bool) (a d : ℕ) (x : HostWalk)
     → foundAs ours c ht m h root st a d x ≡ foundBy c ht m h root st a d x
@@ -255,4 +255,4 @@ pub load-arriving-ours : (r : Record) (m : List ℕ) (a w : ℕ) → loadArrivin
 unfolding loadArriving callOf loadCall loadOf
 load-arriving-ours r m a w =
     ap (λ (o : After Translated). placed r m w (addressOk false (configOf r) a w) (windowedBy r (loadFrom (configOf r) (hostTop r) (rootOf r) (heldOf r) a w o)))
-    (translate-with-ours (configOf r) (hostTop r) m (heldOf r) (rootOf r) false a (depthAt r a))
+    (translate-with-ours (configOf r) (hostTop r) m (heldOf r) (rootOf r) false a (requestDepth r m a))

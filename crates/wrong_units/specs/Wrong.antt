@@ -43,7 +43,7 @@ use Rattle.charge.specs.declared.Charge.the-variants as charge
 use Rattle.automatic.specs.Moves.{markedOf, marksWith, choiceWith, above}
 use Rattle.translate.specs.declared.Held.{Held}
 use Rattle.translate.specs.declared.Translated.{Translated}
-use Rattle.translate.specs.Translate.{exitBy}
+use Rattle.translate.specs.Translate.{depthOf, exitBy}
 use Rattle.request.specs.declared.Put.{Put}
 use Rattle.request.specs.declared.Served.{Served}
 use Rattle.request.specs.Access as access
@@ -134,10 +134,10 @@ marksFull = onSets (λ a n r m. elim (ltb (ones (r .guest .marks .set)) 4) [ tru
 
 -- ---- addresses of both halves (document 02, 1), misread
 
--- a load by another test of its address, and by another depth
+-- a load by another test of its address, and by another depth of its marks
 abbrev pub loadBy : (Config → ℕ → Bool) → (Record → ℕ → ℕ) → ℕ → ℕ → Does
 loadBy legal deep a w r m =
-    placed r m w (legal (configOf r) a && aligned a w) (windowedBy r (access.loadOf (configOf r) (hostTop r) m (heldOf r) (rootOf r) a w (deep r a)))
+    placed r m w (legal (configOf r) a && aligned a w) (windowedBy r (access.loadOf (configOf r) (hostTop r) m (heldOf r) (rootOf r) a w (depthOf (configOf r) (hostTop r) m (heldOf r) (rootOf r) a (deep r a))))
 
 abbrev pub loadIf : (Config → ℕ → Bool) → ℕ → ℕ → Does
 loadIf legal = loadBy legal depthAt

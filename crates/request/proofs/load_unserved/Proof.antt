@@ -22,7 +22,7 @@ loaded-requires c κs =
     let unserved = c .before .before .before .before .before .before .before .before .unserved in
     let args = c .before .before .before .before .before .before .before .before .before .before .before .args in
     let pre = c .before .before .before .before .before .before .before .before .before .before .before .pre in
-    (subst (λ (o : After Translated). ReachesFrame (o .result .walked)) (sym (unserved .ensures)) (reaches-as (config (args .space .layout)) (args .space .top) (args .mem .now) (args .held) (args .root .0) false (args .address .0) (args .depth) (pre .1) _ (pre .0 .3) (pre .3)), pre .2)
+    (subst (λ (o : After Translated). ReachesFrame (o .result .walked)) (sym (unserved .ensures)) (reaches-as (config (args .space .layout)) (args .space .top) (args .mem .now) (args .held) (args .root .0) false (args .address .0) (args .depth) (pre .1) (pre .0 .0) _ (pre .0 .3) (pre .3)), pre .2)
 
 same-length : tie.Need-same-length
 same-length c = search needs

@@ -2,9 +2,7 @@
 use mathlib.Core.Path.{ap, _∙_}
 use mathlib.Core.Bool.{true, false}
 use native.Mathlib.Omega.{arith}
-use lib.ListN.{replicate}
 use Rattle.spec.specs.Entry.{indexes}
-use Rattle.spec.specs.Plain.{levels}
 use Rattle.layout.specs.Layout.{config}
 use Rattle.walk.specs.Memory.{trailOf}
 use Rattle.walk.proofs.Laws.{table-fits}
@@ -33,22 +31,22 @@ returns c =
     let page = c .before .before .page in
     let walk-tables = c .walk-tables in
     let p = page .given .0 in
-    rw (trail-root (config (args .space .layout)) (args .space .top) (args .mem .now) (replicate 8 0) 0 0 (args .store) (args .root .0) (indexes (args .steps) (args .path)), ← to-table .ensures, page .given .1)
-    (walk-tables .ensures ∙ ap (λ n. trailOf (config (args .space .layout)) (args .space .top) (args .mem .now) (p .1 .1 .0) (levels (config (args .space .layout)) (args .store) n (p .0 .0) true (indexes (args .steps) (args .path)))) (pre .1))
+    rw (trail-root (config (args .space .layout)) (args .space .top) (args .mem .now) (args .store) (args .root .0) (indexes (args .steps) (args .path)), ← to-table .ensures, page .given .1)
+    (walk-tables .ensures ∙ ap (λ n. trailOf (config (args .space .layout)) (args .space .top) (args .mem .now) (p .1 .1 .0) (args .store) n (p .0 .0) true (indexes (args .steps) (args .path))) (pre .1))
 
 returns-2 : tie.Need-returns-2
 returns-2 c =
     let args = c .before .before .before .before .before .args in
     let to-table = c .before .before .before .to-table in
     let fault = c .before .fault in
-    rw (trail-root (config (args .space .layout)) (args .space .top) (args .mem .now) (replicate 8 0) 0 0 (args .store) (args .root .0) (indexes (args .steps) (args .path)), ← to-table .ensures, fault .given .1)
+    rw (trail-root (config (args .space .layout)) (args .space .top) (args .mem .now) (args .store) (args .root .0) (indexes (args .steps) (args .path)), ← to-table .ensures, fault .given .1)
 
 returns-3 : tie.Need-returns-3
 returns-3 c =
     let args = c .before .before .before .before .args in
     let to-table = c .before .before .to-table in
     let enum-told = c .enum-told in
-    rw (trail-root (config (args .space .layout)) (args .space .top) (args .mem .now) (replicate 8 0) 0 0 (args .store) (args .root .0) (indexes (args .steps) (args .path)), ← to-table .ensures, enum-told .given .1)
+    rw (trail-root (config (args .space .layout)) (args .space .top) (args .mem .now) (args .store) (args .root .0) (indexes (args .steps) (args .path)), ← to-table .ensures, enum-told .given .1)
 
 pub walk-root-spec : {M : Type 1} → statement M
 walk-root-spec =
