@@ -37,16 +37,16 @@ use Rattle.spec_laws.proofs.Asks.{asks-trace, AnswerIn, placed-frame, levels-as
 
 -- a walk over memory arrives just where it is granted
 pub arrived-granted : (c : Config) (ht : ℕ) (m : List ℕ) (n : ℕ) (p : Walk Fault Place) (t : ℕ) (w : Bool) (k : ℕ)
-    → walkedOf c ht m n p ≡ walked.Arrived (page t) w k → (trace (memoryWorld c ht m) p) .result ≡ granted (t, w)
+    → walkedOf c ht m n p ≡ walked.Arrived w (page t) k → (trace (memoryWorld c ht m) p) .result ≡ granted (t, w)
 unfolding walkedOf
 arrived-granted c ht m n p t w k = go ((trace (memoryWorld c ht m) p) .result) (n + (trace (memoryWorld c ht m) p) .count)
   where
-    not-damage : (h : HostWalk) (g j : ℕ) → absentBy h (walked.Faulted (HostAbsent g) j) ≡ walked.Arrived (page t) w k → ⊥
+    not-damage : (h : HostWalk) (g j : ℕ) → absentBy h (walked.Faulted (HostAbsent g) j) ≡ walked.Arrived w (page t) k → ⊥
     not-damage (host.Found q v) g j e = let z : _≡_ {A = ℕ} 0 1 = cc in omega arith
     not-damage (host.Absent i) g j e = let z : _≡_ {A = ℕ} 0 1 = cc in omega arith
     not-damage host.Damaged g j e = let z : _≡_ {A = ℕ} 0 1 = cc in omega arith
 
-    go : (x : Result Fault Place) (j : ℕ) → walkedBy c ht m x j ≡ walked.Arrived (page t) w k → x ≡ granted (t, w)
+    go : (x : Result Fault Place) (j : ℕ) → walkedBy c ht m x j ≡ walked.Arrived w (page t) k → x ≡ granted (t, w)
     go (granted q) j e = let a : page (q .0) ≡ page t = cc in let b : q .1 ≡ w = cc in ap₂ (λ (f : HostPhysical) v. granted (f .0, v)) a b
     go (failed (Absent l)) j e = let z : _≡_ {A = ℕ} 0 1 = cc in absurd (omega arith)
     go (failed (Malformed l)) j e = let z : _≡_ {A = ℕ} 0 1 = cc in absurd (omega arith)

@@ -70,7 +70,7 @@ module _ (r : Record) (off : r .guest .choice .tally .on ≡ 0) where
 
   pub off-store : (a w v : ℕ) (o : After Translated) (x : Walked) → plainStore r a w v o ≡ storedBy r a w v o x
   unfolding chargeAt
-  off-store a w v o (walked.Arrived t y n) = rw (eq-eqb (r .guest .choice .tally .on) 0 off)
+  off-store a w v o (walked.Arrived y t n) = rw (eq-eqb (r .guest .choice .tally .on) 0 off)
   off-store a w v o (walked.Faulted x n) = refl
   off-store a w v o walked.Damaged = refl
 
@@ -105,7 +105,7 @@ plain-stored r m a w v n k =
     ∙ ap (λ (o : After Translated). storedBy r a w v o (o .result .walked)) (sym (ap (translateOf c (hostTop r) m (heldOf r) (rootOf r) true a) kept ∙ went))
   where
     came : Plain (configOf r) m (heldOf r) a w (depthAt r a) v n → After Translated
-    came p = yields (translation (heldOf r) 0 (walked.Arrived (p .page) (p .writable) (r .layout .levels)) false) m
+    came p = yields (translation (heldOf r) 0 (walked.Arrived (p .writable) (p .page) (r .layout .levels)) false) m
 
     nobody : (b : Bool) → charge.Nobody ≡ cond b charge.Nobody charge.Nobody
     nobody true = refl
@@ -113,7 +113,7 @@ plain-stored r m a w v n k =
 
 -- a store with the choice on, by its charge
 pub on-store : (r : Record) → r .guest .choice .tally .on ≢ 0 → (a w v : ℕ) (o : After Translated) (t : HostPhysical) (y : Bool) (n : ℕ) (x : Charge)
-    → o .result .walked ≡ walked.Arrived t y n → chargedIn (configOf r) (o .result .held) (o .memory) (t .0) (wordOf a) ≡ x
+    → o .result .walked ≡ walked.Arrived y t n → chargedIn (configOf r) (o .result .held) (o .memory) (t .0) (wordOf a) ≡ x
     → storeBy r a w v o t n x ≡ storedBy r a w v o (o .result .walked)
 unfolding chargeAt
 on-store r on a w v o t y n x came e =

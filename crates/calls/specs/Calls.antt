@@ -258,7 +258,7 @@ storeBy r a w v o t n charge.Damaged = refused r 11 (o .memory)
 
 -- a store by what its translation came to
 abbrev pub storedBy : Record → ℕ → ℕ → ℕ → After Translated → Walked → After Reply
-storedBy r a w v o (walked.Arrived t y n) = storeBy r a w v o t n (chargeAt r (o .result .held) (o .memory) (t .0) (wordOf a))
+storedBy r a w v o (walked.Arrived y t n) = storeBy r a w v o t n (chargeAt r (o .result .held) (o .memory) (t .0) (wordOf a))
 storedBy r a w v o (walked.Faulted x n) = plainStore r a w v o
 storedBy r a w v o walked.Damaged = plainStore r a w v o
 

@@ -86,7 +86,7 @@ module _ (s : State) (r : Record) (m : List ℕ) (inv : Inv s r m) (beside : Bes
   reads g = by (plainWalk r m (isStore v) a) (as-walked s r m inv beside a w v (unrefused (e .result .answer) g))
     where
       by : (y : Walked) → AsWalked r m a w v e y → GrantedWith (readsOn (configOf r) s (isStore v) a) (e .result .answer) × (readsOn (configOf r) s (isStore v) a ≤ 24)
-      by (walked.Arrived t y n) q =
+      by (walked.Arrived y t n) q =
           let same = reads-on s r m inv beside (isStore v) a in
           let most = subst (λ x. readsOf r m (isStore v) a ≤ x + x * suc x) four (q .most) in
           (granted-with (e .result .answer) (readsOn (configOf r) s (isStore v) a) g (ap lineReads (q .says) ∙ reads-line a w v _ _ _ ∙ same), omega (arith, most, same))

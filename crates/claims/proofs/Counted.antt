@@ -294,7 +294,7 @@ module _ (s : State) (r : Record) (m : List ℕ) (inv : Inv s r m) (a : ℕ) whe
     load-says : (n : List ℕ) (e : ℕ) (x : Walked) (sets : Bool) → ((j : ℕ) → getD n j 0 ≡ getD m j 0 → getD (own false sets n) j 0 ≡ getD (own false sets m) j 0)
         → SameWords m n (touchedBy a x) → SameReply n (own false sets n) (loadOn (read.left r false a deep e x sets n)) (loadOn (read.left r false a deep e x sets m))
     unfolding headHeld headTables
-    load-says n e (walked.Arrived t y k) sets q h =
+    load-says n e (walked.Arrived y t k) sets q h =
         (ap (λ b. answer.Value (bytesAt a w b) k e) (q (t .0 * 512 + wordOf a) (h .0)), refl, inr refl)
     load-says n e (walked.Faulted y k) sets q h = (refl, refl, inl refl)
     load-says n e walked.Damaged sets q h = (refl, refl, inl refl)
@@ -351,7 +351,7 @@ module _ (s : State) (r : Record) (m : List ℕ) (inv : Inv s r m) (a : ℕ) whe
         subst (λ (x : After Reply). References (length (countedOf r m false a)) (x .result .answer)) (sym (load-fits m refl)) (counts false h loadOn said)
       where
         said : (e : ℕ) (x : Walked) (sets : Bool) → Reads (length (countedOf r m false a)) x → References (length (countedOf r m false a)) (loadOn (read.left r false a deep e x sets m) .result .answer)
-        said e (walked.Arrived t y k) sets q = q
+        said e (walked.Arrived y t k) sets q = q
         said e (walked.Faulted y k) sets q = q
         said e walked.Damaged sets q = tt
 
@@ -374,7 +374,7 @@ module _ (s : State) (r : Record) (m : List ℕ) (inv : Inv s r m) (a : ℕ) whe
         chargeOn n = chargeAt r (heldOf r) n (t .0) (wordOf a)
 
         abbrev leftOn : List ℕ → Charge → After Reply
-        leftOn n g = storeBy r a w v (read.left r true a deep e (walked.Arrived t y k) sets n) t k g
+        leftOn n g = storeBy r a w v (read.left r true a deep e (walked.Arrived y t k) sets n) t k g
 
         -- charged to nobody, after drops that left o; charged, and then after moves that left x
         abbrev writtenOn : After Put → After Reply
@@ -561,7 +561,7 @@ module _ (s : State) (r : Record) (m : List ℕ) (inv : Inv s r m) (a : ℕ) whe
           subst (λ (x : After Reply). References (length (countedOf r m true a)) (x .result .answer)) (sym (store-fits m refl)) (counts true h storeOn said)
         where
           said : (e : ℕ) (x : Walked) (sets : Bool) → Reads (length (countedOf r m true a)) x → References (length (countedOf r m true a)) (storeOn (read.left r true a deep e x sets m) .result .answer)
-          said e (walked.Arrived t y k) sets q = left-counts t y k e sets m (length (countedOf r m true a)) q (chargeOn t y k e sets m)
+          said e (walked.Arrived y t k) sets q = left-counts t y k e sets m (length (countedOf r m true a)) q (chargeOn t y k e sets m)
           said e (walked.Faulted y k) sets q = q
           said e walked.Damaged sets q = tt
 
@@ -588,7 +588,7 @@ module _ (s : State) (r : Record) (m : List ℕ) (inv : Inv s r m) (a : ℕ) whe
           by i walked.Damaged sets p q there f g =
               let z : answer.Refused 11 ≡ answer.Done k e = sym (ap (λ (x : After Reply). x .result .answer) f) ∙ done in
               let x : _≡_ {A = ℕ} 0 1 = cc in absurd (omega arith)
-          by i (walked.Arrived t y j) sets p q there f g =
+          by i (walked.Arrived y t j) sets p q there f g =
               let z : answer.Done j exits ≡ answer.Done k e = sym (here .says) ∙ sym (ap (λ (x : After Reply). x .result .answer) f) ∙ done in
               let x : j ≡ k = cc in
               let u : exits ≡ e = cc in

@@ -89,7 +89,7 @@ bits-only c st (x ∷ xs) m a =
 -- ---- a request's
 
 module _ (c : Config) (ht root : ℕ) (st : Bool) (a : ℕ) where
-  whole-in : (m : List ℕ) (t : ℕ) (v : Bool) (n : ℕ) → walkedOf c ht m 0 (whole c st root a) ≡ walked.Arrived (page t) v n
+  whole-in : (m : List ℕ) (t : ℕ) (v : Bool) (n : ℕ) → walkedOf c ht m 0 (whole c st root a) ≡ walked.Arrived v (page t) n
       → All (WordIn c) ((trace (memoryWorld c ht m) (whole c st root a)) .reads)
   whole-in m t v n e =
       walk-area c ht m st root (indexes (c .levels) (pageOf a)) (t, v) (indexes-all (c .levels) (pageOf a)) (arrived-granted c ht m 0 (whole c st root a) t v n e)
@@ -103,7 +103,7 @@ module _ (c : Config) (ht root : ℕ) (st : Bool) (a : ℕ) where
 
       go : (x : Walked) → walkedOf c ht m 0 (whole c st root a) ≡ x
           → (length (setBy x (bitsIn st m xs) m) ≡ length m) × BitsOnly true (drop (512 * guestBase c) m) (drop (512 * guestBase c) (setBy x (bitsIn st m xs) m))
-      go (walked.Arrived t v n) e = (bits-long st xs m, bits-only c st xs m (whole-in m (t .0) v n e))
+      go (walked.Arrived v t n) e = (bits-long st xs m, bits-only c st xs m (whole-in m (t .0) v n e))
       go (walked.Faulted x n) e = (refl, only-refl true (drop (512 * guestBase c) m))
       go walked.Damaged e = (refl, only-refl true (drop (512 * guestBase c) m))
 

@@ -64,7 +64,7 @@ use Rattle.claims.proofs.Fills as fills
 
 -- what a request came to, as the code has it. The write right at its end is nothing that a request says
 abbrev pub cameTo : Bool → Result Fault Place → ℕ → Walked
-cameTo right (granted p) n = walked.Arrived (page (p .0)) right n
+cameTo right (granted p) n = walked.Arrived right (page (p .0)) n
 cameTo right (failed x) n = walked.Faulted x n
 
 -- what a translation on s leaves: the verdict, the book's references and exits, and the book's next state. Where the bits of a granted
@@ -334,15 +334,15 @@ module _ (s : State) (r : Record) (m : List ℕ) (inv : Inv s r m) (covered : Al
             (λ z g. refused-own x (verdict-fault x (whole-is ∙ e)) g) no
         on-path on (granted q) e false k =
             serve ρ false (granted q) 0 (served.served-verdict c mach st a deep (t, valid .wide) h low comes valid its (at ∙ sym upper-is) ok (λ y z. k) ∙ e) refl
-            (through-on c ht m hold rt st a deep t (h .right) false (walked.Arrived (page (q .0)) ρ refs) on (lack-on ∙ k) (came ∙ ap (λ y. cameTo ρ y refs) e))
+            (through-on c ht m hold rt st a deep t (h .right) false (walked.Arrived ρ (page (q .0)) refs) on (lack-on ∙ k) (came ∙ ap (λ y. cameTo ρ y refs) e))
             (λ z g. served.served-machine c mach st a deep (t, valid .wide) h low comes valid its (at ∙ sym upper-is) ok k) no
         on-path on (granted q) e true k = by owing refl
           where
             judge : (o : Option (ℕ × ℕ)) → owing ≡ o
-                → throughOf c ht m hold rt st a deep t (h .right) ≡ settledBy hold refs (walked.Arrived (page (q .0)) (walked-on .0) refs) (owingBy deep (lacks w st (all .reads)) o)
+                → throughOf c ht m hold rt st a deep t (h .right) ≡ settledBy hold refs (walked.Arrived (walked-on .0) (page (q .0)) refs) (owingBy deep (lacks w st (all .reads)) o)
             judge o z =
-                through-on c ht m hold rt st a deep t (h .right) true (walked.Arrived (page (q .0)) (walked-on .0) refs) on (lack-on ∙ k) (came ∙ ap (λ y. cameTo (walked-on .0) y refs) e)
-                ∙ ap (settledBy hold refs (walked.Arrived (page (q .0)) (walked-on .0) refs)) (checked-is q (whole-is ∙ e) ∙ ap (owingBy deep (lacks w st (all .reads))) (owes-on on ∙ z))
+                through-on c ht m hold rt st a deep t (h .right) true (walked.Arrived (walked-on .0) (page (q .0)) refs) on (lack-on ∙ k) (came ∙ ap (λ y. cameTo (walked-on .0) y refs) e)
+                ∙ ap (settledBy hold refs (walked.Arrived (walked-on .0) (page (q .0)) refs)) (checked-is q (whole-is ∙ e) ∙ ap (owingBy deep (lacks w st (all .reads))) (owes-on on ∙ z))
 
             by : (o : Option (ℕ × ℕ)) → owing ≡ o → Translates s r m st a price (yields (throughOf c ht m hold rt st a deep t (h .right)) m)
             by none z = serve ρ (lacks w st (all .reads)) (granted q) 0 (verdict-is none (granted q) z (whole-is ∙ e)) refl (judge none z) (λ y g. own-whole y) (λ y. on)
@@ -444,7 +444,7 @@ module _ (s : State) (r : Record) (m : List ℕ) (inv : Inv s r m) (covered : Al
 
       missed-at : missed ≡ arrivedOf c ht m hold rt (fills.gs s r m inv st a) st a deep (part .count) t wide
       missed-at =
-          missed-is (walked.Arrived (page t) wide (part .count)) (ap (λ y. plainWalked y (part .count)) shadow-comes)
+          missed-is (walked.Arrived wide (page t) (part .count)) (ap (λ y. plainWalked y (part .count)) shadow-comes)
           ∙ ap (λ b. cond b (yields (translation hold 0 walked.Damaged false) m) (arrivedOf c ht m hold rt (fills.gs s r m inv st a) st a deep (part .count) t wide)) (area-real c t onward-here)
 
       -- a fill that says x
@@ -511,17 +511,17 @@ module _ (s : State) (r : Record) (m : List ℕ) (inv : Inv s r m) (covered : Al
       missed-on on (granted q) e = by owing refl
         where
           grant : (o : Option (ℕ × ℕ)) → owing ≡ o
-              → missed ≡ ruled (walked.Arrived (page (q .0)) (q .1) onward-refs) (clearedBy c m (fills.gs s r m inv st a) st a deep (part .count) wide onward-refs (owingBy deep (lacks w st (all .reads)) o))
+              → missed ≡ ruled (walked.Arrived (q .1) (page (q .0)) onward-refs) (clearedBy c m (fills.gs s r m inv st a) st a deep (part .count) wide onward-refs (owingBy deep (lacks w st (all .reads)) o))
           grant o z =
               strict-at on (granted q) e
-              ∙ ap (λ y. ruled (walked.Arrived (page (q .0)) (q .1) onward-refs) (clearedBy c m (fills.gs s r m inv st a) st a deep (part .count) wide onward-refs y))
+              ∙ ap (λ y. ruled (walked.Arrived (q .1) (page (q .0)) onward-refs) (clearedBy c m (fills.gs s r m inv st a) st a deep (part .count) wide onward-refs y))
               (checked-is q (parts .0 ∙ e) ∙ ap (owingBy deep (lacks w st (all .reads))) (owes-on on ∙ z))
 
           by : (o : Option (ℕ × ℕ)) → owing ≡ o → Translates s r m st a price missed
           by none z =
               let v = verdict-is none (granted q) z (parts .0 ∙ e) in
               by-fill 1 (granted q) (lacks w st (all .reads)) v (ap₂ (λ u y. 1 + lateExit deep u y) z e) (ap₂ (λ b y. b && not (isGranted {A = Place} y)) on v)
-              (grant none z ∙ ap (λ b. filledOf c m hold (fills.gs s r m inv st a) a deep t b 1 (walked.Arrived (page (q .0)) (q .1) onward-refs) (lacks w st (all .reads))) (fills.passes-is s r m inv st a t wide low shadow-comes on))
+              (grant none z ∙ ap (λ b. filledOf c m hold (fills.gs s r m inv st a) a deep t b 1 (walked.Arrived (q .1) (page (q .0)) onward-refs) (lacks w st (all .reads))) (fills.passes-is s r m inv st a t wide low shadow-comes on))
               (λ y g. own-whole y) (λ y. on)
           by (some o) z =
               by-stop (one (leb (o .0) deep)) (HostReadOnly (o .1)) (verdict-is (some o) (granted q) z (parts .0 ∙ e)) (ap₂ (λ u y. 1 + lateExit deep u y) z e) on (grant (some o) z)
@@ -604,10 +604,10 @@ module _ (s : State) (r : Record) (m : List ℕ) (inv : Inv s r m) (covered : Al
       on-walk on (granted q) e = by owing refl
         where
           judge : (o : Option (ℕ × ℕ)) → owing ≡ o
-              → unshadowedOf c ht m hold rt st a deep ≡ settledBy hold (all .count) (walked.Arrived (page (q .0)) (q .1) (all .count)) (owingBy deep (lacks w st (all .reads)) o)
+              → unshadowedOf c ht m hold rt st a deep ≡ settledBy hold (all .count) (walked.Arrived (q .1) (page (q .0)) (all .count)) (owingBy deep (lacks w st (all .reads)) o)
           judge o z =
-              unshadowed-on c ht m hold rt st a deep (walked.Arrived (page (q .0)) (q .1) (all .count)) on (all-walked ∙ ap (λ y. plainWalked y (all .count)) e)
-              ∙ ap (settledBy hold (all .count) (walked.Arrived (page (q .0)) (q .1) (all .count))) (checked-is q e ∙ ap (owingBy deep (lacks w st (all .reads))) (owes-on on ∙ z))
+              unshadowed-on c ht m hold rt st a deep (walked.Arrived (q .1) (page (q .0)) (all .count)) on (all-walked ∙ ap (λ y. plainWalked y (all .count)) e)
+              ∙ ap (settledBy hold (all .count) (walked.Arrived (q .1) (page (q .0)) (all .count))) (checked-is q e ∙ ap (owingBy deep (lacks w st (all .reads))) (owes-on on ∙ z))
 
           by : (o : Option (ℕ × ℕ)) → owing ≡ o → Translates s r m st a (unshadowed (s .book) (all .count) (verdict c mach st a)) (yields (unshadowedOf c ht m hold rt st a deep) m)
           by none z = says (q .1) (lacks w st (all .reads)) (granted q) 0 (verdict-is none (granted q) z e) refl (judge none z) (λ y g. own-whole y) (λ y. on)

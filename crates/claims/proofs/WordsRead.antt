@@ -330,7 +330,7 @@ module _ (c : Config) (ht root : ℕ) (st : Bool) (a : ℕ) where
     where
       go : (x : Walked) (xs : List Word) → SameWords m n xs
           → (ys : List Word) × SameWords m n ys × (setBy x (bitsIn st m xs) m ≡ bitsIn st m ys) × (setBy x (bitsIn st n xs) n ≡ bitsIn st n ys)
-      go (walked.Arrived t w k) xs q = (xs, q, refl, refl)
+      go (walked.Arrived w t k) xs q = (xs, q, refl, refl)
       go (walked.Faulted y k) xs q = ([], tt, refl, refl)
       go walked.Damaged xs q = ([], tt, refl, refl)
 
@@ -391,7 +391,7 @@ host-reads c ht m g = subst (λ k. LookReads (length (hostWords c ht m g)) k (ho
 
 -- x words were read
 abbrev pub Reads : ℕ → Walked → Type 0
-Reads x (walked.Arrived t w n) = n ≡ x
+Reads x (walked.Arrived w t n) = n ≡ x
 Reads x (walked.Faulted y n) = n ≡ x
 Reads x walked.Damaged = Unit {0}
 
@@ -504,18 +504,18 @@ absent-above c look.Damaged k q s = damaged-absent k q
 
 -- bits change neither what is held nor the references
 judged-held : (h : Held) (judge : Bool) (k : Checked) (x : Walked) → judgedBy h judge k x .held ≡ h
-judged-held h true (checked.Clear l) (walked.Arrived t w n) = refl
-judged-held h true (checked.Stopped y e) (walked.Arrived t w n) = refl
-judged-held h true checked.Damaged (walked.Arrived t w n) = refl
-judged-held h false k (walked.Arrived t w n) = refl
+judged-held h true (checked.Clear l) (walked.Arrived w t n) = refl
+judged-held h true (checked.Stopped y e) (walked.Arrived w t n) = refl
+judged-held h true checked.Damaged (walked.Arrived w t n) = refl
+judged-held h false k (walked.Arrived w t n) = refl
 judged-held h judge k (walked.Faulted y n) = refl
 judged-held h judge k walked.Damaged = refl
 
 judged-reads : (h : Held) (judge : Bool) (k : Checked) (x : Walked) (j : ℕ) → Reads j x → Reads j (judgedBy h judge k x .walked)
-judged-reads h true (checked.Clear l) (walked.Arrived t w n) j q = q
-judged-reads h true (checked.Stopped y e) (walked.Arrived t w n) j q = q
-judged-reads h true checked.Damaged (walked.Arrived t w n) j q = tt
-judged-reads h false k (walked.Arrived t w n) j q = q
+judged-reads h true (checked.Clear l) (walked.Arrived w t n) j q = q
+judged-reads h true (checked.Stopped y e) (walked.Arrived w t n) j q = q
+judged-reads h true checked.Damaged (walked.Arrived w t n) j q = tt
+judged-reads h false k (walked.Arrived w t n) j q = q
 judged-reads h judge k (walked.Faulted y n) j q = q
 judged-reads h judge k walked.Damaged j q = tt
 
@@ -702,8 +702,8 @@ module _ (r : Record) (st : Bool) (a d : ℕ) where
   through-none m t w clear = go (c .bits) refl
     where
       by : c .bits ≡ true → (x : Walked) → from m t w ≡ x → throughOf c ht m hold rt st a d t w ≡ translation hold (exitBy x) x false
-      by on (walked.Arrived p v n) q =
-          through-on c ht m hold rt st a d t w false (walked.Arrived p v n) on
+      by on (walked.Arrived v p n) q =
+          through-on c ht m hold rt st a d t w false (walked.Arrived v p n) on
           (clear on (p .0, v) (arrived-granted c ht m (c .levels - d) (direct c st a d t w) (p .0) v n q)) q
       by on (walked.Faulted x n) q = through-end c ht m hold rt st a d t w (walked.Faulted x n) on q
       by on walked.Damaged q = through-end c ht m hold rt st a d t w walked.Damaged on q
@@ -791,7 +791,7 @@ module _ (r : Record) (st : Bool) (a d : ℕ) where
 
     -- a walk in place of a held path says the marks' depth, or 0
     soon : (x : Walked) → (soonBy c μ x ≡ μ) ⊎ (soonBy c μ x ≡ 0)
-    soon (walked.Arrived p v k) = go (isSpan c (p .0))
+    soon (walked.Arrived v p k) = go (isSpan c (p .0))
       where
         go : (b : Bool) → (cond b 0 μ ≡ μ) ⊎ (cond b 0 μ ≡ 0)
         go true = inr refl
@@ -823,7 +823,7 @@ module _ (r : Record) (st : Bool) (a d : ℕ) where
   marks-local m n three l at = go (eqb μ 0) (ltb μ 3) refl at
     where
       low : (x : Walked) → soonBy c μ x ≤ μ
-      low (walked.Arrived p v k) = by (isSpan c (p .0))
+      low (walked.Arrived v p k) = by (isSpan c (p .0))
         where
           by : (b : Bool) → cond b 0 μ ≤ μ
           by true = omega arith

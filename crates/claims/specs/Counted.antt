@@ -85,7 +85,7 @@ countedOf r m st a =
     (walkWords c ht m (whole c st (rootOf r) a))
 
 abbrev pub touchedBy : ℕ → Walked → List Word
-touchedBy a (walked.Arrived t w n) = (t .0, wordOf a) ∷ []
+touchedBy a (walked.Arrived w t n) = (t .0, wordOf a) ∷ []
 touchedBy a (walked.Faulted x n) = []
 touchedBy a walked.Damaged = []
 

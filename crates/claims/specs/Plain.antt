@@ -57,7 +57,7 @@ touched a w (some v) e area k = set area k (withBytes a w v e)
 -- W for a bit that is owed comes after every other check of the walk
 abbrev pub judgedWalk : Option (ℕ × ℕ) → Walked → Walked
 judgedWalk none x = x
-judgedWalk (some o) (walked.Arrived t y n) = walked.Faulted (HostReadOnly (o .1)) n
+judgedWalk (some o) (walked.Arrived y t n) = walked.Faulted (HostReadOnly (o .1)) n
 judgedWalk (some o) (walked.Faulted x n) = walked.Faulted x n
 judgedWalk (some o) walked.Damaged = walked.Damaged
 
@@ -98,7 +98,7 @@ pub record Faulted (r : Record) (m : List ℕ) (e : After Reply) (y : Fault) : T
 
 -- by what the plain walk came to
 abbrev pub AsWalked : Record → List ℕ → ℕ → ℕ → Option ℕ → After Reply → Walked → Type 0
-AsWalked r m a w v e (walked.Arrived t y n) = Granted r m a w v e (t .0)
+AsWalked r m a w v e (walked.Arrived y t n) = Granted r m a w v e (t .0)
 AsWalked r m a w v e (walked.Faulted y n) = Faulted r m e y
 AsWalked r m a w v e walked.Damaged = ⊥
 

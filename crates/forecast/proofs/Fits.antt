@@ -85,7 +85,7 @@ NextFits i (Go o) = OutlookFits i o
 NextFits i Damaged = Unit {0}
 
 pay-fits : (i : ℕ) (s : Sum) (p : Paths) (e : ℕ) (r : Walked) → SumFits i s → PathsFit (suc i) p → e ≤ 2 → ReadsMost 35 r → NextFits (suc i) (paidBy s p e r)
-pay-fits i s p e (walked.Arrived t w n) f q x l = ((omega (arith, f .0, l), omega (arith, f .1, x)), q)
+pay-fits i s p e (walked.Arrived w t n) f q x l = ((omega (arith, f .0, l), omega (arith, f .1, x)), q)
 pay-fits i s p e (walked.Faulted y n) f q x l = ((omega (arith, f .0, l), omega (arith, f .1, x)), q)
 pay-fits i s p e walked.Damaged f q x l = tt
 
@@ -125,7 +125,7 @@ module _ (c : Config) (ht : ℕ) (m : List ℕ) (h : Held) (root : ℕ) (five : 
           paid-fits i (o .sum) _ _ (fits .0) (held-fits b n a d) (served-exits c ht m five h false a d (t .0) w (one (not b)) (one-most (not b))) (served-most c ht m five h false a d (t .0) w (one (not b)) low)
 
       go : (r : Walked) → ReadsMost 35 r → NextFits (suc i) (missedBy c ht m h ks o b n a d r .result)
-      go (walked.Arrived t w k) l = arrived (isSpan c (t .0)) t w
+      go (walked.Arrived w t k) l = arrived (isSpan c (t .0)) t w
       go (walked.Faulted x k) l = ((omega (arith, fits .0 .0, l), omega (arith, fits .0 .1, one-most (not b))), more)
       go walked.Damaged l = tt
 

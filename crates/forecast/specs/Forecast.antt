@@ -67,7 +67,7 @@ added s n e t = record { references = s .references + n; exits = s .exits + e; t
 
 -- a load that came to a word or a fault is paid for; p: the paths held after it
 abbrev pub paidBy : Sum → Paths → ℕ → Walked → Next
-paidBy s p e (walked.Arrived t w n) = Go (record { sum = added s n e (p .used); paths = p })
+paidBy s p e (walked.Arrived w t n) = Go (record { sum = added s n e (p .used); paths = p })
 paidBy s p e (walked.Faulted x n) = Go (record { sum = added s n e (p .used); paths = p })
 paidBy s p e walked.Damaged = Damaged
 
@@ -81,7 +81,7 @@ heldAfter c ks p b n a d =
     (filledOf c ks p (tablesWith c (p .used) (newest ks (p .count)) n a d) (keyAt (c .levels) d a) (c .levels - d))
 
 abbrev pub missedBy : Config → ℕ → List ℕ → Held → List ℕ → Outlook → Bool → ℕ → ℕ → ℕ → Walked → After Next
-missedBy c ht m h ks o b n a d (walked.Arrived t w k) =
+missedBy c ht m h ks o b n a d (walked.Arrived w t k) =
     let f : After Paths = heldAfter c ks (o .paths) b n a d in
     cond (isSpan c (t .0)) (yields Damaged ks) (yields (paid (o .sum) (f .result) (servedOf c ht m h false a d (t .0) w (one (not b)))) (f .memory))
 missedBy c ht m h ks o b n a d (walked.Faulted x k) =

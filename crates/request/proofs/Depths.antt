@@ -87,7 +87,7 @@ module _ (c : Config) (ht : ℕ) (m : List ℕ) (h : Held) (root a d : ℕ) wher
       other k = false≢true (sym (ap not (eq-eqb (turnedDepth c ht m root a d) d k)) ∙ e)
 
       soon : (x : Walked) → turnedDepth c ht m root a d ≡ soonBy c d x → turnedDepth c ht m root a d ≡ 0
-      soon (walked.Arrived t w n) k = by (isSpan c (t .0)) k
+      soon (walked.Arrived w t n) k = by (isSpan c (t .0)) k
         where
           by : (b : Bool) → turnedDepth c ht m root a d ≡ cond b 0 d → turnedDepth c ht m root a d ≡ 0
           by true k = k

@@ -11,7 +11,7 @@ ghost use Rattle.layout.specs.Layout.{LayoutFits, config};
 ghost use Rattle.layout.specs.declared.HostWalk.the-variants as host;
 ghost use Rattle.shadow.specs.Watch.{watchedOf};
 ghost use Rattle.translate.specs.Translate.{HeldFits, translation, translateOf, turnedDepth, depthOf};
-ghost use Rattle.request.specs.Access.{Inside, ReachesFrame, setBy, bitsOf, settledOf, droppedOf, bytesIn, pathHeldOf, Unserved, loadBy, loadOf, finishBy, writtenBy, storeBy, storeFrom, storeOf, plainlyOf, deviceOf};
+ghost use Rattle.request.specs.Access.{Inside, ReachesFrame, setBy, bitsOf, settledOf, droppedOf, bytesIn, pathHeldOf, Unserved, loadBy, loadFrom, loadOf, finishBy, writtenBy, storeBy, storeFrom, storeOf, plainlyOf, deviceOf};
 use entry::GuestPhysical;
 use entry::GuestVirtual;
 use entry::HostPhysical;
@@ -240,6 +240,90 @@ fn path_held(
     }
 }
 
+// Does the walk of a request, whose marks give that depth, come into a large page above the marked levels?
+fn is_turned(
+    mem: &[u64],
+    space: Space,
+    root: GuestPhysical,
+    address: GuestVirtual,
+    depth: u64,
+) -> bool
+    requires { ⌜ LayoutFits (space .layout) ⌝ }
+    ensures { λ r. ⌜ r ≡ not (eqb (turnedDepth (config (space .layout)) (space .top) (now (mem .entry)) (root .0) (address .0) depth) depth) ⌝ }
+{
+    if translate::may_turn(depth) {
+        return translate::walked_depth(mem, space, root, address, depth) != depth;
+    }
+    false
+}
+
+// A load's or a store's translation at depth 0, of a large page that lies above the marked levels.
+fn reached_large(
+    mem: &mut [u64],
+    space: Space,
+    root: GuestPhysical,
+    held: Held,
+    store: bool,
+    address: GuestVirtual,
+) -> Translated
+    requires { ⌜ (LayoutFits (space .layout)) × (HeldFits (config (space .layout)) held) ⌝ }
+    ensures { λ r. ⌜ yields r (now (mem .exit)) ≡ translateOf (config (space .layout)) (space .top) (now (mem .entry)) held (root .0) store (address .0) 0 ⌝ }
+{
+    let request = Request {
+        store: store,
+        address: address,
+        depth: 0,
+    };
+    match path_held(mem, space.layout, held, store, address, 0) {
+        HostWalk::Found { page, writable } => translate::through(
+            mem,
+            space,
+            root,
+            held,
+            request,
+            page,
+            writable,
+        ),
+        HostWalk::Absent { reads } => translate::unserved(mem, space, root, held, request),
+        HostWalk::Damaged => translate::damaged(held),
+    }
+}
+
+// A load's or a store's translation, by the path held for it or without one; the request's depth is the one that its marks give.
+pub fn reached(
+    mem: &mut [u64],
+    space: Space,
+    root: GuestPhysical,
+    held: Held,
+    request: Request,
+) -> Translated
+    requires { ⌜ (LayoutFits (space .layout)) × (HeldFits (config (space .layout)) held) × (2 ≤ space .layout .levels) ⌝ }
+    ensures { λ r. ⌜ yields r (now (mem .exit)) ≡ translateOf (config (space .layout)) (space .top) (now (mem .entry)) held (root .0) (request .store) (request .address .0) (depthOf (config (space .layout)) (space .top) (now (mem .entry)) held (root .0) (request .address .0) (request .depth)) ⌝ }
+{
+    let store = request.store;
+    let address = request.address;
+    let depth = request.depth;
+    if depth <= space.layout.levels {
+        match path_held(mem, space.layout, held, store, address, depth) {
+            HostWalk::Found { page, writable } => {
+                return translate::through(mem, space, root, held, request, page, writable);
+            }
+            HostWalk::Absent { reads } => {
+                if is_turned(mem, space, root, address, depth) {
+                    return reached_large(mem, space, root, held, store, address);
+                }
+            }
+            HostWalk::Damaged => {
+                if translate::may_turn(depth) {
+                    return reached_large(mem, space, root, held, store, address);
+                }
+                return translate::damaged(held);
+            }
+        }
+    }
+    translate::unserved(mem, space, root, held, request)
+}
+
 // What a load says that came so far, its bits set; before: what was held when it came.
 fn loaded(
     mem: &[u64],
@@ -278,6 +362,25 @@ fn loaded(
     }
 }
 
+// The same of one that may have bits to set, by its translation.
+fn load_by(
+    mem: &mut [u64],
+    space: Space,
+    root: GuestPhysical,
+    before: Held,
+    t: Translated,
+    address: GuestVirtual,
+    width: u64,
+) -> Served
+    requires { ⌜ (LayoutFits (space .layout)) × (ReachesFrame (t .walked)) × (Inside (address .0) width) ⌝ }
+    ensures { λ r. ⌜ yields r (now (mem .exit)) ≡ loadFrom (config (space .layout)) (space .top) (root .0) before (address .0) width (yields t (now (mem .entry))) ⌝ }
+{
+    let walked = t.walked;
+    let held = t.held;
+    settle(mem, space, root, false, address, walked, t.sets);
+    loaded(mem, before, held, walked, t.exits, address.0, width)
+}
+
 // A load that no held path serves.
 fn load_unserved(
     mem: &mut [u64],
@@ -297,10 +400,7 @@ fn load_unserved(
         depth: depth,
     };
     let t = translate::unserved(mem, space, root, held, request);
-    let end = t.walked;
-    let after = t.held;
-    settle(mem, space, root, false, address, end, t.sets);
-    loaded(mem, held, after, end, t.exits, address.0, width)
+    load_by(mem, space, root, held, t, address, width)
 }
 
 // A load whose held path leads to a page, or to a guest table in that frame.
@@ -336,27 +436,7 @@ fn load_through(
         return loaded(mem, held, held, walked, exits, address.0, width);
     }
     let t = translate::judged(mem, space, root, held, request, walked);
-    let end = t.walked;
-    let after = t.held;
-    settle(mem, space, root, false, address, end, t.sets);
-    loaded(mem, held, after, end, t.exits, address.0, width)
-}
-
-// Does the walk of a request, whose marks give that depth, come into a large page above the marked levels?
-fn is_turned(
-    mem: &[u64],
-    space: Space,
-    root: GuestPhysical,
-    address: GuestVirtual,
-    depth: u64,
-) -> bool
-    requires { ⌜ LayoutFits (space .layout) ⌝ }
-    ensures { λ r. ⌜ r ≡ not (eqb (turnedDepth (config (space .layout)) (space .top) (now (mem .entry)) (root .0) (address .0) depth) depth) ⌝ }
-{
-    if translate::may_turn(depth) {
-        return translate::walked_depth(mem, space, root, address, depth) != depth;
-    }
-    false
+    load_by(mem, space, root, held, t, address, width)
 }
 
 // A load of depth 0 whose held path leads to that page.
@@ -383,32 +463,26 @@ fn load_page(
     }
 }
 
-// A load at depth 0 from a large page that lies above the marked levels: 11.
-fn load_large(
+// Any load, by its translation; the marks give the depth.
+fn load_translated(
     mem: &mut [u64],
     space: Space,
     root: GuestPhysical,
     held: Held,
     address: GuestVirtual,
     width: u64,
+    depth: u64,
 ) -> Served
-    requires { ⌜ (LayoutFits (space .layout)) × (HeldFits (config (space .layout)) held) × (Inside (address .0) width) ⌝ }
-    ensures { λ r. ⌜ yields r (now (mem .exit)) ≡ loadOf (config (space .layout)) (space .top) (now (mem .entry)) held (root .0) (address .0) width 0 ⌝ }
+    requires { ⌜ (LayoutFits (space .layout)) × (HeldFits (config (space .layout)) held) × (Inside (address .0) width) × (2 ≤ space .layout .levels) ⌝ }
+    ensures { λ r. ⌜ yields r (now (mem .exit)) ≡ loadOf (config (space .layout)) (space .top) (now (mem .entry)) held (root .0) (address .0) width (depthOf (config (space .layout)) (space .top) (now (mem .entry)) held (root .0) (address .0) depth) ⌝ }
 {
-    match path_held(mem, space.layout, held, false, address, 0) {
-        HostWalk::Found { page, writable } => load_page(
-            mem,
-            space,
-            root,
-            held,
-            address,
-            width,
-            page,
-            writable,
-        ),
-        HostWalk::Absent { reads } => load_unserved(mem, space, root, held, address, width, 0),
-        HostWalk::Damaged => refused(held, 11),
-    }
+    let request = Request {
+        store: false,
+        address: address,
+        depth: depth,
+    };
+    let t = reached(mem, space, root, held, request);
+    load_by(mem, space, root, held, t, address, width)
 }
 
 // A load whose marks give that depth: 11. Most are of depth 0 and held: they are told here, with nothing handed on. What is held at the
@@ -425,38 +499,34 @@ pub fn load(
     requires { ⌜ (LayoutFits (space .layout)) × (HeldFits (config (space .layout)) held) × (Inside (address .0) width) × (2 ≤ space .layout .levels) ⌝ }
     ensures { λ r. ⌜ yields r (now (mem .exit)) ≡ loadOf (config (space .layout)) (space .top) (now (mem .entry)) held (root .0) (address .0) width (depthOf (config (space .layout)) (space .top) (now (mem .entry)) held (root .0) (address .0) depth) ⌝ }
 {
-    if depth <= space.layout.levels {
-        match path_held(mem, space.layout, held, false, address, depth) {
-            HostWalk::Found { page, writable } => {
-                if depth == 0 {
-                    return load_page(mem, space, root, held, address, width, page, writable);
-                }
-                return load_through(
-                    mem,
-                    space,
-                    root,
-                    held,
-                    address,
-                    width,
-                    depth,
-                    page,
-                    writable,
-                );
+    if space.layout.levels < depth {
+        return load_unserved(mem, space, root, held, address, width, depth);
+    }
+    match path_held(mem, space.layout, held, false, address, depth) {
+        HostWalk::Found { page, writable } => {
+            if depth == 0 {
+                return load_page(mem, space, root, held, address, width, page, writable);
             }
-            HostWalk::Absent { reads } => {
-                if is_turned(mem, space, root, address, depth) {
-                    return load_large(mem, space, root, held, address, width);
-                }
-            }
-            HostWalk::Damaged => {
-                if translate::may_turn(depth) {
-                    return load_large(mem, space, root, held, address, width);
-                }
-                return refused(held, 11);
+            return load_through(
+                mem,
+                space,
+                root,
+                held,
+                address,
+                width,
+                depth,
+                page,
+                writable,
+            );
+        }
+        HostWalk::Absent { reads } => {
+            if !translate::may_turn(depth) {
+                return load_unserved(mem, space, root, held, address, width, depth);
             }
         }
+        HostWalk::Damaged => {}
     }
-    load_unserved(mem, space, root, held, address, width, depth)
+    load_translated(mem, space, root, held, address, width, depth)
 }
 
 // The bytes of a granted store are written, and what it says; put: what its drops left.
@@ -684,122 +754,6 @@ fn store_through(
     stored_by_bits(mem, space, root, held, t, address, width, value)
 }
 
-// A store that no held path serves.
-fn store_unserved(
-    mem: &mut [u64],
-    space: Space,
-    root: GuestPhysical,
-    held: Held,
-    address: GuestVirtual,
-    width: u64,
-    depth: u64,
-    value: u64,
-) -> Served
-    requires { ⌜ (LayoutFits (space .layout)) × (HeldFits (config (space .layout)) held) × (Inside (address .0) width) × (Unserved (config (space .layout)) (space .top) (now mem) held (root .0) true (address .0) depth) ⌝ }
-    ensures { λ r. ⌜ yields r (now (mem .exit)) ≡ storeOf (config (space .layout)) (space .top) (now (mem .entry)) held (root .0) (address .0) width depth value ⌝ }
-{
-    let request = Request {
-        store: true,
-        address: address,
-        depth: depth,
-    };
-    let t = translate::unserved(mem, space, root, held, request);
-    stored_by_bits(mem, space, root, held, t, address, width, value)
-}
-
-// A load's or a store's translation at depth 0, of a large page that lies above the marked levels.
-fn reached_large(
-    mem: &mut [u64],
-    space: Space,
-    root: GuestPhysical,
-    held: Held,
-    store: bool,
-    address: GuestVirtual,
-) -> Translated
-    requires { ⌜ (LayoutFits (space .layout)) × (HeldFits (config (space .layout)) held) ⌝ }
-    ensures { λ r. ⌜ yields r (now (mem .exit)) ≡ translateOf (config (space .layout)) (space .top) (now (mem .entry)) held (root .0) store (address .0) 0 ⌝ }
-{
-    let request = Request {
-        store: store,
-        address: address,
-        depth: 0,
-    };
-    match path_held(mem, space.layout, held, store, address, 0) {
-        HostWalk::Found { page, writable } => translate::through(
-            mem,
-            space,
-            root,
-            held,
-            request,
-            page,
-            writable,
-        ),
-        HostWalk::Absent { reads } => translate::unserved(mem, space, root, held, request),
-        HostWalk::Damaged => translate::damaged(held),
-    }
-}
-
-// A load's or a store's translation, by the path held for it or without one; the request's depth is the one that its marks give.
-pub fn reached(
-    mem: &mut [u64],
-    space: Space,
-    root: GuestPhysical,
-    held: Held,
-    request: Request,
-) -> Translated
-    requires { ⌜ (LayoutFits (space .layout)) × (HeldFits (config (space .layout)) held) × (2 ≤ space .layout .levels) ⌝ }
-    ensures { λ r. ⌜ yields r (now (mem .exit)) ≡ translateOf (config (space .layout)) (space .top) (now (mem .entry)) held (root .0) (request .store) (request .address .0) (depthOf (config (space .layout)) (space .top) (now (mem .entry)) held (root .0) (request .address .0) (request .depth)) ⌝ }
-{
-    let store = request.store;
-    let address = request.address;
-    let depth = request.depth;
-    if depth <= space.layout.levels {
-        match path_held(mem, space.layout, held, store, address, depth) {
-            HostWalk::Found { page, writable } => {
-                return translate::through(mem, space, root, held, request, page, writable);
-            }
-            HostWalk::Absent { reads } => {
-                if is_turned(mem, space, root, address, depth) {
-                    return reached_large(mem, space, root, held, store, address);
-                }
-            }
-            HostWalk::Damaged => {
-                if translate::may_turn(depth) {
-                    return reached_large(mem, space, root, held, store, address);
-                }
-                return translate::damaged(held);
-            }
-        }
-    }
-    translate::unserved(mem, space, root, held, request)
-}
-
-// A store at depth 0 into a large page that lies above the marked levels: 11.
-fn store_large(
-    mem: &mut [u64],
-    space: Space,
-    root: GuestPhysical,
-    held: Held,
-    address: GuestVirtual,
-    width: u64,
-    value: u64,
-) -> Served
-    requires { ⌜ (LayoutFits (space .layout)) × (HeldFits (config (space .layout)) held) × (Inside (address .0) width) ⌝ }
-    ensures { λ r. ⌜ yields r (now (mem .exit)) ≡ storeOf (config (space .layout)) (space .top) (now (mem .entry)) held (root .0) (address .0) width 0 value ⌝ }
-{
-    if store_plainly(mem, space.layout, held, address, width, 0, value) {
-        return Served {
-            held: held,
-            answer: Answer::Done {
-                references: space.layout.levels,
-                exits: 0,
-            },
-        };
-    }
-    let t = reached_large(mem, space, root, held, true, address);
-    stored_by_bits(mem, space, root, held, t, address, width, value)
-}
-
 // Any store, by its translation; the paths whose shadow part read the word around its bytes are dropped: 11.
 fn store_translated(
     mem: &mut [u64],
@@ -830,20 +784,17 @@ fn store_translated(
                     writable,
                 );
             }
-            HostWalk::Absent { reads } => {
-                if is_turned(mem, space, root, address, depth) {
-                    return store_large(mem, space, root, held, address, width, value);
-                }
-            }
-            HostWalk::Damaged => {
-                if translate::may_turn(depth) {
-                    return store_large(mem, space, root, held, address, width, value);
-                }
-                return refused(held, 11);
-            }
+            HostWalk::Absent { reads } => {}
+            HostWalk::Damaged => {}
         }
     }
-    store_unserved(mem, space, root, held, address, width, depth, value)
+    let request = Request {
+        store: true,
+        address: address,
+        depth: depth,
+    };
+    let t = reached(mem, space, root, held, request);
+    stored_by_bits(mem, space, root, held, t, address, width, value)
 }
 
 // A store whose marks give that depth, the common case first: 11.

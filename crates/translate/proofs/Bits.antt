@@ -47,7 +47,7 @@ module _ (c : Config) (ht : ℕ) (m : List ℕ) where
 
   -- ---- the whole walk
   module _ (root : ℕ) (st : Bool) (a : ℕ) (t : ℕ) (v : Bool) (n : ℕ) (deep : c .levels ≤ 8)
-      (arrived : walkedOf c ht m 0 (whole c st root a) ≡ walked.Arrived (page t) v n) where
+      (arrived : walkedOf c ht m 0 (whole c st root a) ≡ walked.Arrived v (page t) n) where
     abbrev r : Trace Fault Place
     r = trace w (whole c st root a)
 
@@ -70,18 +70,18 @@ module _ (c : Config) (ht : ℕ) (m : List ℕ) where
         ∙ by (lacks w st (r .reads)) refl
         ∙ sym (ap (checkedBy d (lacks w st (r .reads)) (owed w st (c .levels) (r .reads) (r .uses))) arrived)
       where
-        owing : (o : Option (ℕ × ℕ)) → debtBy d (owedBy o) ≡ checkedBy d true o (walked.Arrived (page t) v n)
+        owing : (o : Option (ℕ × ℕ)) → debtBy d (owedBy o) ≡ checkedBy d true o (walked.Arrived v (page t) n)
         owing none = refl
         owing (some o) = refl
 
         by : (b : Bool) → lacks w st (r .reads) ≡ b
-            → cond b (debtBy d (owedBy (owed w st (c .levels) (r .reads) (r .uses)))) (checked.Clear false) ≡ checkedBy d b (owed w st (c .levels) (r .reads) (r .uses)) (walked.Arrived (page t) v n)
+            → cond b (debtBy d (owedBy (owed w st (c .levels) (r .reads) (r .uses)))) (checked.Clear false) ≡ checkedBy d b (owed w st (c .levels) (r .reads) (r .uses)) (walked.Arrived v (page t) n)
         by true e = owing (owed w st (c .levels) (r .reads) (r .uses))
-        by false e = ap (λ o. checkedBy d false o (walked.Arrived (page t) v n)) (sym (lacks-owed w st (c .levels) (r .reads) (r .uses) e))
+        by false e = ap (λ o. checkedBy d false o (walked.Arrived v (page t) n)) (sym (lacks-owed w st (c .levels) (r .reads) (r .uses) e))
 
   -- ---- the direct part
   module _ (st : Bool) (a d t : ℕ) (v : Bool) (u : ℕ) (x : Bool) (n : ℕ) (deep : d ≤ 8)
-      (arrived : directOf c ht m st a d t v ≡ walked.Arrived (page u) x n) where
+      (arrived : directOf c ht m st a d t v ≡ walked.Arrived x (page u) n) where
     direct-grant : (trace w (direct c st a d t v)) .result ≡ granted (u, x)
     unfolding directOf
     direct-grant = arrived-granted c ht m (c .levels - d) (direct c st a d t v) u x n arrived
@@ -107,14 +107,14 @@ checked-once c ht m root st a d =
     owing l (some o) = one-most (leb (o .0) d)
 
     go : (l : Bool) (o : Option (ℕ × ℕ)) (r : Walked) → ExitsOnce (checkedBy d l o r)
-    go l o (walked.Arrived p v n) = owing l o
+    go l o (walked.Arrived v p n) = owing l o
     go l o (walked.Faulted x n) = exit-small (walked.Faulted x n)
     go l o walked.Damaged = tt
 
 -- ---- by the choice
 
 pub lacking-none : (r : Walked) → lackingBy false r ≡ false
-lacking-none (walked.Arrived p w n) = refl
+lacking-none (walked.Arrived w p n) = refl
 lacking-none (walked.Faulted x n) = refl
 lacking-none walked.Damaged = refl
 
@@ -146,17 +146,17 @@ module _ (c : Config) (ht : ℕ) (m : List ℕ) (st : Bool) (a d t : ℕ) (v : B
     trail-lacking deep = go (x .walked) (sym trail-came) ∙ ap (lackingBy (c .bits && lack)) trail-came
       where
         go : (r : Walked) → directOf c ht m st a d t v ≡ r → lackingBy (c .bits && lackIn (x .tables)) r ≡ lackingBy (c .bits && lack) r
-        go (walked.Arrived p y n) e =
+        go (walked.Arrived y p n) e =
             ap (λ l. c .bits && l) (ap (λ (z : Trail). lackIn (z .tables)) is ∙ direct-lacks c ht m st a d t v (p .0) y n deep e)
         go (walked.Faulted y n) e = refl
         go walked.Damaged e = refl
 
   -- at depth 0 there is no table to read, and the page is what the path leads to
-  pub direct-page : d ≡ 0 → directOf c ht m st a d t v ≡ walked.Arrived (page t) v (c .levels)
+  pub direct-page : d ≡ 0 → directOf c ht m st a d t v ≡ walked.Arrived v (page t) (c .levels)
   unfolding directOf
   direct-page e =
       let all : c .levels - d ≡ c .levels = omega (arith, e) in
-      loop-end c ht m (c .levels - d) st 0 d t (pageOf a) v e ∙ ap (walked.Arrived (page t) v) all
+      loop-end c ht m (c .levels - d) st 0 d t (pageOf a) v e ∙ ap (walked.Arrived v (page t)) all
 
   -- where no bit is to be looked at, none lacks
   pub bitless-none : bitlessOf c d ≡ true → lackingOf c ht m st a d t v ≡ false
@@ -220,11 +220,11 @@ module _ (c : Config) (ht : ℕ) (m : List ℕ) (h : Held) (root : ℕ) (st : Bo
       where
         by : (b l : Bool) (r : Walked) → cond b (judgedBy h l (checkedOf c ht m root st a d) r) (translation h (0 + exitBy r) r false)
             ≡ cond (lackingBy (b && l) r) (judgedBy h true (checkedOf c ht m root st a d) r) (translation h (0 + exitBy r) r false)
-        by false l (walked.Arrived p x n) = refl
+        by false l (walked.Arrived x p n) = refl
         by false l (walked.Faulted x n) = refl
         by false l walked.Damaged = refl
-        by true true (walked.Arrived p x n) = refl
-        by true false (walked.Arrived p x n) = refl
+        by true true (walked.Arrived x p n) = refl
+        by true false (walked.Arrived x p n) = refl
         by true l (walked.Faulted x n) = ap (λ e. translation h e (walked.Faulted x n) false) (sym (zero-add (exitBy (walked.Faulted x n))))
         by true l walked.Damaged = refl
 

@@ -39,7 +39,7 @@ use Rattle.spec_laws.proofs.Asks.{asks-trace, AnswerIn, Guest, placed-page, pla
 use Rattle.accessed.proofs.Walks.{answers-in}
 
 pub exit-small : (r : Walked) → exitBy r ≤ 1
-exit-small (walked.Arrived t w n) = omega arith
+exit-small (walked.Arrived w t n) = omega arith
 exit-small (walked.Faulted (fault.Absent l) n) = omega arith
 exit-small (walked.Faulted (fault.Malformed l) n) = omega arith
 exit-small (walked.Faulted (fault.Protected l) n) = omega arith
@@ -53,7 +53,7 @@ exit-few r = let k = exit-small r in omega arith
 
 -- ---- walks
 abbrev pub ArrivedIn : Config → Walked → Type 0
-ArrivedIn c (walked.Arrived p w n) = InGuestArea c (p .0)
+ArrivedIn c (walked.Arrived w p n) = InGuestArea c (p .0)
 ArrivedIn c (walked.Faulted x n) = Unit {0}
 ArrivedIn c walked.Damaged = Unit {0}
 
@@ -91,7 +91,7 @@ module _ (c : Config) (ht : ℕ) (m : List ℕ) where
         (go (walkedOf c ht m n (next false false root true)) (table-fits c ht m n false root true))
       where
         go : (r : Walked) → TurnFits c n r → ArrivedIn c (thenWalked r (λ u v k. walkedOf c ht m k (levels c st (c .levels) u true (indexes (c .levels) number))))
-        go (walked.Arrived p w k) f = levels-in k (c .levels) number (p .0) true (omega arith) (f .0)
+        go (walked.Arrived w p k) f = levels-in k (c .levels) number (p .0) true (omega arith) (f .0)
         go (walked.Faulted x k) f = tt
         go walked.Damaged f = tt
 
@@ -104,7 +104,7 @@ module _ (c : Config) (ht : ℕ) (m : List ℕ) where
 -- where a walk to a table ends in no span, it ends in a frame there
 module _ (c : Config) (ht : ℕ) (m : List ℕ) (st : Bool) where
   abbrev pub ArrivedNear : Walked → Type 0
-  ArrivedNear (walked.Arrived p w n) = isSpan c (p .0) ≡ false → InGuestArea c (p .0)
+  ArrivedNear (walked.Arrived w p n) = isSpan c (p .0) ≡ false → InGuestArea c (p .0)
   ArrivedNear (walked.Faulted x n) = Unit {0}
   ArrivedNear walked.Damaged = Unit {0}
 
@@ -121,7 +121,7 @@ module _ (c : Config) (ht : ℕ) (m : List ℕ) (st : Bool) where
       go : (r : Walked) → StepFits c (Few level i) n t r
           → ((k u : ℕ) (v : Bool) → (isSpan c u ≡ false → InGuestArea c u) → ArrivedNear (walkedOf c ht m k (levels c st (pred level) u v is)))
           → ArrivedNear (thenWalked r (λ u v k. walkedOf c ht m k (levels c st (pred level) u v is)))
-      go (walked.Arrived p w k) f on = on k (p .0) w (near (p .0) (f .0 (l, s .0)))
+      go (walked.Arrived w p k) f on = on k (p .0) w (near (p .0) (f .0 (l, s .0)))
       go (walked.Faulted x k) f on = tt
       go walked.Damaged f on = tt
 
@@ -131,7 +131,7 @@ module _ (c : Config) (ht : ℕ) (m : List ℕ) (st : Bool) where
       (go (walkedOf c ht m n (next false false root true)) (table-fits c ht m n false root true))
     where
       go : (r : Walked) → TurnFits c n r → ArrivedNear (thenWalked r (λ u v k. walkedOf c ht m k (levels c st (c .levels) u true is)))
-      go (walked.Arrived p w k) f = levels-near is k (c .levels) (p .0) true s l (λ _. f .0)
+      go (walked.Arrived w p k) f = levels-near is k (c .levels) (p .0) true s l (λ _. f .0)
       go (walked.Faulted x k) f = tt
       go walked.Damaged f = tt
 
@@ -144,7 +144,7 @@ walked-above c ht m root a d l =
     (go (walkedOf c ht m 0 (next false false root true)) (table-fits c ht m 0 false root true))
   where
     go : (r : Walked) → TurnFits c 0 r → soonBy c d (thenWalked r (λ u v k. walkedOf c ht m k (levels c false (c .levels) u true []))) ≡ d
-    go (walked.Arrived p w k) f = rw (levels-end c ht m k false (c .levels) (p .0) true, area-real c (p .0) (f .0))
+    go (walked.Arrived w p k) f = rw (levels-end c ht m k false (c .levels) (p .0) true, area-real c (p .0) (f .0))
     go (walked.Faulted x k) f = refl
     go walked.Damaged f = refl
 
@@ -164,7 +164,7 @@ module _ (c : Config) (ht : ℕ) (m : List ℕ) (st : Bool) where
       go : (r : Walked) → StepFits c (Few level i) n t r
           → ((j u : ℕ) (v : Bool) → j + (1 + c .levels) * length is ≤ k → ReadsMost k (walkedOf c ht m j (levels c st (pred level) u v is)))
           → ReadsMost k (thenWalked r (λ u v j. walkedOf c ht m j (levels c st (pred level) u v is)))
-      go (walked.Arrived p w j) f on = on j (p .0) w (omega (arith, f .2, one, l))
+      go (walked.Arrived w p j) f on = on j (p .0) w (omega (arith, f .2, one, l))
       go (walked.Faulted x j) f on = omega (arith, f, one, l)
       go walked.Damaged f on = tt
 
@@ -174,7 +174,7 @@ module _ (c : Config) (ht : ℕ) (m : List ℕ) (st : Bool) where
       (go (walkedOf c ht m n (next false false root true)) (table-fits c ht m n false root true))
     where
       go : (r : Walked) → TurnFits c n r → ReadsMost k (thenWalked r (λ u v j. walkedOf c ht m j (levels c st (c .levels) u true is)))
-      go (walked.Arrived p w j) f = levels-most is j (c .levels) (p .0) true k (omega (arith, f .1, l))
+      go (walked.Arrived w p j) f = levels-most is j (c .levels) (p .0) true k (omega (arith, f .1, l))
       go (walked.Faulted x j) f = omega (arith, f, l)
       go walked.Damaged f = tt
 

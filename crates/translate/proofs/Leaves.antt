@@ -67,8 +67,8 @@ module _ (c : Config) (ht : ℕ) (m : List ℕ) (st : Bool) (h : Held) (f : Held
   settled-leaves on n r checked.Damaged g o = ended m 0 walked.Damaged none (omega arith) tt
 
   judged-leaves : c .bits ≡ true → (b : Bool) (r : Walked) → ArrivedIn c r → Leaves c m (yields (judgedBy h b (checkedOf c ht m root st a d) r) m)
-  judged-leaves on true (walked.Arrived t w n) g = settled-leaves on n (walked.Arrived t w n) (checkedOf c ht m root st a d) g (checked-once c ht m root st a d)
-  judged-leaves on false (walked.Arrived t w n) g = ended m 0 (walked.Arrived t w n) none (omega arith) g
+  judged-leaves on true (walked.Arrived w t n) g = settled-leaves on n (walked.Arrived w t n) (checkedOf c ht m root st a d) g (checked-once c ht m root st a d)
+  judged-leaves on false (walked.Arrived w t n) g = ended m 0 (walked.Arrived w t n) none (omega arith) g
   judged-leaves on b (walked.Faulted x n) g = ended m _ (walked.Faulted x n) none (let k = exit-small (walked.Faulted x n) in omega arith) tt
   judged-leaves on b walked.Damaged g = ended m 0 walked.Damaged none (omega arith) tt
 
@@ -143,12 +143,12 @@ module _ (c : Config) (ht : ℕ) (m : List ℕ) (st : Bool) (h : Held) (f : Held
       grant on x j checked.Damaged i o = ended m 0 walked.Damaged none (omega arith) tt
 
       strict : c .bits ≡ true → (x : Walked) → ArrivedIn c x → Leaves c m (ruledBy c m h gs a d t x (strictBy c m gs st a d n w (checkedOf c ht m root st a d) x))
-      strict on (walked.Arrived p v j) i = grant on (walked.Arrived p v j) j (checkedOf c ht m root st a d) i (checked-once c ht m root st a d)
+      strict on (walked.Arrived v p j) i = grant on (walked.Arrived v p j) j (checkedOf c ht m root st a d) i (checked-once c ht m root st a d)
       strict on (walked.Faulted x j) i = ended m _ _ none (let k = exit-small (walked.Faulted x j) in omega arith) tt
       strict on walked.Damaged i = ended m 0 walked.Damaged none (omega arith) tt
 
       lax : (x : Walked) → ArrivedIn c x → Leaves c m (ruledBy c m h gs a d t x (laxBy w x))
-      lax (walked.Arrived p v j) i = fills w (walked.Arrived p v j) false i (λ z. absurd (false≢true z))
+      lax (walked.Arrived v p j) i = fills w (walked.Arrived v p j) false i (λ z. absurd (false≢true z))
       lax (walked.Faulted x j) i = fills w (walked.Faulted x j) false i (λ z. absurd (false≢true z))
       lax walked.Damaged i = ended m 0 walked.Damaged none (omega arith) tt
 
@@ -164,7 +164,7 @@ module _ (c : Config) (ht : ℕ) (m : List ℕ) (st : Bool) (h : Held) (f : Held
       gs = rootTrail c ht m st root (pathIndexes c d a) .tables
 
       go : (r : Walked) → ArrivedNear c ht m st r → Leaves c m (missedBy c ht m h root st a d gs r)
-      go (walked.Arrived t w n) g = by (isSpan c (t .0)) refl
+      go (walked.Arrived w t n) g = by (isSpan c (t .0)) refl
         where
           by : (b : Bool) → isSpan c (t .0) ≡ b → Leaves c m (cond b (yields (translation h 0 walked.Damaged false) m) (arrivedOf c ht m h root gs st a d n (t .0) w))
           by true e = ended m 0 walked.Damaged none (omega arith) tt

@@ -41,7 +41,7 @@ use Rattle.translate.specs.declared.Verdict.the-variants as verdict
 
 -- H and W cost an exit, the other faults none
 abbrev pub exitBy : Walked → ℕ
-exitBy (walked.Arrived t w n) = 0
+exitBy (walked.Arrived w t n) = 0
 exitBy (walked.Faulted (fault.Absent l) n) = 0
 exitBy (walked.Faulted (fault.Malformed l) n) = 0
 exitBy (walked.Faulted (fault.Protected l) n) = 0
@@ -66,13 +66,13 @@ HeldFits c h = (h .pool .fresh ≤ c .shadows) × ((h .frame .0 ≡ 0) ⊎ ((gue
 
 -- a walk that ended after at most k words
 abbrev pub ReadsMost : ℕ → Walked → Type 0
-ReadsMost k (walked.Arrived p w n) = n ≤ k
+ReadsMost k (walked.Arrived w p n) = n ≤ k
 ReadsMost k (walked.Faulted x n) = n ≤ k
 ReadsMost k walked.Damaged = Unit {0}
 
 -- one that says at least j words, and not too many to be added to
 abbrev pub ReadsFrom : ℕ → Walked → Type 0
-ReadsFrom j (walked.Arrived p w n) = (j ≤ n) × (n ≤ 65536)
+ReadsFrom j (walked.Arrived w p n) = (j ≤ n) × (n ≤ 65536)
 ReadsFrom j (walked.Faulted x n) = (j ≤ n) × (n ≤ 65536)
 ReadsFrom j walked.Damaged = Unit {0}
 
@@ -122,7 +122,7 @@ owingBy d lack none = checked.Clear lack
 owingBy d lack (some o) = checked.Stopped (fault.HostReadOnly (o .1)) (one (leb (o .0) d))
 
 abbrev pub checkedBy : ℕ → Bool → Option (ℕ × ℕ) → Walked → Checked
-checkedBy d lack o (walked.Arrived t w n) = owingBy d lack o
+checkedBy d lack o (walked.Arrived w t n) = owingBy d lack o
 checkedBy d lack o (walked.Faulted x n) = checked.Stopped x (exitBy (walked.Faulted x n))
 checkedBy d lack o walked.Damaged = checked.Damaged
 
@@ -150,7 +150,7 @@ settledBy h n r checked.Damaged = translation h 0 walked.Damaged false
 
 -- a walk's end r, with bits on: judged by them if it arrived (judge) and otherwise as it is
 abbrev pub judgedBy : Held → Bool → Checked → Walked → Translated
-judgedBy h judge k (walked.Arrived t w n) = cond judge (settledBy h n (walked.Arrived t w n) k) (translation h 0 (walked.Arrived t w n) false)
+judgedBy h judge k (walked.Arrived w t n) = cond judge (settledBy h n (walked.Arrived w t n) k) (translation h 0 (walked.Arrived w t n) false)
 judgedBy h judge k (walked.Faulted x n) = translation h (exitBy (walked.Faulted x n)) (walked.Faulted x n) false
 judgedBy h judge k walked.Damaged = translation h 0 walked.Damaged false
 
@@ -165,7 +165,7 @@ throughOf c ht m h root st a d t w =
 
 -- whether an entry of the direct part lacks a bit: with bits on, where it arrived
 abbrev pub lackingBy : Bool → Walked → Bool
-lackingBy lack (walked.Arrived t w n) = lack
+lackingBy lack (walked.Arrived w t n) = lack
 lackingBy lack (walked.Faulted x n) = false
 lackingBy lack walked.Damaged = false
 
@@ -224,13 +224,13 @@ clearedBy c m gs st a d n w k checked.Damaged = verdict.Damaged
 
 -- with bits on only a granted request fills, and a fault counts as the plain walk does. b: what its bits say
 abbrev pub strictBy : Config → List ℕ → List ℕ → Bool → ℕ → ℕ → ℕ → Bool → Checked → Walked → Verdict
-strictBy c m gs st a d n w b (walked.Arrived p v k) = clearedBy c m gs st a d n w k b
+strictBy c m gs st a d n w b (walked.Arrived v p k) = clearedBy c m gs st a d n w k b
 strictBy c m gs st a d n w b (walked.Faulted x k) = verdict.End x (plainly c d n k) (1 + exitBy (walked.Faulted x k))
 strictBy c m gs st a d n w b walked.Damaged = verdict.Damaged
 
 -- with bits off a fault of the direct part fills too
 abbrev pub laxBy : Bool → Walked → Verdict
-laxBy w (walked.Arrived p v n) = verdict.Fill w false
+laxBy w (walked.Arrived v p n) = verdict.Fill w false
 laxBy w (walked.Faulted x n) = verdict.Fill w false
 laxBy w walked.Damaged = verdict.Damaged
 
@@ -251,7 +251,7 @@ arrivedOf c ht m h root gs st a d n t w =
     ruledBy c m h gs a d t r (verdictOf c ht m root gs st a d n w r)
 
 abbrev pub missedBy : Config → ℕ → List ℕ → Held → ℕ → Bool → ℕ → ℕ → List ℕ → Walked → After Translated
-missedBy c ht m h root st a d gs (walked.Arrived t w n) = cond (isSpan c (t .0)) (damaged h m) (arrivedOf c ht m h root gs st a d n (t .0) w)
+missedBy c ht m h root st a d gs (walked.Arrived w t n) = cond (isSpan c (t .0)) (damaged h m) (arrivedOf c ht m h root gs st a d n (t .0) w)
 missedBy c ht m h root st a d gs (walked.Faulted x n) = yields (translation h 1 (walked.Faulted x n) false) m
 missedBy c ht m h root st a d gs walked.Damaged = damaged h m
 
@@ -283,7 +283,7 @@ unservedOf c ht m h root st a d = cond (ltb (c .levels) d) (yields (unshadowedOf
 
 -- the walk down to level d came to this: within a large page the depth is 0
 abbrev pub soonBy : Config → ℕ → Walked → ℕ
-soonBy c d (walked.Arrived t w n) = cond (isSpan c (t .0)) 0 d
+soonBy c d (walked.Arrived w t n) = cond (isSpan c (t .0)) 0 d
 soonBy c d (walked.Faulted x n) = d
 soonBy c d walked.Damaged = d
 

@@ -36,7 +36,7 @@ use Rattle.spec_laws.proofs.Keeps.{InGuestArea}
 -- ---- one walk after another
 
 abbrev pub thenWalked : Walked → (ℕ → Bool → ℕ → Walked) → Walked
-thenWalked (walked.Arrived p w n) f = f (p .0) w n
+thenWalked (walked.Arrived w p n) f = f (p .0) w n
 thenWalked (walked.Faulted x n) f = walked.Faulted x n
 thenWalked walked.Damaged f = walked.Damaged
 
@@ -72,13 +72,13 @@ walked-then c ht m n p f =
 
 -- ---- the steps
 
-pub walked-done : (c : Config) (ht : ℕ) (m : List ℕ) (n t : ℕ) (w : Bool) → walkedOf c ht m n (done (t, w)) ≡ walked.Arrived (page t) w n
+pub walked-done : (c : Config) (ht : ℕ) (m : List ℕ) (n t : ℕ) (w : Bool) → walkedOf c ht m n (done (t, w)) ≡ walked.Arrived w (page t) n
 unfolding walkedOf trace
 walked-done c ht m n t w = let z : n + 0 ≡ n = omega arith in rw z
 
 -- on from the host walk h of guest frame g, of levels k: to a table
 abbrev pub tableBy : ℕ → ℕ → Bool → ℕ → HostWalk → Walked
-tableBy k g right n (host.Found p w) = walked.Arrived p right (n + k)
+tableBy k g right n (host.Found p w) = walked.Arrived right p (n + k)
 tableBy k g right n (host.Absent r) = walked.Faulted (HostAbsent g) (n + r)
 tableBy k g right n host.Damaged = walked.Damaged
 
@@ -99,7 +99,7 @@ table-step c ht m n st g right = go (hostWalkOf c ht m g) refl
     on h = trace w (mapped g (placeOf h) >>= λ r. done (r .0, right))
 
     go : (h : HostWalk) → hostWalkOf c ht m g ≡ h → walkedBy c ht m ((on h) .result) (n + (readsOf c h + (on h) .count)) ≡ tableBy (c .levels) g right n h
-    go (host.Found p v) e = let z : n + (c .levels + 0) ≡ n + c .levels = omega arith in ap (walked.Arrived p right) z
+    go (host.Found p v) e = let z : n + (c .levels + 0) ≡ n + c .levels = omega arith in ap (walked.Arrived right p) z
     go (host.Absent k) e = let z : n + (k + 0) ≡ n + k = omega arith in rw (e, z)
     go host.Damaged e = rw e
 
@@ -122,8 +122,8 @@ page-step c ht m n st g right = first (not st || right)
 
     found : (b : Bool) (p : HostPhysical) (v : Bool) (k : ℕ)
         → walkedBy c ht m ((trace w (must b (HostReadOnly g) >> at p v)) .result) (n + (k + (trace w (must b (HostReadOnly g) >> at p v)) .count))
-        ≡ cond b (walked.Arrived p (right && v) (n + k)) (walked.Faulted (HostReadOnly g) (n + k))
-    found true p v k = let z : n + (k + 0) ≡ n + k = omega arith in ap (walked.Arrived p (right && v)) z
+        ≡ cond b (walked.Arrived (right && v) p (n + k)) (walked.Faulted (HostReadOnly g) (n + k))
+    found true p v k = let z : n + (k + 0) ≡ n + k = omega arith in ap (walked.Arrived (right && v) p) z
     found false p v k = let z : n + (k + 0) ≡ n + k = omega arith in ap (walked.Faulted (HostReadOnly g)) z
 
     go : (h : HostWalk) → hostWalkOf c ht m g ≡ h → walkedBy c ht m ((on h) .result) (n + (readsOf c h + (on h) .count)) ≡ pageBy (c .levels) st g right n h
@@ -162,8 +162,8 @@ on-step c ht m n st level (into g) right = go (not st || right)
 
     go : (b : Bool)
         → walkedBy c ht m ((trace w (must b (Protected level) >> end)) .result) (n + (trace w (must b (Protected level) >> end)) .count)
-        ≡ cond b (walked.Arrived (page (span c g)) right n) (walked.Faulted (Protected level) n)
-    go true = ap (walked.Arrived (page (span c g)) right) z
+        ≡ cond b (walked.Arrived right (page (span c g)) n) (walked.Faulted (Protected level) n)
+    go true = ap (walked.Arrived right (page (span c g))) z
     go false = ap (walked.Faulted (Protected level)) z
 
 -- one level, by the entry e that it reads
@@ -238,8 +238,8 @@ large-well c level e well = ap (λ y. ltb 1 level && y) (go (ltb 3 level) refl w
 
 -- on from where the level led
 abbrev pub followed : Config → ℕ → List ℕ → Bool → ℕ → Led → Walked
-followed c ht m st level (led.To g right n) = walkedOf c ht m n (next st (eqb level 1) (g .0) right)
-followed c ht m st level (led.Into g right n) = intoOf c st level (g .0) right n
+followed c ht m st level (led.To right g n) = walkedOf c ht m n (next st (eqb level 1) (g .0) right)
+followed c ht m st level (led.Into right g n) = intoOf c st level (g .0) right n
 followed c ht m st level (led.Stopped x n) = walked.Faulted x n
 
 pub turn-led : (c : Config) (ht : ℕ) (m : List ℕ) (n : ℕ) (st : Bool) (level t i : ℕ) (right : Bool)
@@ -276,7 +276,7 @@ unfolding levels
 levels-step c ht m n st level t i is right = walked-then c ht m n (turn c st level t i right) (λ r. levels c st (pred level) (r .0) (r .1) is)
 
 pub levels-end : (c : Config) (ht : ℕ) (m : List ℕ) (n : ℕ) (st : Bool) (level t : ℕ) (right : Bool)
-    → walkedOf c ht m n (levels c st level t right []) ≡ walked.Arrived (page t) right n
+    → walkedOf c ht m n (levels c st level t right []) ≡ walked.Arrived right (page t) n
 unfolding levels
 levels-end c ht m n st level t right = walked-done c ht m n t right
 
@@ -290,7 +290,7 @@ walk-step c ht m n st root is =
 -- ---- where a turn comes to: a frame of the guest area, after one guest word and a host walk; a fault comes no later
 
 abbrev pub TurnFits : Config → ℕ → Walked → Type 0
-TurnFits c n (walked.Arrived p w k) = InGuestArea c (p .0) × (k ≡ n + c .levels)
+TurnFits c n (walked.Arrived w p k) = InGuestArea c (p .0) × (k ≡ n + c .levels)
 TurnFits c n (walked.Faulted x k) = k ≤ n + c .levels
 TurnFits c n walked.Damaged = Unit {0}
 
@@ -307,7 +307,7 @@ unfolding foundOf
 page-fits c ht m n st g right = rw (page-step c ht m n st g right) (first (not st || right))
   where
     found : (b : Bool) (p : HostPhysical) (w : Bool) → InGuestArea c (p .0)
-        → TurnFits c n (cond b (walked.Arrived p (right && w) (n + c .levels)) (walked.Faulted (HostReadOnly g) (n + c .levels)))
+        → TurnFits c n (cond b (walked.Arrived (right && w) p (n + c .levels)) (walked.Faulted (HostReadOnly g) (n + c .levels)))
     found true p w f = (f, refl)
     found false p w f = omega arith
 
@@ -329,13 +329,13 @@ unfolding isSpan
 span-from c u l = le-leb (c .frames) u l
 
 abbrev pub StepFits : Config → Type 0 → ℕ → ℕ → Walked → Type 0
-StepFits c P n t (walked.Arrived p w k) = (P → NearBy c t (p .0)) × (n ≤ k) × (k ≤ n + 1 + c .levels)
+StepFits c P n t (walked.Arrived w p k) = (P → NearBy c t (p .0)) × (n ≤ k) × (k ≤ n + 1 + c .levels)
 StepFits c P n t (walked.Faulted x k) = k ≤ n + 1 + c .levels
 StepFits c P n t walked.Damaged = Unit {0}
 
 -- a frame, in any case
 framed : (c : Config) (P : Type 0) (n k t : ℕ) (x : Walked) → n ≤ k → k ≤ n + 1 → TurnFits c k x → StepFits c P n t x
-framed c P n k t (walked.Arrived p w j) a b f = (λ _. inl (f .0), omega (arith, a, f .1), omega (arith, b, f .1))
+framed c P n k t (walked.Arrived w p j) a b f = (λ _. inl (f .0), omega (arith, a, f .1), omega (arith, b, f .1))
 framed c P n k t (walked.Faulted x j) a b f = omega (arith, b, f)
 framed c P n k t walked.Damaged a b f = tt
 
@@ -390,7 +390,7 @@ on-fits c P ht m n k st level t (into g) right a b l = rw (on-step c ht m k st l
     near (inl h) = inr (omega arith, inl (omega (arith, h)))
     near (inr h) = inr (omega arith, inr h)
 
-    into-fits : (x : Bool) → StepFits c P n t (cond x (walked.Arrived (page (c .frames + g)) right k) (walked.Faulted (Protected level) k))
+    into-fits : (x : Bool) → StepFits c P n t (cond x (walked.Arrived right (page (c .frames + g)) k) (walked.Faulted (Protected level) k))
     into-fits true = (λ p. near (l p), a, omega (arith, b))
     into-fits false = omega (arith, b)
 
@@ -417,8 +417,8 @@ turn-fits c ht m n st level t i right = rw (turn-step c ht m n st level t i righ
 
 -- where a level led: after at most one word, and to no part of a large page that begins beyond `spanRoom`
 abbrev pub LedFits : ℕ → Led → Type 0
-LedFits n (led.To g right k) = k ≤ n + 1
-LedFits n (led.Into g right k) = (k ≤ n + 1) × (g .0 < spanRoom)
+LedFits n (led.To right g k) = k ≤ n + 1
+LedFits n (led.Into right g k) = (k ≤ n + 1) × (g .0 < spanRoom)
 LedFits n (led.Stopped x k) = k ≤ n + 1
 
 pub led-fits : (c : Config) (m : List ℕ) (n level t i : ℕ) (right : Bool) → level ≤ 5 → i < 512 → t < placeRoom → LedFits n (ledOf c m level t i right n)
@@ -451,7 +451,7 @@ led-fits c m n level t i right l b p = by (isSpan c t)
 
 -- the loop's end, with no index left
 pub loop-end : (c : Config) (ht : ℕ) (m : List ℕ) (n : ℕ) (st : Bool) (below k t path : ℕ) (right : Bool) → k ≡ 0
-    → walkedOf c ht m n (levels c st (below + k) t right (indexes k path)) ≡ walked.Arrived (page t) right n
+    → walkedOf c ht m n (levels c st (below + k) t right (indexes k path)) ≡ walked.Arrived right (page t) n
 unfolding indexes
 loop-end c ht m n st below k t path right z =
     ap (λ j. walkedOf c ht m n (levels c st (below + j) t right (indexes j path))) z ∙ levels-end c ht m n st (below + 0) t right

@@ -31,7 +31,7 @@ use Rattle.spec_laws.proofs.Keeps.{InGuestArea, area-real}
 
 -- a result of the specification's walk with its count, as the code has it
 abbrev pub plainWalked : Result Fault Place → ℕ → Walked
-plainWalked (granted r) n = walked.Arrived (page (r .0)) (r .1) n
+plainWalked (granted r) n = walked.Arrived (r .1) (page (r .0)) n
 plainWalked (failed x) n = walked.Faulted x n
 
 -- the lent memory stands for the machine: its host tables for the mapping, its guest area for the guest area

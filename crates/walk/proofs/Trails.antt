@@ -29,7 +29,7 @@ use Rattle.walk.proofs.Laws.{thenWalked, levels-step, levels-end, walk-
 
 -- ---- what is handed out: on from where a step arrived, or ts and the step's end
 abbrev pub thenTrail : Walked → List ℕ → (ℕ → Bool → ℕ → Trail) → Trail
-thenTrail (walked.Arrived p w n) ts f = f (p .0) w n
+thenTrail (walked.Arrived w p n) ts f = f (p .0) w n
 thenTrail (walked.Faulted x n) ts f = record { walked = walked.Faulted x n; tables = ts }
 thenTrail walked.Damaged ts f = record { walked = walked.Damaged; tables = ts }
 
@@ -79,7 +79,7 @@ trail-step c ht m ts d n st below k t path right h =
     ∙ ap (λ l. thenTrail (walkedOf c ht m n (turn c st (below + (k - 1) + 1) t (index (k - 1) path) right)) (set ts d t) (λ u v j. trailFrom c ht m (set ts d t) (d + 1) j st l u v (indexes (k - 1) path))) down
 
 pub trail-end : (c : Config) (ht : ℕ) (m ts : List ℕ) (d n : ℕ) (st : Bool) (below k t path : ℕ) (right : Bool) → k ≡ 0
-    → trailFrom c ht m ts d n st (below + k) t right (indexes k path) ≡ record { walked = walked.Arrived (page t) right n; tables = ts }
+    → trailFrom c ht m ts d n st (below + k) t right (indexes k path) ≡ record { walked = walked.Arrived right (page t) n; tables = ts }
 unfolding indexes trailFrom noted passed
 trail-end c ht m ts d n st below k t path right z =
     ap (λ j. trailFrom c ht m ts d n st (below + j) t right (indexes j path)) z

@@ -62,7 +62,7 @@ absentBy host.Damaged r = walked.Damaged
 
 -- a result with n words read
 abbrev pub walkedBy : Config → ℕ → List ℕ → Result Fault Place → ℕ → Walked
-walkedBy c top m (granted p) n = walked.Arrived (page (p .0)) (p .1) n
+walkedBy c top m (granted p) n = walked.Arrived (p .1) (page (p .0)) n
 walkedBy c top m (failed (Absent l)) n = walked.Faulted (Absent l) n
 walkedBy c top m (failed (Malformed l)) n = walked.Faulted (Malformed l) n
 walkedBy c top m (failed (Protected l)) n = walked.Faulted (Protected l) n
@@ -75,17 +75,17 @@ walkedOf c top m n p = walkedBy c top m ((trace (memoryWorld c top m) p) .result
 
 -- into a large page, to the part that begins with guest frame g
 unfoldable pub intoOf : Config → Bool → ℕ → ℕ → Bool → ℕ → Walked
-intoOf c st level g right n = cond (not st || right) (walked.Arrived (page (span c g)) right n) (walked.Faulted (Protected level) n)
+intoOf c st level g right n = cond (not st || right) (walked.Arrived right (page (span c g)) n) (walked.Faulted (Protected level) n)
 
 -- a page is found: a store meets W unless the page is mapped writable
 unfoldable pub foundOf : Bool → ℕ → HostPhysical → Bool → Bool → ℕ → Walked
 foundOf st g p writable right n =
-    cond (not st || writable) (walked.Arrived p (right && writable) n) (walked.Faulted (HostReadOnly g) n)
+    cond (not st || writable) (walked.Arrived (right && writable) p n) (walked.Faulted (HostReadOnly g) n)
 
 -- where a level leads, with the right and the words read by then
 abbrev pub ledBy : Bool → ℕ → Lead → Led
-ledBy right n (to g) = led.To (record { 0 = g }) right n
-ledBy right n (into g) = led.Into (record { 0 = g }) right n
+ledBy right n (to g) = led.To right (record { 0 = g }) n
+ledBy right n (into g) = led.Into right (record { 0 = g }) n
 
 -- by the entry e of a table
 unfoldable pub ledByEntry : Config → ℕ → Bool → ℕ → ℕ → Led

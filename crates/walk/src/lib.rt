@@ -19,8 +19,8 @@ use spec::Fault;
 // arrive within a large page: then the number is a span's, beyond the frames of the memory.
 pub enum Walked {
     Arrived {
-        page: HostPhysical,
         writable: bool,
+        page: HostPhysical,
         reads: u64,
     },
     Faulted {
@@ -172,13 +172,13 @@ fn into_span(
 // Where one level leads, with the right and the words read by then: to a guest frame, into a large page, or no further.
 enum Led {
     To {
-        guest: GuestPhysical,
         right: bool,
+        guest: GuestPhysical,
         reads: u64,
     },
     Into {
-        guest: GuestPhysical,
         right: bool,
+        guest: GuestPhysical,
         reads: u64,
     },
     Stopped {

@@ -153,7 +153,7 @@ demand-3-unseen u d m h s bits xs g = by true ∙ cangrieb-choice-unseen m h s b
 
 store-as-ours : (c : Config) (h : Held) (a w v : ℕ) (set : List ℕ → List ℕ) (o : After Translated) (y : Walked)
     → storeAs ourDrops bytesIn c h a w v set o y ≡ storeBy c h a w v set o y
-store-as-ours c h a w v set o (walked.Arrived t y n) = refl
+store-as-ours c h a w v set o (walked.Arrived y t n) = refl
 store-as-ours c h a w v set o (walked.Faulted x n) = refl
 store-as-ours c h a w v set o walked.Damaged = refl
 
@@ -164,7 +164,7 @@ or-charged-ours r a w v o t n (charge.To p) = refl
 or-charged-ours r a w v o t n charge.Damaged = refl
 
 stored-as-ours : (r : Record) (a w v : ℕ) (o : After Translated) (y : Walked) → storedAs r a w v o (plainStore r a w v o) y ≡ storedBy r a w v o y
-stored-as-ours r a w v o (walked.Arrived t y n) = or-charged-ours r a w v o t n (chargeAt r (o .result .held) (o .memory) (t .0) (wordOf a))
+stored-as-ours r a w v o (walked.Arrived y t n) = or-charged-ours r a w v o t n (chargeAt r (o .result .held) (o .memory) (t .0) (wordOf a))
 stored-as-ours r a w v o (walked.Faulted x n) = refl
 stored-as-ours r a w v o walked.Damaged = refl
 
@@ -186,7 +186,7 @@ store-with-ours r m a w v =
     (store-as-ours (configOf r) (heldOf r) a w v (settledOf (configOf r) (hostTop r) (rootOf r) true a (o .result .sets)) o (o .result .walked))
 
 device-as-ours : (c : Config) (m : List ℕ) (h : Held) (a w v : ℕ) (y : Walked) → deviceAs ourDrops bytesIn c m h a w v y ≡ deviceBy c m h a w v y
-device-as-ours c m h a w v (walked.Arrived t y n) = refl
+device-as-ours c m h a w v (walked.Arrived y t n) = refl
 device-as-ours c m h a w v (walked.Faulted x n) = refl
 device-as-ours c m h a w v walked.Damaged = refl
 
@@ -233,7 +233,7 @@ ours = arriveBy (λ lets r v. v)
 missed-as-ours : (c : Config) (ht : ℕ) (m : List ℕ) (h : Held) (root : ℕ) (st : Bool) (a d : ℕ) (gs : List ℕ) (x : Walked)
     → missedAs ours c ht m h root st a d gs x ≡ missedBy c ht m h root st a d gs x
 unfolding arriveBy arrivedOf
-missed-as-ours c ht m h root st a d gs (walked.Arrived t w n) = refl
+missed-as-ours c ht m h root st a d gs (walked.Arrived w t n) = refl
 missed-as-ours c ht m h root st a d gs (walked.Faulted x n) = refl
 missed-as-ours c ht m h root st a d gs walked.Damaged = refl
 

@@ -124,7 +124,7 @@ refuted-opened = refuted-opened-by false false
 -- host frame t
 pub not-as-walked : (f : Calls) (xs ys : List Call) (a w u : ℕ) (s : Record × List ℕ) (t : HostPhysical) (y : Bool) (k : ℕ) (x : Answer) → Comes f xs s
     → let e : Record × List ℕ = afterBy (unitBy f) ys s in
-    f (load a w) (e .0) (e .1) .result .answer ≡ x → Unrefused x → plainWalk (e .0) (e .1) false a ≡ walked.Arrived t y k → bytesAt a w (words.wordIn (withOwn (e .0) (e .1) false a) (t .0) (wordOf a)) ≡ u
+    f (load a w) (e .0) (e .1) .result .answer ≡ x → Unrefused x → plainWalk (e .0) (e .1) false a ≡ walked.Arrived y t k → bytesAt a w (words.wordIn (withOwn (e .0) (e .1) false a) (t .0) (wordOf a)) ≡ u
     → ((n c : ℕ) → line x ≡ value u n c → ⊥) → Demand-2 f → ⊥
 unfolding Demand-2
 not-as-walked f xs ys a w u s t y k x c p q r o clash d =

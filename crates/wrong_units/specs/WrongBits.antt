@@ -126,7 +126,7 @@ setsOnFault = onLoads loadFaulting callOf
 
 -- the word is loaded before the bits are set
 abbrev pub lateBy : Held → ℕ → ℕ → (List ℕ → List ℕ) → After Translated → Walked → After Served
-lateBy h a w set o (walked.Arrived t y n) =
+lateBy h a w set o (walked.Arrived y t n) =
     serving (o .result .held) (answer.Value (bytesAt a w (wordIn (o .memory) (t .0) (wordOf a))) n (o .result .exits)) (set (o .memory))
 lateBy h a w set o (walked.Faulted x n) = serving (o .result .held) (answer.Faulted x n (o .result .exits)) (o .memory)
 lateBy h a w set o walked.Damaged = access.refused h 11 (o .memory)
@@ -161,7 +161,7 @@ abbrev pub Arrives : Type 0
 Arrives = Config → ℕ → List ℕ → Held → ℕ → List ℕ → Bool → ℕ → ℕ → ℕ → ℕ → Bool → After Translated
 
 abbrev pub missedAs : Arrives → Config → ℕ → List ℕ → Held → ℕ → Bool → ℕ → ℕ → List ℕ → Walked → After Translated
-missedAs arrives c ht m h root st a d gs (walked.Arrived t w n) = cond (isSpan c (t .0)) (damaged h m) (arrives c ht m h root gs st a d n (t .0) w)
+missedAs arrives c ht m h root st a d gs (walked.Arrived w t n) = cond (isSpan c (t .0)) (damaged h m) (arrives c ht m h root gs st a d n (t .0) w)
 missedAs arrives c ht m h root st a d gs (walked.Faulted x n) = yields (translation h 1 (walked.Faulted x n) false) m
 missedAs arrives c ht m h root st a d gs walked.Damaged = damaged h m
 
@@ -193,7 +193,7 @@ arriveBy rule c ht m h root gs st a d n t w =
 
 -- a fault past the shadow part fills the path too, as with bits off
 abbrev pub fillAnyway : Bool → Walked → Verdict → Verdict
-fillAnyway w (walked.Arrived t y n) v = v
+fillAnyway w (walked.Arrived y t n) v = v
 fillAnyway w (walked.Faulted x n) v = verdict.Fill w false
 fillAnyway w walked.Damaged v = v
 
@@ -238,7 +238,7 @@ owedInTurn r st m (x ∷ xs) (g ∷ gs) =
 
 -- a load at depth N + 1 whose walk came to y is granted where nothing is owed so; e: what ours leaves
 abbrev pub grantedInTurn : Record → List ℕ → ℕ → ℕ → Option (ℕ × ℕ) → Walked → After Reply → After Reply
-grantedInTurn r m a w none (walked.Arrived t y n) e =
+grantedInTurn r m a w none (walked.Arrived y t n) e =
     let k : List ℕ = bitsIn false m ((walkOf r m false a) .reads) in
     ended r (answer.Value (bytesAt a w (wordIn k (t .0) (wordOf a))) n 0) k
 grantedInTurn r m a w none (walked.Faulted x n) e = e

@@ -106,22 +106,19 @@ returns-2 c =
 judged-requires : tie.Need-judged-requires
 judged-requires c κs = search needs
 
-settle-requires : tie.Need-settle-requires
-settle-requires c κs = c .before .before .before .before .before .before .before .before .before .before .before .before .before .before .pre .0
-
-loaded-requires-3 : tie.Need-loaded-requires-3
-loaded-requires-3 c κs =
-    let judged = c .before .before .before .before .before .before .judged in
-    let if2 = c .before .before .before .before .before .before .before .before .if2 in
-    let lacking = c .before .before .before .before .before .before .before .before .before .lacking in
-    let direct-trail = c .before .before .before .before .before .before .before .before .before .before .before .before .before .direct-trail in
-    let args = c .before .before .before .before .before .before .before .before .before .before .before .before .before .before .before .before .before .before .args in
-    let pre = c .before .before .before .before .before .before .before .before .before .before .before .before .before .before .before .before .before .before .pre in
+load-by-requires : tie.Need-load-by-requires
+load-by-requires c κs =
+    let judged = c .before .judged in
+    let if2 = c .before .before .before .if2 in
+    let lacking = c .before .before .before .before .lacking in
+    let direct-trail = c .before .before .before .before .before .before .before .before .direct-trail in
+    let args = c .before .before .before .before .before .before .before .before .before .before .before .before .before .args in
+    let pre = c .before .before .before .before .before .before .before .before .before .before .before .before .before .pre in
     let some = sym (lacking .ensures ∙ trail-lacking (config (args .space .layout)) (args .space .top) (args .mem .now) false (args .address .0) (args .depth) (args .page .0) (args .writable) (direct-trail .result) (direct-trail .ensures) (omega (arith, pre .0 .0, pre .3))) ∙ not-false (lacking .result) (if2 .left) in
     let came = trail-came (config (args .space .layout)) (args .space .top) (args .mem .now) false (args .address .0) (args .depth) (args .page .0) (args .writable) (direct-trail .result) (direct-trail .ensures) in
     let went = path-judged (config (args .space .layout)) (args .space .top) (args .mem .now) (args .held) (args .root .0) false (args .address .0) (args .depth) _ _ some (pre .3) (pre .4) in
     let leads = judged .ensures ∙ ap (judgedBy (args .held) true _) came in
-    (subst (λ (o : Translated). ReachesFrame (o .walked)) (sym leads) (reaches-as (config (args .space .layout)) (args .space .top) (args .mem .now) (args .held) (args .root .0) false (args .address .0) (args .depth) (pre .1) (pre .0 .0) _ (pre .0 .3) went), pre .2)
+    (pre .0, subst (λ (o : Translated). ReachesFrame (o .walked)) (sym leads) (reaches-as (config (args .space .layout)) (args .space .top) (args .mem .now) (args .held) (args .root .0) false (args .address .0) (args .depth) (pre .1) (pre .0 .0) _ (pre .0 .3) went), pre .2)
 
 same-length-3 : tie.Need-same-length-3
 same-length-3 c = search needs
@@ -129,20 +126,18 @@ same-length-3 c = search needs
 returns-3 : tie.Need-returns-3
 unfolding loadOf
 returns-3 c =
-    let settle = c .before .before .before .before .settle in
-    let judged = c .before .before .before .before .before .before .before .judged in
-    let if2 = c .before .before .before .before .before .before .before .before .before .if2 in
-    let lacking = c .before .before .before .before .before .before .before .before .before .before .lacking in
-    let direct-trail = c .before .before .before .before .before .before .before .before .before .before .before .before .before .before .direct-trail in
-    let args = c .before .before .before .before .before .before .before .before .before .before .before .before .before .before .before .before .before .before .before .args in
-    let pre = c .before .before .before .before .before .before .before .before .before .before .before .before .before .before .before .before .before .before .before .pre in
+    let load-by = c .before .before .load-by in
+    let judged = c .before .before .before .before .judged in
+    let if2 = c .before .before .before .before .before .before .if2 in
+    let lacking = c .before .before .before .before .before .before .before .lacking in
+    let direct-trail = c .before .before .before .before .before .before .before .before .before .before .before .direct-trail in
+    let args = c .before .before .before .before .before .before .before .before .before .before .before .before .before .before .before .before .args in
+    let pre = c .before .before .before .before .before .before .before .before .before .before .before .before .before .before .before .before .pre in
     let some = sym (lacking .ensures ∙ trail-lacking (config (args .space .layout)) (args .space .top) (args .mem .now) false (args .address .0) (args .depth) (args .page .0) (args .writable) (direct-trail .result) (direct-trail .ensures) (omega (arith, pre .0 .0, pre .3))) ∙ not-false (lacking .result) (if2 .left) in
     let came = trail-came (config (args .space .layout)) (args .space .top) (args .mem .now) false (args .address .0) (args .depth) (args .page .0) (args .writable) (direct-trail .result) (direct-trail .ensures) in
     let went = path-judged (config (args .space .layout)) (args .space .top) (args .mem .now) (args .held) (args .root .0) false (args .address .0) (args .depth) _ _ some (pre .3) (pre .4) in
     let leads = judged .ensures ∙ ap (judgedBy (args .held) true _) came in
-    c .loaded3 .ensures
-    ∙ ap (λ m. loadBy (args .held) (args .address .0) (args .width) (λ x. x) (yields (translation (judged .result .held) (judged .result .exits) (judged .result .walked) false) m) (judged .result .walked)) (settle .ensures)
-    ∙ load-said (config (args .space .layout)) (args .space .top) (args .root .0) (args .held) (judged .result .held) (args .address .0) (args .width) (judged .result .exits) (judged .result .walked) (judged .result .sets) (args .mem .now)
+    load-by .ensures
     ∙ ap (λ (o : Translated). loadFrom (config (args .space .layout)) (args .space .top) (args .root .0) (args .held) (args .address .0) (args .width) (yields o (args .mem .now))) leads ∙ sym (ap (loadFrom (config (args .space .layout)) (args .space .top) (args .root .0) (args .held) (args .address .0) (args .width)) went)
 
 pub load-through-spec : {M : Type 1} → statement M
@@ -162,7 +157,6 @@ load-through-spec =
     same-length-2
     returns-2
     judged-requires
-    settle-requires
-    loaded-requires-3
+    load-by-requires
     same-length-3
     returns-3)

@@ -27,20 +27,20 @@ ends c =
 to-frame-requires : tie.Need-to-frame-requires
 to-frame-requires c κs =
     let pre = c .before .before .before .before .before .pre in
-    let good = rw (c .before .guest .given .1) at (fits (c .before .before .before)) in
+    let good = rw (c .before .right .given .1) at (fits (c .before .before .before)) in
     (pre .0, omega (arith, good, pre .1))
 
 into-span-requires : tie.Need-into-span-requires
 into-span-requires c κs =
     let pre = c .before .before .before .before .before .pre in
-    let good = rw (c .before .guest2 .given .1) at (fits (c .before .before .before)) in
+    let good = rw (c .before .right2 .given .1) at (fits (c .before .before .before)) in
     (pre .0, good .1)
 
 returns : tie.Need-returns
-returns c = rw (← ends (c .before .before .before .before), c .before .before .guest .given .1) (c .to-frame .ensures)
+returns c = rw (← ends (c .before .before .before .before), c .before .before .right .given .1) (c .to-frame .ensures)
 
 returns-2 : tie.Need-returns-2
-returns-2 c = rw (← ends (c .before .before .before .before), c .before .before .guest2 .given .1) (c .into-span .ensures)
+returns-2 c = rw (← ends (c .before .before .before .before), c .before .before .right2 .given .1) (c .into-span .ensures)
 
 returns-3 : tie.Need-returns-3
 returns-3 c = rw (c .before .fault .given .1) at (ends (c .before .before .before))

@@ -77,8 +77,8 @@ descend-requires c κs =
     let index-of = c .index-of in
     (pre .0, omega (arith, loop .inv .2, pre), omega (arith, loop .inv .0, pre), omega (arith, loop .inv .0, loop .inv .1, pre), rw (index-of .ensures) (index-fits (loop .left - 1) (args .path)))
 
-enum-known-page : tie.Need-enum-known-page Inv-loop μ-loop
-enum-known-page c = search needs
+enum-known-writable : tie.Need-enum-known-writable Inv-loop μ-loop
+enum-known-writable c = search needs
 
 loop-less : tie.Need-loop-less Inv-loop μ-loop
 loop-less c = search needs
@@ -86,10 +86,10 @@ loop-less c = search needs
 loop-again : tie.Need-loop-again Inv-loop μ-loop
 loop-again c =
     let pre = c .before .before .before .before .before .before .before .before .pre in
-    let page = c .before .page in
+    let writable = c .before .writable in
     let loop = c .before .before .before .before .before .before .loop in
     let index-of = c .before .before .before .before .index-of in
-    let told = page .given .1 in
+    let told = writable .given .1 in
     let fits = rw told at (arrived (c .before .before .before)) in
     let args = c .before .before .before .before .before .before .before .before .args in
     (omega arith, near-room (config (args .space .layout)) (loop .at) _ (loop .left) (args .steps) (pre .0 .3) (omega arith) (loop .inv .0) (loop .inv .1) (fits .0 (omega (arith, loop .inv .0, pre), rw (index-of .ensures) (index-fits (loop .left - 1) (args .path)))), omega (arith, fits .2, pre), omega arith, rw told at (turned (c .before .before .before)))
@@ -128,7 +128,7 @@ walk-tables-spec =
     add-descend
     add-descend-2
     descend-requires
-    enum-known-page
+    enum-known-writable
     loop-less
     loop-again
     enum-known-fault
