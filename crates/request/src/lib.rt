@@ -431,7 +431,15 @@ fn load_through(
     // As translate::through, but that nothing is handed on by way of memory: most loads with bits lack none.
     let trail = translate::direct_trail(mem, space, request, page, writable);
     let walked = trail.walked;
-    if !translate::lacking(mem, space.layout, request, walked, &trail.tables) {
+    if !translate::lacking(
+        mem,
+        space.layout,
+        false,
+        address,
+        depth,
+        walked,
+        &trail.tables,
+    ) {
         let exits = translate::exit_of(walked);
         return loaded(mem, held, held, walked, exits, address.0, width);
     }
@@ -485,8 +493,8 @@ fn load_translated(
     load_by(mem, space, root, held, t, address, width)
 }
 
-// A load whose marks give that depth: 11. Most are of depth 0 and held: they are told here, with nothing handed on. What is held at the
-// marks' depth says that there is no large page above it; only a path that is not asks.
+// A load whose marks give that depth: 11. Most are held, and what is held at the marks' depth says that no large page lies above it: they are
+// told here. Where one may, and for damage, the translation is asked in full.
 pub fn load(
     mem: &mut [u64],
     space: Space,

@@ -327,12 +327,14 @@ pub fn bitless(layout: Layout, depth: u64) -> bool
 pub fn lacking(
     mem: &[u64],
     layout: Layout,
-    request: Request,
+    store: bool,
+    address: GuestVirtual,
+    depth: u64,
     walked: Walked,
     tables: &[u64; 8],
 ) -> bool
-    requires { ⌜ (LayoutFits layout) × (request .depth ≤ 7) ⌝ }
-    ensures { λ r. ⌜ r ≡ lackingBy (config layout .bits && lacks (wordsOf (now (mem .entry))) (request .store) (seenEntries (now (tables .entry)) (seenOf (config layout) (now (tables .entry)) (request .depth) (pageOf (request .address .0))))) walked ⌝ }
+    requires { ⌜ (LayoutFits layout) × (depth ≤ 7) ⌝ }
+    ensures { λ r. ⌜ r ≡ lackingBy (config layout .bits && lacks (wordsOf (now (mem .entry))) store (seenEntries (now (tables .entry)) (seenOf (config layout) (now (tables .entry)) depth (pageOf (address .0))))) walked ⌝ }
 {
     if layout.bits == 0 {
         return false;
@@ -343,8 +345,8 @@ pub fn lacking(
             writable,
             reads,
         } => {
-            let read = accessed::read_by(layout, request.address.page(), request.depth, tables);
-            accessed::lacks(mem, request.store, read.path, read.steps, tables)
+            let read = accessed::read_by(layout, address.page(), depth, tables);
+            accessed::lacks(mem, store, read.path, read.steps, tables)
         }
         Walked::Faulted { fault, reads } => false,
         Walked::Damaged => false,
@@ -389,7 +391,15 @@ pub fn through(
 {
     let trail = direct_trail(mem, space, request, page, writable);
     let walked = trail.walked;
-    if !lacking(mem, space.layout, request, walked, &trail.tables) {
+    if !lacking(
+        mem,
+        space.layout,
+        request.store,
+        request.address,
+        request.depth,
+        walked,
+        &trail.tables,
+    ) {
         return as_walked(held, walked);
     }
     judged(mem, space, root, held, request, walked)

@@ -15,8 +15,9 @@ use layout::HostWalk;
 use layout::Layout;
 use spec::Fault;
 
-// What a walk comes to, with the words read: where it arrived and whether stores pass, why it stopped, or damaged tables. Down to a table it may
-// arrive within a large page: then the number is a span's, beyond the frames of the memory.
+// What a walk comes to, with the words read: whether stores pass and where it arrived, why it stopped, or damaged tables. Down to a table it may
+// arrive within a large page: then the number is a span's, beyond the frames of the memory. The right comes first, since a fault begins with
+// a byte too: where numbers of different sizes share a place, the compiler takes them apart (docs/SPEED.md).
 pub enum Walked {
     Arrived {
         writable: bool,

@@ -24,8 +24,8 @@ lacks-requires c κs =
     let pre = c .before .before .before .before .before .before .before .before .pre in
     let read-by = c .read-by in
     let page = c .before .page in
-    let sum = seen-sum (config (args .layout)) (args .tables .now) (args .request .depth) (pageOf (args .request .address .0)) in
-    rw (read-by .ensures, page .ensures) (omega (arith, sum, pre .1), seen-frames (config (args .layout)) (args .tables .now) (args .request .depth) (pageOf (args .request .address .0)) (pre .0 .3))
+    let sum = seen-sum (config (args .layout)) (args .tables .now) (args .depth) (pageOf (args .address .0)) in
+    rw (read-by .ensures, page .ensures) (omega (arith, sum, pre .1), seen-frames (config (args .layout)) (args .tables .now) (args .depth) (pageOf (args .address .0)) (pre .0 .3))
 
 returns-2 : tie.Need-returns-2
 returns-2 c =
