@@ -421,20 +421,18 @@ fn unshadowed(
     }
     let trail = whole(mem, space, request.store, root, request.address);
     let walked = trail.walked;
-    match walked {
-        Walked::Arrived {
-            page,
-            writable,
-            reads,
-        } => settled(
-            held,
-            walked,
-            reads,
-            judge(mem, space, root, request, &trail.tables),
-        ),
-        Walked::Faulted { fault, reads } => as_walked(held, walked),
-        Walked::Damaged => damaged(held),
+    if !lacking(
+        mem,
+        space.layout,
+        request.store,
+        request.address,
+        space.layout.levels,
+        walked,
+        &trail.tables,
+    ) {
+        return as_walked(held, walked);
     }
+    judged(mem, space, root, held, request, walked)
 }
 
 // ---- held paths
