@@ -2,22 +2,61 @@
 // The entries are those at the `steps` lowest indexes of a page number, one in each of the tables.
 ghost use mathlib.Core.Path.{_≡_};
 ghost use mathlib.Core.Bool.{_&&_, _||_};
-ghost use Prim.Native.Nat.{_≤_};
+ghost use Prim.Native.Nat.{_+_, _≤_};
 ghost use lib.Dec.{eqb};
 ghost use Rattle.spec.specs.Entry.{indexes};
 ghost use Rattle.spec.specs.Bits.{hasBits, lacks, mayWrite, dirtyAt};
 ghost use Rattle.host.specs.Walk.{hostWalkOf};
 ghost use Rattle.walk.specs.Memory.{placeOf};
 ghost use Rattle.layout.specs.Layout.{LayoutFits, config};
-ghost use Rattle.accessed.specs.Entries.{entries, Frames, wordsOf, owedOf, bitsIn};
+ghost use Rattle.accessed.specs.Entries.{entries, tablesIn, seenOf, Frames, wordsOf, owedOf, bitsIn};
 use entry::GuestPhysical;
 use host::Space;
 use layout::HostWalk;
+use layout::Layout;
 
 // The first entry that lacks a bit in a table mapped read-only, by its level and the table's guest frame; or none.
 pub enum Debt {
     Nothing,
     Table { level: u64, frame: u64 },
+}
+
+// The entries that a walk read: those at the `steps` lowest indexes of `path`, one in each of its tables, with so many levels below the last, which
+// it did not walk.
+pub struct Seen {
+    pub path: u64,
+    pub steps: u64,
+    pub below: u64,
+}
+
+// How many of the first `steps` places of a walk are tables.
+fn tables_in(layout: Layout, places: &[u64; 8], steps: u64) -> u64
+    requires { ⌜ steps ≤ 8 ⌝ }
+    ensures { λ r. ⌜ r ≡ tablesIn (config layout) (now (places .entry)) 0 steps ⌝ }
+{
+    let mut left = steps;
+    let mut depth: usize = 0;
+    while left > 0 {
+        if places[depth] >= layout.frames {
+            return depth as u64;
+        }
+        left -= 1;
+        depth += 1;
+    }
+    steps
+}
+
+// What a walk by the `steps` lowest indexes of a page number read, on its way through these places.
+pub fn read_by(layout: Layout, page: u64, steps: u64, places: &[u64; 8]) -> Seen
+    requires { ⌜ steps ≤ 7 ⌝ }
+    ensures { λ r. ⌜ r ≡ seenOf (config layout) (now (places .entry)) steps page ⌝ }
+{
+    let k = tables_in(layout, places, steps);
+    Seen {
+        path: page >> (9 * (steps - k)),
+        steps: k,
+        below: steps - k,
+    }
 }
 
 // Is the entry with so many levels below it the one where a store's walk ends?
@@ -29,7 +68,7 @@ fn ends(store: bool, below: u64) -> bool
 
 // Does an entry lack a bit?
 pub fn lacks(mem: &[u64], store: bool, page: u64, steps: u64, tables: &[u64; 8]) -> bool
-    requires { ⌜ (steps ≤ 8) × (Frames (now tables)) ⌝ }
+    requires { ⌜ (steps ≤ 8) × (Frames steps (now tables)) ⌝ }
     ensures { λ r. ⌜ r ≡ lacks (wordsOf (now (mem .entry))) store (entries (now (tables .entry)) 0 (indexes steps page)) ⌝ }
 {
     let mut left = steps;
@@ -69,7 +108,7 @@ fn has_or_may(mem: &[u64], space: Space, ends: bool, e: u64, guest: GuestPhysica
     may_write(mem, space, guest)
 }
 
-// What the entries owe; the first table is that of a guest frame.
+// What the entries owe, with so many levels below the last; the first table is that of a guest frame.
 pub fn owed(
     mem: &[u64],
     space: Space,
@@ -77,10 +116,11 @@ pub fn owed(
     guest: GuestPhysical,
     page: u64,
     steps: u64,
+    below: u64,
     tables: &[u64; 8],
 ) -> Debt
-    requires { ⌜ (LayoutFits (space .layout)) × (steps ≤ 8) × (Frames (now tables)) ⌝ }
-    ensures { λ r. ⌜ r ≡ owedOf (config (space .layout)) (space .top) (now (mem .entry)) store (guest .0) (entries (now (tables .entry)) 0 (indexes steps page)) ⌝ }
+    requires { ⌜ (LayoutFits (space .layout)) × (below ≤ 8) × (steps ≤ 8) × (Frames steps (now tables)) ⌝ }
+    ensures { λ r. ⌜ r ≡ owedOf (config (space .layout)) (space .top) (now (mem .entry)) store (below + steps) (guest .0) (entries (now (tables .entry)) 0 (indexes steps page)) ⌝ }
 {
     let mut left = steps;
     let mut depth: usize = 0;
@@ -91,7 +131,7 @@ pub fn owed(
         let e = words::word_in(mem, tables[depth], i);
         if !has_or_may(mem, space, ends(store, left), e, GuestPhysical(at)) {
             return Debt::Table {
-                level: left + 1,
+                level: below + left + 1,
                 frame: at,
             };
         }
@@ -103,7 +143,7 @@ pub fn owed(
 
 // Each entry gets its bits.
 pub fn set_bits(mem: &mut [u64], store: bool, page: u64, steps: u64, tables: &[u64; 8])
-    requires { ⌜ (steps ≤ 8) × (Frames (now tables)) ⌝ }
+    requires { ⌜ (steps ≤ 8) × (Frames steps (now tables)) ⌝ }
     ensures { λ r. ⌜ now (mem .exit) ≡ bitsIn store (now (mem .entry)) (entries (now (tables .entry)) 0 (indexes steps page)) ⌝ }
 {
     let mut left = steps;
@@ -124,7 +164,7 @@ pub fn set_bits(mem: &mut [u64], store: bool, page: u64, steps: u64, tables: &[u
 
 // Is the last of the entries dirty? Where there is none nothing is asked.
 pub fn last_dirty(mem: &[u64], page: u64, steps: u64, tables: &[u64; 8]) -> bool
-    requires { ⌜ (steps ≤ 8) × (Frames (now tables)) ⌝ }
+    requires { ⌜ (steps ≤ 8) × (Frames steps (now tables)) ⌝ }
     ensures { λ r. ⌜ r ≡ dirtyAt (wordsOf (now (mem .entry))) (entries (now (tables .entry)) 0 (indexes steps page)) ⌝ }
 {
     if steps == 0 {

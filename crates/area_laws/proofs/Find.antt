@@ -13,7 +13,7 @@ use Rattle.pool.specs.declared.Pool.{Pool}
 use Rattle.pool.specs.declared.Way.the-variants.{To, Not}
 use Rattle.area.specs.declared.Look.the-variants.{Seen, Damaged}
 use Rattle.pool.specs.Header.{entryAtOf}
-use Rattle.pool.specs.Pool.{followOf, onWay}
+use Rattle.pool.specs.Pool.{link, followOf, onWay}
 use Rattle.area.specs.Tree.{lookupOf, roomOf}
 use Rattle.area_laws.proofs.Change.{upd, upd-other}
 use Rattle.area_laws.proofs.Invariant.{slot, follow-zero, Tables, none-below, follow-table}
@@ -105,6 +105,28 @@ module _ {a : Area} {p : Pool} {ts : List ℕ → Option ℕ} {lv guest : List �
       → lookupOf (a .base) (a .size) m (p .top) is 0 ≡ Seen (lv (onto [] is)) (steps ts [] is)
   lookup-is is c l t =
       look-is [] is (p .top) 0 (g .top ∙ ap (slot (ts [])) (sym (g .root))) c l t ∙ ap (Seen (lv (onto [] is))) (omega arith)
+
+  -- a prefix with a table of its own: its entry names that
+  table-look : (x is : List ℕ) (f e n : ℕ) → e ≡ slot (ts x) (lv x) → Small is → ts (onto x is) ≡ some f
+      → (k : ℕ) × (lookupOf (a .base) (a .size) m e is n ≡ Seen (link f) k)
+  unfolding lookupOf onto
+  table-look x [] f e n q l t = (n, ap (λ y. Seen y n) (q ∙ ap (λ o. slot o (lv x)) t))
+  table-look x (i ∷ is) f e n q l t = go (ts x) refl (λ h tx. table-look (i ∷ x) is f (entryAtOf m h i) (n + 1) (g .word x h i tx (l .0)) (l .1) t)
+    where
+      no : (x is : List ℕ) → ts x ≡ none → ts (onto x is) ≡ none
+      no x [] z = z
+      no x (j ∷ is) z = no (j ∷ x) is (none-below g j x z)
+
+      go : (o : Option ℕ) → ts x ≡ o → ((h : ℕ) → ts x ≡ some h → (k : ℕ) × (lookupOf (a .base) (a .size) m (entryAtOf m h i) is (n + 1) ≡ Seen (link f) k))
+          → (k : ℕ) × (onWay (followOf (a .base) (a .size) e) (Seen 0 n) Damaged (λ h. lookupOf (a .base) (a .size) m (entryAtOf m h i) is (n + 1)) ≡ Seen (link f) k)
+      go none h ih = let z : none ≡ some f = sym (no (i ∷ x) is (none-below g i x h)) ∙ t in let y : _≡_ {A = ℕ} 0 1 = cc in absurd (omega arith)
+      go (some h) e' ih =
+          let z : followOf (a .base) (a .size) e ≡ To h = ap (followOf (a .base) (a .size)) (q ∙ ap (λ o. slot o (lv x)) e') ∙ follow-table g x h e' in
+          let r = ih h e' in
+          (r .0, ap (λ y. onWay y (Seen 0 n) Damaged (λ h. lookupOf (a .base) (a .size) m (entryAtOf m h i) is (n + 1))) z ∙ r .1)
+
+  pub lookup-table : (is : List ℕ) (f : ℕ) → Small is → ts (onto [] is) ≡ some f → (k : ℕ) × (lookupOf (a .base) (a .size) m (p .top) is 0 ≡ Seen (link f) k)
+  lookup-table is f l t = table-look [] is f (p .top) 0 (g .top ∙ ap (slot (ts [])) (sym (g .root))) l t
 
   -- ---- the tables that a path lacks, and room for them exactly if they and those in use are no more than the frames
   missing : (is : List ℕ) → length is - steps ts [] is ≡ lacks ts [] is

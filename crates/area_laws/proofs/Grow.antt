@@ -17,7 +17,7 @@ use Rattle.words.specs.Words.{at, wordIn, zeroed}
 use Rattle.pool.specs.declared.Area.{Area}
 use Rattle.pool.specs.declared.Pool.{Pool}
 use Rattle.pool.specs.declared.Way.the-variants.{To, Not}
-use Rattle.pool.specs.Header.{entryAtOf, putEntryOf, guestOf, levelOf, parentOf, slotOf, headerOf}
+use Rattle.pool.specs.Header.{entryAtOf, putEntryOf, guestRoom, guestOf, levelOf, parentOf, slotOf, headerOf}
 use Rattle.pool.specs.Pool.{link, followOf, end, poolOf, withTop, freshOf, freedOf, takeOf}
 use Rattle.area.specs.Tree.{newTopOf, newTableOf, enterOf, attachOf}
 use Rattle.spec_laws.proofs.Lists.{same-is, or-cases, or-right}
@@ -243,7 +243,7 @@ module _ {a : Area} {p : Pool} {ts : List ℕ → Option ℕ} {lv guest : List �
     pub beside : Beside a m memory
 
   pub attach-is : (h i : ℕ) (x : List ℕ) → ts x ≡ some h → i < 512 → ts (i ∷ x) ≡ none → lv (i ∷ x) ≡ 0
-      → length (i ∷ x) < a .levels → guest (i ∷ x) < 65536 → p .used < a .size → Hung h i x
+      → length (i ∷ x) < a .levels → guest (i ∷ x) < guestRoom → p .used < a .size → Hung h i x
   unfolding attachOf newTableOf withTop
   attach-is h i x tx hi bare leaf deep thin l = record {
     pool = t .pool;
@@ -323,7 +323,7 @@ module _ {a : Area} {p : Pool} {ts : List ℕ → Option ℕ} {lv guest : List �
     pub used : pool .used ≡ p .used + 1
     pub beside : Beside a m memory
 
-  pub enter-is : ts [] ≡ none → 0 < a .levels → guest [] < 65536 → p .used < a .size → Entered
+  pub enter-is : ts [] ≡ none → 0 < a .levels → guest [] < guestRoom → p .used < a .size → Entered
   unfolding enterOf newTopOf newTableOf withTop
   enter-is bare deep thin l = record {
     pool = withTop (t .pool) (link f);

@@ -6,6 +6,7 @@ use Prim.Native.Nat.{ℕ, _+_, _<_, _≤_}
 use native.Mathlib.Omega.{arith}
 use mathlib.Core.List.{List, [], _∷_}
 use lib.ListN.{length, getD}
+use Rattle.pool.specs.Header.{guestRoom}
 
 -- the prefix x and then the indexes
 unfoldable pub onto : List ℕ → List ℕ → List ℕ
@@ -100,4 +101,4 @@ clear-by lv x (i ∷ is) h = (h x (inl refl), clear-by lv (i ∷ x) is (λ y k. 
 -- the list gives the host frame of the guest table of each prefix, by depth, from x of depth d on; each fits a header
 abbrev pub Guests : (List ℕ → ℕ) → List ℕ → ℕ → List ℕ → List ℕ → Type 0
 Guests guest gs d x [] = Unit {0}
-Guests guest gs d x (i ∷ is) = (getD gs d 0 ≡ guest x) × (guest x < 65536) × Guests guest gs (d + 1) (i ∷ x) is
+Guests guest gs d x (i ∷ is) = (getD gs d 0 ≡ guest x) × (guest x < guestRoom) × Guests guest gs (d + 1) (i ∷ x) is

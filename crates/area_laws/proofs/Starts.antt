@@ -11,6 +11,7 @@ use lib.ListN.{length}
 use Rattle.spec.specs.Entry.{present, entryLimit}
 use Rattle.spec.specs.Prefix.{same, tablesOf}
 use Rattle.pool.specs.declared.Area.{Area}
+use Rattle.pool.specs.Header.{guestRoom}
 use Rattle.pool.specs.Pool.{noneOf}
 use Rattle.area.specs.Tree.{enterOf}
 use Rattle.area_laws.specs.Run.{Op, put, cut, see, State, left, answers, Map, get, without, paths, specified}
@@ -38,7 +39,7 @@ unfolding Solid
 start a guest m r = record { holds = holds-leaves (holds-none a guest m (r .small) (r .flat) (r .long)) (leaves []) no-leaves; solid = tt }
 
 -- the same with a top table that stays
-pub start-top : (a : Area) (guest : List ℕ → ℕ) (m : List ℕ) → Ready a m → 0 < a .levels → 0 < a .size → guest [] < 65536
+pub start-top : (a : Area) (guest : List ℕ → ℕ) (m : List ℕ) → Ready a m → 0 < a .levels → 0 < a .size → guest [] < guestRoom
     → Tied a true guest (left (enterOf a noneOf m (guest []))) []
 unfolding Solid
 start-top a guest m r deep room thin =

@@ -15,9 +15,8 @@ use Rattle.spec.specs.Entry.{entryLimit}
 use Rattle.words.specs.Words.{SameFrame, at, wordIn, setIn, zeroed}
 use Rattle.words.proofs.Laws.{zeroed-length, zeroed-below, zeroed-above, zeroed-inside}
 use Rattle.pool.specs.declared.Area.{Area}
-use Rattle.pool.specs.Header.{entryAtOf, highOf, putEntryOf, guestOf, levelOf, parentOf, slotOf, headerOf}
+use Rattle.pool.specs.Header.{entryAtOf, highOf, putEntryOf, guestRoom, guestOf, levelOf, parentOf, slotOf, written, headerBits, headerOf}
 use Rattle.pool.specs.Pool.{freeWords}
-use Rattle.spec.specs.Prefix.{All}
 
 pub at-inj : (f i g j : ℕ) → i < 512 → j < 512 → at f i ≡ at g j → (f ≡ g) × (i ≡ j)
 at-inj f i g j hi hj e =
@@ -34,7 +33,7 @@ pub record SameHead (m n : List ℕ) (g : ℕ) : Type 0 where
 high-head : (m n : List ℕ) (g : ℕ) → ((k : ℕ) → k < 512 → highOf n g k ≡ highOf m g k) → SameHead m n g
 unfolding guestOf levelOf parentOf slotOf
 high-head m n g h = record {
-  guest = rw (h 0 (omega arith), h 1 (omega arith));
+  guest = rw (h 0 (omega arith), h 1 (omega arith), h 5 (omega arith), h 6 (omega arith), h 7 (omega arith), h 8 (omega arith));
   level = rw (h 1 (omega arith));
   parent = rw (h 2 (omega arith), h 3 (omega arith));
   slot = rw (h 4 (omega arith));
@@ -136,48 +135,46 @@ pub zero-in : (m : List ℕ) (f i : ℕ) → i < 512 → f * 512 + 512 ≤ lengt
 zero-in m f i hi l = zeroed-inside m (f * 512) 512 (at f i) (omega arith) (omega arith) (omega arith)
 
 -- ---- words of frame f are written one after another, from word k on
-unfoldable written : List ℕ → ℕ → ℕ → List ℕ → List ℕ
-written m f k [] = m
-written m f k (v ∷ vs) = written (setIn m f k v) f (suc k) vs
-
 written-length : (m : List ℕ) (f k : ℕ) (vs : List ℕ) → length (written m f k vs) ≡ length m
 unfolding written
 written-length m f k [] = refl
-written-length m f k (v ∷ vs) = written-length (setIn m f k v) f (suc k) vs ∙ length-set m (at f k) v
+written-length m f k (v ∷ vs) = written-length (setIn m f k (v * entryLimit)) f (suc k) vs ∙ length-set m (at f k) (v * entryLimit)
 
 written-else : (m : List ℕ) (f k : ℕ) (vs : List ℕ) (g : ℕ) → g ≢ f → k + length vs ≤ 512 → SameFrame m (written m f k vs) g
 unfolding written
 written-else m f k [] g ne h j l = refl
 written-else m f k (v ∷ vs) g ne h j l =
-    written-else (setIn m f k v) f (suc k) vs g ne (omega arith) j l ∙ set-else m f k v g (omega arith) ne j l
+    written-else (setIn m f k (v * entryLimit)) f (suc k) vs g ne (omega arith) j l ∙ set-else m f k (v * entryLimit) g (omega arith) ne j l
 
 written-before : (m : List ℕ) (f k : ℕ) (vs : List ℕ) (j : ℕ) → j < k → wordIn (written m f k vs) f j ≡ wordIn m f j
 unfolding written
 written-before m f k [] j l = refl
 written-before m f k (v ∷ vs) j l =
-    written-before (setIn m f k v) f (suc k) vs j (omega arith) ∙ getD-set-other m (at f k) (at f j) v 0 (λ q. omega arith)
+    written-before (setIn m f k (v * entryLimit)) f (suc k) vs j (omega arith) ∙ getD-set-other m (at f k) (at f j) (v * entryLimit) 0 (λ q. omega arith)
 
-written-at : (m : List ℕ) (f k : ℕ) (vs : List ℕ) (j : ℕ) → j < length vs → at f k + length vs ≤ length m → wordIn (written m f k vs) f (k + j) ≡ getD vs j 0
-unfolding written
+-- the header bits are read back
+written-at : (m : List ℕ) (f k : ℕ) (vs : List ℕ) (j : ℕ) → j < length vs → at f k + length vs ≤ length m → highOf (written m f k vs) f (k + j) ≡ getD vs j 0
+unfolding written highOf
 written-at m f k [] j l h = absurd (omega arith)
 written-at m f k (v ∷ vs) zero l h =
-    ap (wordIn (written (setIn m f k v) f (suc k) vs) f) (omega arith)
-    ∙ written-before (setIn m f k v) f (suc k) vs k (omega arith) ∙ getD-set-same m (at f k) v 0 (omega arith)
+    ap (highOf (written (setIn m f k (v * entryLimit)) f (suc k) vs) f) (omega arith)
+    ∙ ap (λ w. w / entryLimit) (written-before (setIn m f k (v * entryLimit)) f (suc k) vs k (omega arith) ∙ getD-set-same m (at f k) (v * entryLimit) 0 (omega arith))
+    ∙ omega arith
 written-at m f k (v ∷ vs) (suc j) l h =
-    ap (wordIn (written (setIn m f k v) f (suc k) vs) f) (omega arith)
-    ∙ written-at (setIn m f k v) f (suc k) vs j (omega arith) (rw length-set (omega arith))
+    ap (highOf (written (setIn m f k (v * entryLimit)) f (suc k) vs) f) (omega arith)
+    ∙ written-at (setIn m f k (v * entryLimit)) f (suc k) vs j (omega arith) (rw length-set (omega arith))
 
--- what holds of every word of the frame and of every word written
-written-all : (P : ℕ → Type 0) (m : List ℕ) (f k : ℕ) (vs : List ℕ) → All P vs → at f k + length vs ≤ length m
-    → ((j : ℕ) → j < 512 → P (wordIn m f j)) → (j : ℕ) → j < 512 → P (wordIn (written m f k vs) f j)
-unfolding written
-written-all P m f k [] a h w = w
-written-all P m f k (v ∷ vs) a h w =
-    written-all P (setIn m f k v) f (suc k) vs (a .1) (rw length-set (omega arith)) (λ j l. go j l (ℕ-discrete j k))
+-- and no entry is set
+written-zeros : (m : List ℕ) (f k : ℕ) (vs : List ℕ) → at f k + length vs ≤ length m
+    → ((j : ℕ) → j < 512 → entryAtOf m f j ≡ 0) → (j : ℕ) → j < 512 → entryAtOf (written m f k vs) f j ≡ 0
+unfolding written entryAtOf
+written-zeros m f k [] h w = w
+written-zeros m f k (v ∷ vs) h w =
+    written-zeros (setIn m f k (v * entryLimit)) f (suc k) vs (rw length-set (omega arith)) (λ j l. go j l (ℕ-discrete j k))
   where
-    go : (j : ℕ) → j < 512 → Dec (j ≡ k) → P (wordIn (setIn m f k v) f j)
-    go j l (yes q) = subst (λ z. P (wordIn (setIn m f k v) f z)) (sym q) (subst P (sym (getD-set-same m (at f k) v 0 (omega arith))) (a .0))
-    go j l (no q) = subst P (sym (getD-set-other m (at f k) (at f j) v 0 (λ e. q (omega arith)))) (w j l)
+    go : (j : ℕ) → j < 512 → Dec (j ≡ k) → wordIn (setIn m f k (v * entryLimit)) f j % entryLimit ≡ 0
+    go j l (yes q) = rw (q, getD-set-same m (at f k) (v * entryLimit) 0 (omega arith)) (omega arith)
+    go j l (no q) = rw (getD-set-other m (at f k) (at f j) (v * entryLimit) 0 (λ e. q (omega arith))) (w j l)
 
 -- ---- a header is written into a frame of zeros: the frame is an empty table
 pub record Empty (m n : List ℕ) (f g l h i : ℕ) : Type 0 where
@@ -189,32 +186,39 @@ pub record Empty (m n : List ℕ) (f g l h i : ℕ) : Type 0 where
   pub parent : parentOf n f ≡ h
   pub slot : slotOf n f ≡ i
 
-pub empty-is : (m : List ℕ) (f guest level parent slot : ℕ) → f * 512 + 512 ≤ length m → guest < 65536 → level < 8 → parent < 65536 → slot < 512
+-- a number from its 12 low bits and the rest
+twelve : (u v : ℕ) → v ≡ u / 4096 → u % 4096 % 4096 + 4096 * v ≡ u
+twelve u v e = omega arith
+
+four-twelves : (u : ℕ) → u < 281474976710656
+    → u % 4096 % 4096 + 4096 * (u / 4096 % 4096 % 4096 + 4096 * (u / 4096 / 4096 % 4096 % 4096 + 4096 * (u / 4096 / 4096 / 4096 % 4096 % 4096))) ≡ u
+four-twelves u s = twelve u _ (twelve (u / 4096) _ (twelve (u / 4096 / 4096) _ (omega arith)))
+
+pub empty-is : (m : List ℕ) (f guest level parent slot : ℕ) → f * 512 + 512 ≤ length m → guest < guestRoom → level < 8 → parent < 65536 → slot < 512
     → Empty m (headerOf (zeroed m (f * 512) 512) f guest level parent slot) f guest level parent slot
-unfolding headerOf written entryAtOf guestOf levelOf parentOf slotOf highOf
+unfolding headerOf entryAtOf guestOf levelOf parentOf slotOf
 empty-is m f guest level parent slot fits sg sl sp ss = record {
   long = written-length z f 0 vs ∙ zeroed-length m (f * 512) 512;
   else = λ d ne j l. written-else z f 0 vs d ne (omega arith) j l ∙ zero-else m f d ne j l;
-  zeros = written-all (λ v. v % entryLimit ≡ 0) z f 0 vs (omega arith, (omega arith, (omega arith, (omega arith, (omega arith, tt))))) room
-      (λ j l. ap (λ v. v % entryLimit) (zero-in m f j l fits));
-  guest = rw (word 0 (omega arith), word 1 (omega arith)) (omega arith);
-  level = rw (word 1 (omega arith)) (omega arith);
-  parent = rw (word 2 (omega arith), word 3 (omega arith)) (omega arith);
-  slot = rw (word 4 (omega arith)) (omega arith);
+  zeros = written-zeros z f 0 vs room (λ j l. ap (λ v. v % entryLimit) (zero-in m f j l fits));
+  guest = rw (bits 0 (omega arith), bits 1 (omega arith), bits 5 (omega arith), bits 6 (omega arith), bits 7 (omega arith), bits 8 (omega arith))
+      (ap (λ x. guest % 4096 % 4096 + (guest / 4096 % 16 + level % 8 * 16) % 16 * 4096 + 65536 * x) (four-twelves (guest / 65536) (omega arith)) ∙ omega arith);
+  level = rw (bits 1 (omega arith)) (omega arith);
+  parent = rw (bits 2 (omega arith), bits 3 (omega arith)) (omega arith);
+  slot = rw (bits 4 (omega arith)) (omega arith);
 }
   where
     z : List ℕ
     z = zeroed m (f * 512) 512
 
     vs : List ℕ
-    vs = (guest % 4096 * entryLimit) ∷ ((guest / 4096 % 16 + level % 8 * 16) * entryLimit) ∷ (parent % 4096 * entryLimit)
-        ∷ (parent / 4096 % 16 * entryLimit) ∷ (slot % 512 * entryLimit) ∷ []
+    vs = headerBits guest level parent slot
 
-    room : at f 0 + 5 ≤ length z
+    room : at f 0 + 9 ≤ length z
     room = rw zeroed-length (omega arith)
 
-    word : (j : ℕ) → j < 5 → wordIn (written z f 0 vs) f j ≡ getD vs j 0
-    word j l = ap (wordIn (written z f 0 vs) f) (omega arith) ∙ written-at z f 0 vs j l room
+    bits : (j : ℕ) → j < 9 → highOf (written z f 0 vs) f j ≡ getD vs j 0
+    bits j l = ap (highOf (written z f 0 vs) f) (omega arith) ∙ written-at z f 0 vs j l room
 
 -- ---- a frame is given back
 pub free-words-length : (m : List ℕ) (f l : ℕ) → length (freeWords m f l) ≡ length m

@@ -15,6 +15,7 @@ use Rattle.spec.specs.Entry.{present, entryLimit}
 use Rattle.pool.specs.declared.Area.{Area}
 use Rattle.pool.specs.declared.Pool.{Pool}
 use Rattle.pool.specs.declared.Way.the-variants.{To, Not}
+use Rattle.pool.specs.Header.{guestRoom}
 use Rattle.area.specs.declared.Look.the-variants.{Seen}
 use Rattle.pool.specs.Pool.{end, noneOf}
 use Rattle.area.specs.Tree.{lookupOf, roomOf, enterOf, placeOf, insertOf}
@@ -71,7 +72,7 @@ pub record Opened (a : Area) (m : List ℕ) (guest : List ℕ → ℕ) : Type 0 
   pub beside : Beside a m memory
 
 pub holds-top : (a : Area) (guest : List ℕ → ℕ) (m : List ℕ) → a .base + a .size ≤ 65536 → a .levels < 8 → (a .base + a .size) * 512 ≤ length m
-    → 0 < a .levels → 0 < a .size → guest [] < 65536 → Opened a m guest
+    → 0 < a .levels → 0 < a .size → guest [] < guestRoom → Opened a m guest
 unfolding noneOf
 holds-top a guest m sm fl lo deep room thin =
     let e = enter-is (dropped a guest m sm fl lo) refl deep thin room in

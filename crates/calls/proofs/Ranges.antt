@@ -38,6 +38,10 @@ module _ (r : Record) (len : ℕ) (e : fitsOf r len ≡ true) where
   pub fits-deep : 1 ≤ r .layout .levels
   fits-deep = omega (arith, fits-layout r len e .sizes .deep)
 
+  -- the marked levels that a large page may lie above
+  pub fits-turns : 2 ≤ r .layout .levels
+  fits-turns = omega (arith, fits-layout r len e .sizes .deep)
+
 -- the bytes of a request that passes its tests lie in one word; legal: its address is
 pub fits-inside : (legal : Bool) (a w : ℕ) → widthFits w ≡ true → (legal && aligned a w) ≡ true → Inside a w
 fits-inside legal a w d e =

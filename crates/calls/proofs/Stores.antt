@@ -24,15 +24,16 @@ use Rattle.choice.specs.declared.Tally.{Tally}
 use Rattle.choice.specs.Window.{requestedOf}
 use Rattle.translate.specs.declared.Held.{Held}
 use Rattle.translate.specs.declared.Translated.{Translated}
-use Rattle.translate.specs.Translate.{translation}
+use Rattle.translate.specs.Translate.{translation, translateOf}
 use Rattle.request.specs.declared.Served.{Served}
 use Rattle.request.specs.Access as access
 use Rattle.request.specs.Access.{serving, settledOf, bytesIn, storeFrom, storeOf, plainlyOf}
+use Rattle.request.proofs.Depths.{turn-none, depth-kept}
 use Rattle.request.proofs.Held.{Plain, page-reached, plainly-one, plainly-stores}
 use Rattle.record.specs.declared.Head.{Head}
 use Rattle.record.specs.declared.Record.{Record}
 use Rattle.record.specs.Record.{configOf, recordBy, headTables, headTally}
-use Rattle.calls.specs.Calls.{hostTop, rootOf, heldOf, headHeld, depthAt, servedBy, tallyAfter, windowedBy, chargedIn, chargeAt, plainStore, storeBy, storedBy, storedOf, translatedOf, ended, refused, turnIn, finishedBy, settledTurn}
+use Rattle.calls.specs.Calls.{hostTop, rootOf, heldOf, headHeld, depthAt, requestDepth, servedBy, tallyAfter, windowedBy, chargedIn, chargeAt, plainStore, storeBy, storedBy, storedOf, translatedOf, ended, refused, turnIn, finishedBy, settledTurn}
 use Rattle.entry.specs.declared.HostPhysical.{HostPhysical}
 use Rattle.automatic.specs.declared.Moved.{Moved}
 use Rattle.automatic.specs.Moves.{Move, moved, movedIn, keptBy}
@@ -69,12 +70,12 @@ module _ (r : Record) (off : r .guest .choice .tally .on ≡ 0) where
 
   pub off-store : (a w v : ℕ) (o : After Translated) (x : Walked) → plainStore r a w v o ≡ storedBy r a w v o x
   unfolding chargeAt
-  off-store a w v o (walked.Arrived t y n) = rw (eq-eqb (r .guest .choice .tally .on) 0 off)
+  off-store a w v o (walked.Arrived y t n) = rw (eq-eqb (r .guest .choice .tally .on) 0 off)
   off-store a w v o (walked.Faulted x n) = refl
   off-store a w v o walked.Damaged = refl
 
   pub off-call : (m : List ℕ) (a w v : ℕ)
-      → servedBy r (storeOf (configOf r) (hostTop r) m (heldOf r) (rootOf r) a w (depthAt r a) v) ≡ storedOf r m a w v
+      → servedBy r (storeOf (configOf r) (hostTop r) m (heldOf r) (rootOf r) a w (requestDepth r m a) v) ≡ storedOf r m a w v
   unfolding storeOf translatedOf
   off-call m a w v =
       off-window (storeFrom (configOf r) (hostTop r) (rootOf r) (heldOf r) a w v (translatedOf r m true a)) ∙ off-store a w v (translatedOf r m true a) (translatedOf r m true a .result .walked)
@@ -97,13 +98,14 @@ plain-stored r m a w v n k =
     let c = configOf r in
     let p = plainly-one c m (heldOf r) a w (depthAt r a) v n k in
     let went = page-reached c (hostTop r) m (heldOf r) (rootOf r) true a (depthAt r a) (p .page) (p .writable) (p .none) (p .found) in
+    let kept : requestDepth r m a ≡ depthAt r a = depth-kept c (hostTop r) m (heldOf r) (rootOf r) a (depthAt r a) (turn-none (depthAt r a) (p .none)) in
     ap (windowedBy r) (plainly-stores c (hostTop r) m (heldOf r) (rootOf r) a w (depthAt r a) v n k)
     ∙ ap (plainStore r a w v) went
     ∙ ap (storeBy r a w v (came p) (p .page) (c .levels)) (nobody (eqb (r .guest .choice .tally .on) 0) ∙ ap (λ b. cond (eqb (r .guest .choice .tally .on) 0) charge.Nobody (cond b (chargedOf c m (heldOf r .pool .fresh) (p .page .0) (wordOf a)) charge.Nobody)) (sym (p .unwatched)))
-    ∙ ap (λ (o : After Translated). storedBy r a w v o (o .result .walked)) (sym went)
+    ∙ ap (λ (o : After Translated). storedBy r a w v o (o .result .walked)) (sym (ap (translateOf c (hostTop r) m (heldOf r) (rootOf r) true a) kept ∙ went))
   where
     came : Plain (configOf r) m (heldOf r) a w (depthAt r a) v n → After Translated
-    came p = yields (translation (heldOf r) 0 (walked.Arrived (p .page) (p .writable) (r .layout .levels)) false) m
+    came p = yields (translation (heldOf r) 0 (walked.Arrived (p .writable) (p .page) (r .layout .levels)) false) m
 
     nobody : (b : Bool) → charge.Nobody ≡ cond b charge.Nobody charge.Nobody
     nobody true = refl
@@ -111,7 +113,7 @@ plain-stored r m a w v n k =
 
 -- a store with the choice on, by its charge
 pub on-store : (r : Record) → r .guest .choice .tally .on ≢ 0 → (a w v : ℕ) (o : After Translated) (t : HostPhysical) (y : Bool) (n : ℕ) (x : Charge)
-    → o .result .walked ≡ walked.Arrived t y n → chargedIn (configOf r) (o .result .held) (o .memory) (t .0) (wordOf a) ≡ x
+    → o .result .walked ≡ walked.Arrived y t n → chargedIn (configOf r) (o .result .held) (o .memory) (t .0) (wordOf a) ≡ x
     → storeBy r a w v o t n x ≡ storedBy r a w v o (o .result .walked)
 unfolding chargeAt
 on-store r on a w v o t y n x came e =

@@ -50,7 +50,7 @@ use Rattle.record.specs.Open.{openOf}
 use Rattle.translate.specs.declared.Held.{Held}
 use Rattle.request.specs.declared.Served.{Served}
 use Rattle.translate.specs.declared.Translated.{Translated}
-use Rattle.translate.specs.Translate.{holding, translateOf}
+use Rattle.translate.specs.Translate.{holding, translateOf, depthOf}
 use Rattle.request.specs.declared.Put.{Put}
 use Rattle.request.specs.Access as access
 use Rattle.request.specs.Access.{settledOf, droppedOf, bytesIn, loadOf, storeFrom, deviceOf}
@@ -194,9 +194,13 @@ lookupAt r a = lookupIn (r .layout .levels) (r .guest .marks) a
 abbrev pub depthAt : Record → ℕ → ℕ
 depthAt r a = lookupAt r a .depth
 
+-- the depth of a request, which a large page on its way may make 0
+abbrev pub requestDepth : Record → List ℕ → ℕ → ℕ
+requestDepth r m a = depthOf (configOf r) (hostTop r) m (heldOf r) (rootOf r) a (depthAt r a)
+
 -- the translation of an address
 unfoldable pub translatedOf : Record → List ℕ → Bool → ℕ → After Translated
-translatedOf r m st a = translateOf (configOf r) (hostTop r) m (heldOf r) (rootOf r) st a (depthAt r a)
+translatedOf r m st a = translateOf (configOf r) (hostTop r) m (heldOf r) (rootOf r) st a (requestDepth r m a)
 
 -- the tests after 3: 15 unless it is a width (wide), then 4 unless the address is one of its bytes (ok)
 abbrev pub admitted : Bool → Bool → Record → List ℕ → After Reply → After Reply
@@ -211,7 +215,7 @@ addressOk d c a w = cond d (deviceFits c a) (addressFits c a) && aligned a w
 
 unfoldable pub loadCall : Record → List ℕ → ℕ → ℕ → After Reply
 loadCall r m a w =
-    placed r m w (addressOk false (configOf r) a w) (windowedBy r (loadOf (configOf r) (hostTop r) m (heldOf r) (rootOf r) a w (depthAt r a)))
+    placed r m w (addressOk false (configOf r) a w) (windowedBy r (loadOf (configOf r) (hostTop r) m (heldOf r) (rootOf r) a w (requestDepth r m a)))
 
 -- what a store to word i of host frame t is charged to, with these paths held: nobody if the frame is not watched
 unfoldable pub chargedIn : Config → Held → List ℕ → ℕ → ℕ → Charge
@@ -254,7 +258,7 @@ storeBy r a w v o t n charge.Damaged = refused r 11 (o .memory)
 
 -- a store by what its translation came to
 abbrev pub storedBy : Record → ℕ → ℕ → ℕ → After Translated → Walked → After Reply
-storedBy r a w v o (walked.Arrived t y n) = storeBy r a w v o t n (chargeAt r (o .result .held) (o .memory) (t .0) (wordOf a))
+storedBy r a w v o (walked.Arrived y t n) = storeBy r a w v o t n (chargeAt r (o .result .held) (o .memory) (t .0) (wordOf a))
 storedBy r a w v o (walked.Faulted x n) = plainStore r a w v o
 storedBy r a w v o walked.Damaged = plainStore r a w v o
 

@@ -406,7 +406,7 @@ fn store_from(
     }
 }
 
-// A store that was let through, at its depth, by its translation: 11.
+// A store that was let through, at the depth that its marks give, by its translation: 11.
 fn store_translated(
     head: Head,
     place: &mut [u64; 64],
@@ -418,7 +418,7 @@ fn store_translated(
     depth: u64,
     value: u64,
 ) -> Turn
-    requires { ⌜ (Ready (recordBy head (now place) (now ring) (now order))) × (head .tally .on ≢ 0) × (HeldFits (config (head .layout)) (heldIn head)) × (Inside (address .0) width) × (depth ≡ depthAt (recordBy head (now place) (now ring) (now order)) (address .0)) ⌝ }
+    requires { ⌜ (Ready (recordBy head (now place) (now ring) (now order))) × (head .tally .on ≢ 0) × (HeldFits (config (head .layout)) (heldIn head)) × (Inside (address .0) width) × (2 ≤ head .layout .levels) × (depth ≡ depthAt (recordBy head (now place) (now ring) (now order)) (address .0)) ⌝ }
     ensures { λ r. ⌜ yields (turnIn (now (place .exit)) (now (ring .exit)) (now (order .exit)) r) (now (mem .exit)) ≡ storedOf (recordBy head (now (place .entry)) (now (ring .entry)) (now (order .entry))) (now (mem .entry)) (address .0) width value ⌝ }
 {
     let request = Request {

@@ -62,7 +62,7 @@ fn ends_at(mem: &[u64], table: u64, index: u64, frame: u64) -> bool
     ensures { λ r. ⌜ r ≡ endsAt (now (mem .entry)) table index frame ⌝ }
 {
     if pool::level(mem, frame) == 1 {
-        if pool::guest(mem, frame) == table {
+        if pool::stands_for(mem, frame, table) {
             return entry::present(pool::entry_at(mem, frame, index));
         }
     }

@@ -23,7 +23,8 @@ use Rattle.walk.proofs.Stands.{Stands, plainWalked, same-host, same-word, asked
 use Rattle.accessed.specs.Entries.{bitsIn}
 use Rattle.translate.specs.Translate.{whole, owingBy, checkedBy, checkedOf}
 use Rattle.request.specs.Access.{setBy, bitsOf}
-use Rattle.spec_laws.proofs.Keeps.{InGuestArea}
+use Rattle.spec_laws.proofs.Keeps.{InGuestArea, area-real, PlaceIn}
+use Rattle.spec_laws.proofs.Parts.{lower}
 
 module _ (c : Config) (mach : Machine) (ht : ℕ) (m : List ℕ) (st : Stands c mach ht m) where
   abbrev w : World
@@ -33,7 +34,7 @@ module _ (c : Config) (mach : Machine) (ht : ℕ) (m : List ℕ) (st : Stands c 
   v = memoryWorld c ht m
 
   -- what memory answers to a walk of guest tables is what the machine answers
-  module _ (p : Walk Fault Place) (R : Place → Type 0) (a : Guest c (InGuestArea c) p R) where
+  module _ (p : Walk Fault Place) (R : Place → Type 0) (a : Guest c (InGuestArea c) (area-real c) p R) where
     pub walk-words : All (SameWord w v) ((trace w p) .reads)
     unfolding world memoryWorld
     walk-words = all-map (λ x. InGuestArea c (x .0) × (x .1 < 512)) (SameWord w v) ((trace w p) .reads) (λ x b. same-word c mach ht m st (x .0) (x .1) (b .0)) (asked c mach ht m st p R a .reads)
@@ -45,15 +46,15 @@ module _ (c : Config) (mach : Machine) (ht : ℕ) (m : List ℕ) (st : Stands c 
     walk-lacks b =
         ap (λ (t : Trace Fault Place). lacks v b (t .reads)) (stands-trace c mach ht m st p R a) ∙ lacks-on w v b ((trace w p) .reads) walk-words
 
-    pub walk-owed : (b : Bool) → owed v b ((trace v p) .reads) ((trace v p) .uses) ≡ owed w b ((trace w p) .reads) ((trace w p) .uses)
-    walk-owed b =
-        ap (λ (t : Trace Fault Place). owed v b (t .reads) (t .uses)) (stands-trace c mach ht m st p R a)
-        ∙ owed-on w v b ((trace w p) .reads) ((trace w p) .uses) walk-words walk-hosts
+    pub walk-owed : (b : Bool) (n : ℕ) → owed v b n ((trace v p) .reads) ((trace v p) .uses) ≡ owed w b n ((trace w p) .reads) ((trace w p) .uses)
+    walk-owed b n =
+        ap (λ (t : Trace Fault Place). owed v b n (t .reads) (t .uses)) (stands-trace c mach ht m st p R a)
+        ∙ owed-on w v b n ((trace w p) .reads) ((trace w p) .uses) walk-words walk-hosts
 
   -- ---- the whole walk
   module _ (small : mach .root < 2 ^ frameBits c) (b : Bool) (a : ℕ) where
-    asks : Guest c (InGuestArea c) (whole c b (mach .root) a) (λ r. InGuestArea c (r .0))
-    asks = walk-asks c (InGuestArea c) b (mach .root) (addressIndexes c a) small (indexes-all (c .levels) (pageOf a))
+    asks : Guest c (InGuestArea c) (area-real c) (whole c b (mach .root) a) (λ r. PlaceIn c (lower (c .levels) (addressIndexes c a)) (r .0))
+    asks = walk-asks c (InGuestArea c) (area-real c) b (mach .root) (addressIndexes c a) small (indexes-all (c .levels) (pageOf a))
 
     pub whole-trace : trace v (whole c b (mach .root) a) ≡ plain c mach b a
     unfolding plain
@@ -63,17 +64,17 @@ module _ (c : Config) (mach : Machine) (ht : ℕ) (m : List ℕ) (st : Stands c 
     unfolding plain
     whole-walked = root-walked c mach ht m st b (mach .root) (addressIndexes c a) small (indexes-all (c .levels) (pageOf a))
 
-    pub whole-owed : owed v b ((trace v (whole c b (mach .root) a)) .reads) ((trace v (whole c b (mach .root) a)) .uses) ≡ owed w b ((plain c mach b a) .reads) ((plain c mach b a) .uses)
+    pub whole-owed : owed v b (c .levels) ((trace v (whole c b (mach .root) a)) .reads) ((trace v (whole c b (mach .root) a)) .uses) ≡ owed w b (c .levels) ((plain c mach b a) .reads) ((plain c mach b a) .uses)
     unfolding plain
-    whole-owed = walk-owed (whole c b (mach .root) a) _ asks b
+    whole-owed = walk-owed (whole c b (mach .root) a) _ asks b (c .levels)
 
     -- what its bits say where it is granted
     pub whole-checked : (d : ℕ) (r : Place) → (plain c mach b a) .result ≡ granted r
-        → checkedOf c ht m (mach .root) b a d ≡ owingBy d (lacks w b ((plain c mach b a) .reads)) (owed w b ((plain c mach b a) .reads) ((plain c mach b a) .uses))
+        → checkedOf c ht m (mach .root) b a d ≡ owingBy d (lacks w b ((plain c mach b a) .reads)) (owed w b (c .levels) ((plain c mach b a) .reads) ((plain c mach b a) .uses))
     unfolding checkedOf plain
     whole-checked d r e =
-        ap₂ (λ l o. checkedBy d l o (walkedOf c ht m 0 (whole c b (mach .root) a))) (walk-lacks (whole c b (mach .root) a) _ asks b) (walk-owed (whole c b (mach .root) a) _ asks b)
-        ∙ ap (checkedBy d (lacks w b ((plain c mach b a) .reads)) (owed w b ((plain c mach b a) .reads) ((plain c mach b a) .uses))) (whole-walked ∙ ap (λ x. plainWalked x ((plain c mach b a) .count)) e)
+        ap₂ (λ l o. checkedBy d l o (walkedOf c ht m 0 (whole c b (mach .root) a))) (walk-lacks (whole c b (mach .root) a) _ asks b) (walk-owed (whole c b (mach .root) a) _ asks b (c .levels))
+        ∙ ap (checkedBy d (lacks w b ((plain c mach b a) .reads)) (owed w b (c .levels) ((plain c mach b a) .reads) ((plain c mach b a) .uses))) (whole-walked ∙ ap (λ x. plainWalked x ((plain c mach b a) .count)) e)
 
     -- its reads, in the guest area
     pub whole-reads : All (λ x. InGuestArea c (x .0) × (x .1 < 512)) ((plain c mach b a) .reads)

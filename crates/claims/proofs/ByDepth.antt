@@ -2,9 +2,11 @@
 -- that of the book's marks then set. Document 01, "Counts".
 -- Assumes nothing.
 use mathlib.Core.Path.{_≡_, refl, ap, _∙_, subst}
-use Prim.Native.Nat.{ℕ, suc, _+_, _*_, _≤_}
+use Prim.Native.Nat.{ℕ, suc, _+_, _-_, _*_, _≤_}
 use native.Mathlib.Omega.{arith}
-use mathlib.Core.Bool.{Bool}
+use mathlib.Core.Bool.{Bool, true, false, cond}
+use lib.Dec.{leb}
+use borrow.Author.Tests.{leb-true, leb-false}
 use mathlib.Core.List.{List}
 use mathlib.Core.Option.{Option, none, some}
 use lib.ListN.{length}
@@ -12,31 +14,32 @@ use Rattle.spec.specs.declared.Answer.{Answer}
 use Rattle.spec.specs.declared.Answer.the-variants as answer
 use Rattle.spec.specs.Answer as say
 use Rattle.spec.specs.Answer.{Line, line}
-use Rattle.spec.specs.Book.{depth}
-use Rattle.spec.specs.Call.{Call, addressIndexes}
+use Rattle.spec.specs.Config.{Config}
+use Rattle.spec.specs.Call.{Call}
+use Rattle.spec.specs.Count.{grantedReads}
 use Rattle.spec.specs.Run.{State, after, opened}
 use Rattle.walk.specs.declared.Walked.{Walked}
 use Rattle.walk.specs.declared.Walked.the-variants as walked
 use Rattle.record.specs.declared.Record.{Record}
 use Rattle.record.specs.Record.{configOf, configBy}
 use Rattle.record.specs.Open.{refusalOf}
-use Rattle.calls.specs.Calls.{depthAt, callOf}
+use Rattle.calls.specs.Calls.{callOf}
 use Rattle.claims.specs.Run.{runOf}
 use Rattle.claims.proofs.Invariant.{Inv}
 use Rattle.claims.proofs.Demands.{Beside, after-run, run-config}
-use Rattle.claims.specs.Plain.{Grants, GrantedWith, requestAt, isStore, grantedLine, plainWalk, AsWalked, Unrefused}
-use Rattle.claims.proofs.Plain.{deep, as-walked}
+use Rattle.claims.specs.Plain.{Grants, GrantedWith, requestAt, isStore, grantedLine, readsOf, readsOn, plainWalk, AsWalked, Unrefused}
+use Rattle.claims.proofs.Plain.{reads-on, as-walked}
 use Rattle.words.specs.After.{After}
 use Rattle.calls.specs.declared.Reply.{Reply}
 
 -- ---- by lines
-abbrev readsOf : Line → ℕ
-readsOf say.ok = 0
-readsOf (say.value w n x) = n
-readsOf (say.done n x) = n
-readsOf (say.fault c l g n x) = 0
-readsOf (say.no n) = 0
-readsOf (say.figures n x t) = 0
+abbrev lineReads : Line → ℕ
+lineReads say.ok = 0
+lineReads (say.value w n x) = n
+lineReads (say.done n x) = n
+lineReads (say.fault c l g n x) = 0
+lineReads (say.no n) = 0
+lineReads (say.figures n x t) = 0
 
 -- ---- one request
 abbrev GrantsLine : Line → Type 0
@@ -63,7 +66,7 @@ unrefused (answer.Faulted y n x) g = tt
 unrefused (answer.Refused n) g = g
 unrefused (answer.Figures n x t) g = tt
 
-granted-with : (x : Answer) (n : ℕ) → Grants x → readsOf (line x) ≡ n → GrantedWith n x
+granted-with : (x : Answer) (n : ℕ) → Grants x → lineReads (line x) ≡ n → GrantedWith n x
 granted-with answer.Ok n g e = g
 granted-with (answer.Value w k x) n g e = e
 granted-with (answer.Done k x) n g e = e
@@ -71,7 +74,7 @@ granted-with (answer.Faulted y k x) n g e = g
 granted-with (answer.Refused k) n g e = g
 granted-with (answer.Figures k x t) n g e = g
 
-reads-line : (a w : ℕ) (v : Option ℕ) (e n x : ℕ) → readsOf (grantedLine a w v e n x) ≡ n
+reads-line : (a w : ℕ) (v : Option ℕ) (e n x : ℕ) → lineReads (grantedLine a w v e n x) ≡ n
 reads-line a w none e n x = refl
 reads-line a w (some v) e n x = refl
 
@@ -79,28 +82,25 @@ module _ (s : State) (r : Record) (m : List ℕ) (inv : Inv s r m) (beside : Bes
   abbrev e : After Reply
   e = callOf (requestAt a w v) r m
 
-  abbrev d : ℕ
-  d = depth (s .book .marks) (addressIndexes (configOf r) a)
-
-  reads : Grants (e .result .answer) → GrantedWith (4 + 4 * d) (e .result .answer) × (4 + 4 * d ≤ 24)
-  reads g = by (deep s r m inv beside a) (plainWalk r m (isStore v) a) (as-walked s r m inv beside a w v (unrefused (e .result .answer) g))
+  reads : Grants (e .result .answer) → GrantedWith (readsOn (configOf r) s (isStore v) a) (e .result .answer) × (readsOn (configOf r) s (isStore v) a ≤ 24)
+  reads g = by (plainWalk r m (isStore v) a) (as-walked s r m inv beside a w v (unrefused (e .result .answer) g))
     where
-      by : depthAt r a ≡ d → (y : Walked) → AsWalked r m a w v e y → GrantedWith (4 + 4 * d) (e .result .answer) × (4 + 4 * d ≤ 24)
-      by k (walked.Arrived t y n) q =
-          let many = ap (λ x. x + x * depthAt r a) four ∙ ap (λ x. 4 + 4 * x) k in
-          let most = subst (λ x. x + x * depthAt r a ≤ x + x * suc x) four (q .most) in
-          (granted-with (e .result .answer) (4 + 4 * d) g (ap readsOf (q .says) ∙ reads-line a w v _ _ _ ∙ many), omega (arith, most, k))
-      by k (walked.Faulted y n) q = absurd (subst GrantsLine (q .says) (grants-line (e .result .answer) g))
-      by k walked.Damaged q = absurd q
+      by : (y : Walked) → AsWalked r m a w v e y → GrantedWith (readsOn (configOf r) s (isStore v) a) (e .result .answer) × (readsOn (configOf r) s (isStore v) a ≤ 24)
+      by (walked.Arrived y t n) q =
+          let same = reads-on s r m inv beside (isStore v) a in
+          let most = subst (λ x. readsOf r m (isStore v) a ≤ x + x * suc x) four (q .most) in
+          (granted-with (e .result .answer) (readsOn (configOf r) s (isStore v) a) g (ap lineReads (q .says) ∙ reads-line a w v _ _ _ ∙ same), omega (arith, most, same))
+      by (walked.Faulted y n) q = absurd (subst GrantsLine (q .says) (grants-line (e .result .answer) g))
+      by walked.Damaged q = absurd q
 
--- after a granted opening, on any memory, whatever it chooses, and any list of calls: a load or a store that is granted reports 4 + 4 · d
--- words, at most 24, where d is the depth of its address by the book's marks then set
+-- after a granted opening, on any memory, whatever it chooses, and any list of calls: a load or a store that is granted reports the words that
+-- `grantedReads` says of its depth and of the guest entries on its way, on machine and book then, and at most 24
 pub run-reads : (m : List ℕ) (h s : ℕ) (bits on : Bool) (xs : List Call) → refusalOf (length m) h s bits ≡ 0 → (a w : ℕ) (v : Option ℕ)
     → let u = runOf m h s bits on xs in
     let e = callOf (requestAt a w v) (u .result .unit) (u .memory) in
     let c = configBy (length m) h s bits in
-    let d = depth ((after xs (opened c on m)) .book .marks) (addressIndexes c a) in
-    Grants (e .result .answer) → GrantedWith (4 + 4 * d) (e .result .answer) × (4 + 4 * d ≤ 24)
+    let n = readsOn c (after xs (opened c on m)) (isStore v) a in
+    Grants (e .result .answer) → GrantedWith n (e .result .answer) × (n ≤ 24)
 run-reads m h s bits on xs g a w v =
     let u = runOf m h s bits on xs in
     let c = configBy (length m) h s bits in
@@ -108,5 +108,13 @@ run-reads m h s bits on xs g a w v =
     let k = after-run m h s bits on xs g in
     let same = run-config m h s bits on xs g in
     let e = callOf (requestAt a w v) (u .result .unit) (u .memory) in
-    subst (λ x. Grants (e .result .answer) → GrantedWith (4 + 4 * depth (t .book .marks) (addressIndexes x a)) (e .result .answer) × (4 + 4 * depth (t .book .marks) (addressIndexes x a) ≤ 24)) same
+    subst (λ x. Grants (e .result .answer) → GrantedWith (readsOn x t (isStore v) a) (e .result .answer) × (readsOn x t (isStore v) a ≤ 24)) same
     (reads t (u .result .unit) (u .memory) (k .1) (k .2) (ap (λ x. x .levels) same) a w v)
+
+-- without large pages a walk has an entry a level: 4 + 4 · d words at depth d
+pub small-reads : (c : Config) (d : ℕ) → c .levels ≡ 4 → d ≤ 5 → grantedReads c d 4 ≡ 4 + 4 * d
+small-reads c d four l = ap (λ n. cond (leb d n) ((n - d) + (4 - (n - d)) * suc n) (n + 4 * suc n)) four ∙ go (leb d 4) refl
+  where
+    go : (b : Bool) → leb d 4 ≡ b → cond b ((4 - d) + (4 - (4 - d)) * 5) (4 + 4 * 5) ≡ 4 + 4 * d
+    go true e = omega (arith, leb-true d 4 e)
+    go false e = omega (arith, leb-false d 4 e, l)

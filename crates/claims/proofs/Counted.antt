@@ -20,21 +20,22 @@ use Rattle.spec.specs.Entry.{wordOf, pageOf, indexes}
 use Rattle.spec.specs.Bytes.{widthFits, bytesAt, withBytes}
 use Rattle.spec.specs.Walk as result
 use Rattle.spec.specs.Walk.{World, Trace, granted, trace}
-use Rattle.spec.specs.Plain.{Place, levels, walk, upper, shadowPart, directPart}
-use Rattle.spec.specs.Machine.{place, world}
+use Rattle.spec.specs.Plain.{Place, Lead, levels, walk, upper, shadowPart, directPart}
+use Rattle.spec.specs.Machine.{Machine, place, world}
 use Rattle.spec.specs.Bits.{hasBits, isLast, lacks}
 use Rattle.spec.specs.Prefix.{All, begins}
 use Rattle.spec.specs.Choice.{chargesForMark}
-use Rattle.spec.specs.Book.{Held, Book, depth, find, dropWord, dropPrefix, readsWord, watched}
+use Rattle.spec.specs.Book.{Held, Book, find, dropWord, dropPrefix, readsWord, watched}
 use Rattle.spec.specs.Call as call
 use Rattle.spec.specs.Call.{Call, addressIndexes}
+use Rattle.spec.specs.Count as count
 use Rattle.spec.specs.Count.{serves, one}
 use Rattle.spec.specs.Run.{State, after, opened}
 use Rattle.spec_laws.proofs.Lists.{is-true, or-second, all-kept}
 use Rattle.spec_laws.proofs.Indexes.{indexes-length, indexes-all}
-use Rattle.spec_laws.proofs.Asks.{levels-asks, walk-asks}
+use Rattle.spec_laws.proofs.Asks.{placed-frame, levels-asks, walk-asks}
 use Rattle.spec_laws.proofs.Parts.{direct-trace}
-use Rattle.spec_laws.proofs.Keeps.{Valid, right-deep, InGuestArea}
+use Rattle.spec_laws.proofs.Keeps.{Valid, right-deep, InGuestArea, area-real}
 use Rattle.spec_laws.proofs.Covered.{Covered}
 use Rattle.entry.proofs.Entries.{word-fits}
 use Rattle.words.specs.Words.{wordIn}
@@ -81,7 +82,7 @@ use Rattle.automatic.specs.Moves.{Move, moved, withShadow, heldAfter, markedOf,
 use Rattle.translate.proofs.Fits.{ArrivedIn}
 use Rattle.translate.proofs.Leaves.{translate-leaves}
 use Rattle.request.proofs.Leaves.{drop-leaves}
-use Rattle.calls.specs.Calls.{hostTop, heldOf, rootOf, headHeld, withHeld, ended, refused, windowedBy, admitted, depthAt, addressOk, translatedOf, chargedIn, chargeAt, finishedBy, paidBy, storeChargedOf, storeBy, storedBy, loadCall, storeCall}
+use Rattle.calls.specs.Calls.{hostTop, heldOf, rootOf, headHeld, withHeld, ended, refused, windowedBy, admitted, requestDepth, addressOk, translatedOf, chargedIn, chargeAt, finishedBy, paidBy, storeChargedOf, storeBy, storedBy, loadCall, storeCall}
 use Rattle.claims.specs.Run.{guestArea, runOf}
 use Rattle.claims.specs.Counted.{SameWords, SameLoad, SameStore, countedOf, touchedBy, touchedOf, HeldOrPlain, LacksNone, SetsNone, ownOf, SameOwn, inWindow, References, Touches, Refuses, SameTables}
 use Rattle.claims.proofs.Invariant.{longer, frames, Inv}
@@ -90,6 +91,7 @@ use Rattle.claims.proofs.Puts.{area-store}
 use Rattle.claims.proofs.SafeMoves.{charged-stays}
 use Rattle.claims.proofs.Paths.{path-upper, path-lower}
 use Rattle.claims.proofs.Found as found
+use Rattle.claims.proofs.Depths.{depth-is}
 use Rattle.claims.proofs.Bits.{walk-lacks}
 use Rattle.claims.proofs.Translates as translates
 use Rattle.claims.proofs.Demands.{after-run}
@@ -114,7 +116,7 @@ lacks-later w st [] ys h = h
 lacks-later w st (x ∷ xs) ys h = lacks-later w st xs ys (or-second (not (hasBits (st && isLast (xs ++ ys)) (w .wordAt (x .0) (x .1)))) (lacks w st (xs ++ ys)) h)
 
 -- ---- the moves of marks over shadow tables that hold some paths, whatever the guest words: no damage is met
-module _ (F G : List ℕ → ℕ) (root : ℕ) (e : Held → ℕ) where
+module _ (F : List ℕ → ℕ) (G : List ℕ → Lead) (root : ℕ) (e : Held → ℕ) where
   -- the shadow tables of q in the memory n hold the paths
   record Tabled (q : Record) (n : List ℕ) : Type 0 where
     held : List Held
@@ -134,7 +136,7 @@ module _ (F G : List ℕ → ℕ) (root : ℕ) (e : Held → ℕ) where
         record {
           held = dropPrefix (indexes k p) (h .held);
           holds = d .holds;
-          entries = record { all = all-kept _ (λ y. not (begins (indexes k p) (y .path))) (h .held) (h .entries .all) };
+          entries = record { spans = h .entries .spans; all = all-kept _ (λ y. not (begins (indexes k p) (y .path))) (h .held) (h .entries .all) };
         },
       ) in
       subst (λ o. Moves (moves.leftBy q (withMarks q t x) f o)) (sym (d .done)) left
@@ -184,13 +186,16 @@ module _ (s : State) (r : Record) (m : List ℕ) (inv : Inv s r m) (a : ℕ) whe
   abbrev path : List ℕ
   path = found.path s r m inv a
 
-  at : depthAt r a ≡ deep
-  at = found.depth-is s r m inv a
+  at : requestDepth r m a ≡ deep
+  at = depth-is s r m inv a
+
+  three : 3 ≤ c .levels
+  three = omega (arith, found.rules s r m inv .sizes .deep)
 
   -- ---- the premises
 
   -- the path that the book holds
-  by-path : (st : Bool) → HeldOrPlain c (s .book) st a → deep ≤ c .levels → (h : Held) × (find path (s .book .held) ≡ some h) × (servesOf st deep (h .right) ≡ true)
+  by-path : (st : Bool) → HeldOrPlain c (s .machine) (s .book) st a → deep ≤ c .levels → (h : Held) × (find path (s .book .held) ≡ some h) × (servesOf st deep (h .right) ≡ true)
   unfolding HeldOrPlain
   by-path st (inl k) low = go (find path (s .book .held)) refl (subst (λ p. T (serves st deep (find p (s .book .held)))) (path-upper c deep a low) k)
     where
@@ -200,17 +205,15 @@ module _ (s : State) (r : Record) (m : List ℕ) (inv : Inv s r m) (a : ℕ) whe
   by-path st (inr k) low = absurd (omega (arith, low, k))
 
   -- the unit finds it
-  reaches : (st : Bool) → HeldOrPlain c (s .book) st a → Reaches r st a m
+  reaches : (st : Bool) → HeldOrPlain c (s .machine) (s .book) st a → Reaches r st a deep m
   reaches st h = go (leb deep (c .levels)) refl
     where
-      go : (b : Bool) → leb deep (c .levels) ≡ b → Reaches r st a m
+      go : (b : Bool) → leb deep (c .levels) ≡ b → Reaches r st a deep m
       go true q =
           let low = leb→le deep (c .levels) (subst T (sym q) tt) in
           let k = by-path st h low in
-          held (page (frames r m (onto [] path))) (k .0 .right) (subst (λ x. x ≤ c .levels) (sym at) low)
-          (ap (foundOf c m (heldOf r) a) at ∙ found.found-some s r m inv a low (k .0) (k .1))
-          (ap (λ x. servesOf st x (k .0 .right)) at ∙ k .2)
-      go false q = plain (subst (λ x. c .levels < x) (sym at) (nleb→lt deep (c .levels) (subst (λ b. T (not b)) (sym q) tt)))
+          held (page (frames r m (onto [] path))) (k .0 .right) low (found.found-some s r m inv a low (k .0) (k .1)) (k .2)
+      go false q = plain (nleb→lt deep (c .levels) (subst (λ b. T (not b)) (sym q) tt))
 
   -- ---- whom they let off
 
@@ -231,7 +234,8 @@ module _ (s : State) (r : Record) (m : List ℕ) (inv : Inv s r m) (a : ℕ) whe
       unfolding call.plain
       deep-has p g =
           let q = direct c st a deep frame (valid .wide) in
-          let asks = levels-asks c (InGuestArea c) st _ frame (valid .wide) (indexes deep (pageOf a)) (translates.held-in s r m inv covered st a h low e sv) (indexes-all deep (pageOf a)) in
+          let asks = levels-asks c (InGuestArea c) (area-real c) st (0 + deep) frame (valid .wide) (indexes deep (pageOf a)) (omega (arith, low))
+          (placed-frame c (InGuestArea c) (area-real c) (0 + deep) frame (translates.held-in s r m inv covered st a h low e sv)) (indexes-all deep (pageOf a)) in
           let upper-part = trace world-of (shadowPart c st deep (s .machine .root) (addressIndexes c a)) in
           let lower-part = trace world-of (directPart c st deep (frame, valid .wide) (addressIndexes c a)) in
           let lower : trace world-of q ≡ lower-part =
@@ -255,7 +259,7 @@ module _ (s : State) (r : Record) (m : List ℕ) (inv : Inv s r m) (a : ℕ) whe
               (sym (right-deep c (s .machine) h valid (λ l. omega (arith, z, l, ap length (found.find-path path (s .book .held) h e), found.path-length s r m inv a low)))) deep-has
 
     -- only a request whose plain walk on the machine is granted and reads an entry that lacks a bit: it sets the bit, or meets W for it
-    pub sets-none : HeldOrPlain c (s .book) st a → SetsNone r m st a
+    pub sets-none : HeldOrPlain c (s .machine) (s .book) st a → SetsNone r m st a
     unfolding SetsNone
     sets-none h on low =
         let shallow = subst (λ n. n ≤ c .levels) at low in
@@ -270,7 +274,7 @@ module _ (s : State) (r : Record) (m : List ℕ) (inv : Inv s r m) (a : ℕ) whe
     abbrev own : Bool → Bool → List ℕ → List ℕ
     own st sets n = settledOf c (hostTop r) (rootOf r) st a sets n
 
-    same-own : (st : Bool) (n : List ℕ) → Alike r st a m n → SameOwn r m n st a
+    same-own : (st : Bool) (n : List ℕ) → Alike r st a deep m n → SameOwn r m n st a
     unfolding ownOf
     same-own st n l =
         let k = l .own in (
@@ -288,9 +292,9 @@ module _ (s : State) (r : Record) (m : List ℕ) (inv : Inv s r m) (a : ℕ) whe
 
     -- what a load says through such a translation
     load-says : (n : List ℕ) (e : ℕ) (x : Walked) (sets : Bool) → ((j : ℕ) → getD n j 0 ≡ getD m j 0 → getD (own false sets n) j 0 ≡ getD (own false sets m) j 0)
-        → SameWords m n (touchedBy a x) → SameReply n (own false sets n) (loadOn (read.left r false a e x sets n)) (loadOn (read.left r false a e x sets m))
+        → SameWords m n (touchedBy a x) → SameReply n (own false sets n) (loadOn (read.left r false a deep e x sets n)) (loadOn (read.left r false a deep e x sets m))
     unfolding headHeld headTables
-    load-says n e (walked.Arrived t y k) sets q h =
+    load-says n e (walked.Arrived y t k) sets q h =
         (ap (λ b. answer.Value (bytesAt a w b) k e) (q (t .0 * 512 + wordOf a) (h .0)), refl, inr refl)
     load-says n e (walked.Faulted y k) sets q h = (refl, refl, inl refl)
     load-says n e walked.Damaged sets q h = (refl, refl, inl refl)
@@ -303,7 +307,7 @@ module _ (s : State) (r : Record) (m : List ℕ) (inv : Inv s r m) (a : ℕ) whe
 
     -- the load says the same value or fault with the same counts, whatever memory n of that length holds elsewhere. On a held path, with bits
     -- on, that is said of a load that sets no bit and meets no W for one
-    pub words-counted-load : HeldOrPlain c (s .book) false a → SetsNone r m false a
+    pub words-counted-load : HeldOrPlain c (s .machine) (s .book) false a → SetsNone r m false a
         → (n : List ℕ) → length n ≡ length m → SameWords m n (countedOf r m false a) → SameWords m n (touchedOf r m false a) → SameLoad r m n a w
     unfolding touchedOf ownOf headTally
     words-counted-load h clear n e counted touched =
@@ -312,8 +316,8 @@ module _ (s : State) (r : Record) (m : List ℕ) (inv : Inv s r m) (a : ℕ) whe
         (go (widthFits w) (addressOk false c a w))) in
         record { says = x .0; unit = x .1; memory = x .2; own = same-own false n l }
       where
-        l : Alike r false a m n
-        l = alike r false a m n (reaches false h) clear counted
+        l : Alike r false a deep m n
+        l = alike r false a deep m n three at (reaches false h) clear counted
 
         kept : (j : ℕ) → getD n j 0 ≡ getD m j 0 → getD (own false (l .sets) n) j 0 ≡ getD (own false (l .sets) m) j 0
         kept j q =
@@ -325,13 +329,13 @@ module _ (s : State) (r : Record) (m : List ℕ) (inv : Inv s r m) (a : ℕ) whe
         go true false = (refl, refl, inl refl)
         go true true =
             subst (λ (o : After Translated). SameReply n (own false (o .result .sets) n) (loadOn o) (loadOn (translatedOf r m false a))) (sym (l .altered))
-            (subst (λ (o : After Translated). SameReply n (own false (l .sets) n) (loadOn (read.left r false a (l .exits) (l .walked) (l .sets) n)) (loadOn o)) (sym (l .before))
+            (subst (λ (o : After Translated). SameReply n (own false (l .sets) n) (loadOn (read.left r false a deep (l .exits) (l .walked) (l .sets) n)) (loadOn o)) (sym (l .before))
             (load-says n (l .exits) (l .walked) (l .sets) kept (subst (λ (o : After Translated). SameWords m n (touchedBy a (o .result .walked))) (l .before) touched)))
 
     -- ---- the words counted are as many as the references, whatever bits are set
 
-    counts : (st : Bool) → HeldOrPlain c (s .book) st a → (on : After Translated → After Reply)
-        → ((e : ℕ) (x : Walked) (sets : Bool) → Reads (length (countedOf r m st a)) x → References (length (countedOf r m st a)) (on (read.left r st a e x sets m) .result .answer))
+    counts : (st : Bool) → HeldOrPlain c (s .machine) (s .book) st a → (on : After Translated → After Reply)
+        → ((e : ℕ) (x : Walked) (sets : Bool) → Reads (length (countedOf r m st a)) x → References (length (countedOf r m st a)) (on (read.left r st a deep e x sets m) .result .answer))
         → References (length (countedOf r m st a)) (admitted (widthFits w) (addressOk false c a w) r m (on (translatedOf r m st a)) .result .answer)
     counts st h on said = go (widthFits w) (addressOk false c a w)
       where
@@ -339,15 +343,15 @@ module _ (s : State) (r : Record) (m : List ℕ) (inv : Inv s r m) (a : ℕ) whe
         go false b = tt
         go true false = tt
         go true true =
-            let l = comes r st a m (reaches st h) in
+            let l = comes r st a deep m at (reaches st h) in
             subst (λ (o : After Translated). References (length (countedOf r m st a)) (on o .result .answer)) (sym (l .done)) (said (l .exits) (l .walked) (l .sets) (l .count))
 
-    pub load-counted : HeldOrPlain c (s .book) false a → References (length (countedOf r m false a)) (loadCall r m a w .result .answer)
+    pub load-counted : HeldOrPlain c (s .machine) (s .book) false a → References (length (countedOf r m false a)) (loadCall r m a w .result .answer)
     load-counted h =
         subst (λ (x : After Reply). References (length (countedOf r m false a)) (x .result .answer)) (sym (load-fits m refl)) (counts false h loadOn said)
       where
-        said : (e : ℕ) (x : Walked) (sets : Bool) → Reads (length (countedOf r m false a)) x → References (length (countedOf r m false a)) (loadOn (read.left r false a e x sets m) .result .answer)
-        said e (walked.Arrived t y k) sets q = q
+        said : (e : ℕ) (x : Walked) (sets : Bool) → Reads (length (countedOf r m false a)) x → References (length (countedOf r m false a)) (loadOn (read.left r false a deep e x sets m) .result .answer)
+        said e (walked.Arrived y t k) sets q = q
         said e (walked.Faulted y k) sets q = q
         said e walked.Damaged sets q = tt
 
@@ -370,7 +374,7 @@ module _ (s : State) (r : Record) (m : List ℕ) (inv : Inv s r m) (a : ℕ) whe
         chargeOn n = chargeAt r (heldOf r) n (t .0) (wordOf a)
 
         abbrev leftOn : List ℕ → Charge → After Reply
-        leftOn n g = storeBy r a w v (read.left r true a e (walked.Arrived t y k) sets n) t k g
+        leftOn n g = storeBy r a w v (read.left r true a deep e (walked.Arrived y t k) sets n) t k g
 
         -- charged to nobody, after drops that left o; charged, and then after moves that left x
         abbrev writtenOn : After Put → After Reply
@@ -420,7 +424,7 @@ module _ (s : State) (r : Record) (m : List ℕ) (inv : Inv s r m) (a : ℕ) whe
         own-outside n o d =
             let root-fits = subst (λ g. g < 2 ^ frameBits c) (sym (inv .root)) (found.root-small s r m inv) in
             let words = walk-outside c (hostTop r) n o d (whole c true (rootOf r) a) _
-            (walk-asks c (InGuestArea c) true (rootOf r) (indexes (c .levels) (pageOf a)) root-fits (indexes-all (c .levels) (pageOf a))) in
+            (walk-asks c (InGuestArea c) (area-real c) true (rootOf r) (indexes (c .levels) (pageOf a)) root-fits (indexes-all (c .levels) (pageOf a))) in
             record {
               long = own-long c (hostTop r) (rootOf r) true a sets o ∙ d .long ∙ sym (own-long c (hostTop r) (rootOf r) true a sets n);
               same = λ j q. own-alike c (hostTop r) (rootOf r) true a n o (d .long) words sets j (d .same j q);
@@ -474,7 +478,7 @@ module _ (s : State) (r : Record) (m : List ℕ) (inv : Inv s r m) (a : ℕ) whe
             tables : Holds (shadowArea c) false (r .pools .shadow) n (leafAt (entryOf c (frames r m)) (longer (s .book .held))) (frames r m)
             tables = holds-memory (inv .shadow) n long (λ f lo hi. same f hi)
 
-            entries : HeldEntries c (frames r m) (namedIn m (frames r m)) (rootOf r) (entryOf c (frames r m)) (longer (s .book .held))
+            entries : HeldEntries c (frames r m) (namedIn c m (frames r m)) (rootOf r) (entryOf c (frames r m)) (longer (s .book .held))
             entries = found.held-entries s r m inv
 
             -- the drops
@@ -482,17 +486,17 @@ module _ (s : State) (r : Record) (m : List ℕ) (inv : Inv s r m) (a : ℕ) whe
               pool : Pool
               memory : List ℕ
               done : dropsOn n ≡ put pool (one (watched (t .0) (longer (s .book .held)))) true memory
-              tabled : Tabled (frames r m) (namedIn m (frames r m)) (rootOf r) (entryOf c (frames r m)) (withHeld r (record { pool = pool; frame = r .guest .held })) memory
+              tabled : Tabled (frames r m) (namedIn c m (frames r m)) (rootOf r) (entryOf c (frames r m)) (withHeld r (record { pool = pool; frame = r .guest .held })) memory
 
             undamaged : Undamaged
             unfolding droppedOf headHeld headTables
             undamaged = go (watched (t .0) (longer (s .book .held))) refl
               where
                 scanned : Dropped c n (leafAt (entryOf c (frames r m)) (dropWord (t .0) (wordOf a) (longer (s .book .held)))) (frames r m) (scanOf c (Word (page (t .0)) (wordOf a)) (r .pools .shadow) n)
-                scanned = drop-word tables entries (t .0) (wordOf a) (word-fits a)
+                scanned = drop-word tables entries (t .0) (wordOf a) (area-real c (t .0) there) (word-fits a)
 
                 watches : watchedOf c n (r .pools .shadow .fresh) (t .0) ≡ watched (t .0) (longer (s .book .held))
-                watches = watched-is tables entries (t .0)
+                watches = watched-is tables entries (t .0) (area-real c (t .0) there)
 
                 by : Bool → After Put
                 by b = cond b (droppedBy (r .pools .shadow) (scanOf c (Word (page (t .0)) (wordOf a)) (r .pools .shadow) n)) (put (r .pools .shadow) 0 true n)
@@ -505,7 +509,7 @@ module _ (s : State) (r : Record) (m : List ℕ) (inv : Inv s r m) (a : ℕ) whe
                   tabled = record {
                     held = dropWord (t .0) (wordOf a) (longer (s .book .held));
                     holds = scanned .holds;
-                    entries = record { all = all-kept _ (λ h. not (readsWord (t .0) (wordOf a) h)) (longer (s .book .held)) (entries .all) };
+                    entries = record { spans = entries .spans; all = all-kept _ (λ h. not (readsWord (t .0) (wordOf a) h)) (longer (s .book .held)) (entries .all) };
                   };
                 }
                 go false q = record {
@@ -521,7 +525,7 @@ module _ (s : State) (r : Record) (m : List ℕ) (inv : Inv s r m) (a : ℕ) whe
             charges P nobody to = go (eqb (r .guest .choice .tally .on) 0) (watchedOf c n (r .pools .shadow .fresh) (t .0))
               where
                 found-by : P (chargedOf c n (r .pools .shadow .fresh) (t .0) (wordOf a))
-                found-by = elim (charge-is tables entries (t .0) (wordOf a) (word-fits a) true) [ inl x ↦ subst P (sym (x .0)) nobody | inr x ↦ subst P (sym (x .to)) (to (x .number)) ]
+                found-by = elim (charge-is tables entries (t .0) (wordOf a) (area-real c (t .0) there) (word-fits a) true) [ inl x ↦ subst P (sym (x .0)) nobody | inr x ↦ subst P (sym (x .to)) (to (x .number)) ]
 
                 go : (b d : Bool) → P (cond b charge.Nobody (cond d (chargedOf c n (r .pools .shadow .fresh) (t .0) (wordOf a)) charge.Nobody))
                 go true d = nobody
@@ -545,46 +549,46 @@ module _ (s : State) (r : Record) (m : List ℕ) (inv : Inv s r m) (a : ℕ) whe
                 to q =
                     let u = withHeld r (record { pool = d .pool; frame = r .guest .held }) in
                     let x = moves.chargedOf u (d .memory) q in
-                    let ok = charged-moves (frames r m) (namedIn m (frames r m)) (rootOf r) (entryOf c (frames r m)) q u (d .memory) (d .tabled) .0 in
+                    let ok = charged-moves (frames r m) (namedIn c m (frames r m)) (rootOf r) (entryOf c (frames r m)) q u (d .memory) (d .tabled) .0 in
                     let out = subst (λ (o : After Put). SameOutside (c .hosts) (c .shadows) n (moves.chargedOf (droppedTo o) (o .memory) q .memory)) (d .done) (moved-outside n q) in
                     let i = e + one (watched (t .0) (longer (s .book .held))) in
                     subst (λ o. Touches r n k i (t .0) a w v (paidOn q o)) (sym (d .done))
                     (subst (λ b. Touches r n k i (t .0) a w v (cond b (ended (x .result .unit) (answer.Done k i) (bytesIn (own true sets (x .memory)) (t .0) a w v)) (refused r 11 (x .memory)))) (sym ok)
                     (finishes n (x .memory) out p (x .result .unit) i))
 
-      pub store-counted : HeldOrPlain c (s .book) true a → References (length (countedOf r m true a)) (storeCall r m a w v .result .answer)
+      pub store-counted : HeldOrPlain c (s .machine) (s .book) true a → References (length (countedOf r m true a)) (storeCall r m a w v .result .answer)
       store-counted h =
           subst (λ (x : After Reply). References (length (countedOf r m true a)) (x .result .answer)) (sym (store-fits m refl)) (counts true h storeOn said)
         where
-          said : (e : ℕ) (x : Walked) (sets : Bool) → Reads (length (countedOf r m true a)) x → References (length (countedOf r m true a)) (storeOn (read.left r true a e x sets m) .result .answer)
-          said e (walked.Arrived t y k) sets q = left-counts t y k e sets m (length (countedOf r m true a)) q (chargeOn t y k e sets m)
+          said : (e : ℕ) (x : Walked) (sets : Bool) → Reads (length (countedOf r m true a)) x → References (length (countedOf r m true a)) (storeOn (read.left r true a deep e x sets m) .result .answer)
+          said e (walked.Arrived y t k) sets q = left-counts t y k e sets m (length (countedOf r m true a)) q (chargeOn t y k e sets m)
           said e (walked.Faulted y k) sets q = q
           said e walked.Damaged sets q = tt
 
       -- the frame that a granted translation arrives at lies in the guest area
       arrives : ArrivedIn c (translatedOf r m true a .result .walked)
       unfolding translatedOf
-      arrives = translate-leaves c (hostTop r) m true (heldOf r) (found.rules s r m inv .shadow .0, found.rules s r m inv .held) (rootOf r) a (depthAt r a) .arrived
+      arrives = translate-leaves c (hostTop r) m true (heldOf r) (found.rules s r m inv .shadow .0, found.rules s r m inv .held) (rootOf r) a (requestDepth r m a) (omega (arith, found.rules s r m inv .sizes .deep)) .arrived
 
       -- a store that is granted touches the same bytes of the same word with as many references, or meets 11. On a held path, with bits on, that
       -- is said of a store that sets no bit
-      pub words-counted-store : HeldOrPlain c (s .book) true a → SetsNone r m true a → (k e : ℕ) → storeCall r m a w v .result .answer ≡ answer.Done k e
+      pub words-counted-store : HeldOrPlain c (s .machine) (s .book) true a → SetsNone r m true a → (k e : ℕ) → storeCall r m a w v .result .answer ≡ answer.Done k e
           → (n : List ℕ) → length n ≡ length m → SameWords m n (countedOf r m true a) → SameStore r m n a w v k e
       unfolding touchedOf
       words-counted-store h clear k e done n long counted = go (widthFits w) (addressOk false c a w) refl refl
         where
-          l : Alike r true a m n
-          l = alike r true a m n (reaches true h) clear counted
+          l : Alike r true a deep m n
+          l = alike r true a deep m n three at (reaches true h) clear counted
 
-          by : (i : ℕ) (x : Walked) (sets : Bool) → translatedOf r m true a ≡ read.left r true a i x sets m → translatedOf r n true a ≡ read.left r true a i x sets n → ArrivedIn c x
-              → storeCall r m a w v ≡ storeOn (read.left r true a i x sets m) → storeCall r n a w v ≡ storeOn (read.left r true a i x sets n) → SameStore r m n a w v k e
+          by : (i : ℕ) (x : Walked) (sets : Bool) → translatedOf r m true a ≡ read.left r true a deep i x sets m → translatedOf r n true a ≡ read.left r true a deep i x sets n → ArrivedIn c x
+              → storeCall r m a w v ≡ storeOn (read.left r true a deep i x sets m) → storeCall r n a w v ≡ storeOn (read.left r true a deep i x sets n) → SameStore r m n a w v k e
           by i (walked.Faulted y j) sets p q there f g =
               let z : answer.Faulted y j i ≡ answer.Done k e = sym (ap (λ (x : After Reply). x .result .answer) f) ∙ done in
               let x : _≡_ {A = ℕ} 0 1 = cc in absurd (omega arith)
           by i walked.Damaged sets p q there f g =
               let z : answer.Refused 11 ≡ answer.Done k e = sym (ap (λ (x : After Reply). x .result .answer) f) ∙ done in
               let x : _≡_ {A = ℕ} 0 1 = cc in absurd (omega arith)
-          by i (walked.Arrived t y j) sets p q there f g =
+          by i (walked.Arrived y t j) sets p q there f g =
               let z : answer.Done j exits ≡ answer.Done k e = sym (here .says) ∙ sym (ap (λ (x : After Reply). x .result .answer) f) ∙ done in
               let x : j ≡ k = cc in
               let u : exits ≡ e = cc in
@@ -623,9 +627,9 @@ module _ (s : State) (r : Record) (m : List ℕ) (inv : Inv s r m) (a : ℕ) whe
               (fits true true p q n long ∙ ap storeOn (l .altered))
 
 -- a load through any held path
-pub held-load : (c : Config) (b : Book) (a : ℕ) (h : Held) → find (upper c (depth (b .marks) (addressIndexes c a)) (addressIndexes c a)) (b .held) ≡ some h → HeldOrPlain c b false a
+pub held-load : (c : Config) (m : Machine) (b : Book) (a : ℕ) (h : Held) → find (upper c (count.requestDepth c m b a) (addressIndexes c a)) (b .held) ≡ some h → HeldOrPlain c m b false a
 unfolding HeldOrPlain
-held-load c b a h e = inl (subst (λ o. T (serves false (depth (b .marks) (addressIndexes c a)) o)) (sym e) (go (depth (b .marks) (addressIndexes c a))))
+held-load c m b a h e = inl (subst (λ o. T (serves false (count.requestDepth c m b a) o)) (sym e) (go (count.requestDepth c m b a)))
   where
     go : (d : ℕ) → T (serves false d (some h))
     go zero = tt
@@ -656,11 +660,11 @@ module _ (m : List ℕ) (h s : ℕ) (bits on : Bool) (xs : List Call) (granted :
   abbrev stands : Inv state unit memory
   stands = after-run m h s bits on xs granted .1
 
-  here : (st : Bool) (a : ℕ) → HeldOrPlain config book st a → HeldOrPlain (configOf unit) book st a
-  here st a k = subst (λ c. HeldOrPlain c book st a) (after-run m h s bits on xs granted .0) k
+  here : (st : Bool) (a : ℕ) → HeldOrPlain config (state .machine) book st a → HeldOrPlain (configOf unit) (state .machine) book st a
+  here st a k = subst (λ c. HeldOrPlain c (state .machine) book st a) (after-run m h s bits on xs granted .0) k
 
   -- the premise `SetsNone` below lets off only a request whose plain walk on the machine is granted and reads an entry that lacks a bit
-  pub run-sets-none : (st : Bool) (a : ℕ) → HeldOrPlain config book st a
+  pub run-sets-none : (st : Bool) (a : ℕ) → HeldOrPlain config (state .machine) book st a
       → ((p : Place) → (call.plain config (state .machine) st a) .result ≡ result.granted p → lacks (world config (state .machine)) st ((call.plain config (state .machine) st a) .reads) ≡ false)
       → SetsNone unit memory st a
   run-sets-none st a k has =
@@ -672,7 +676,7 @@ module _ (m : List ℕ) (h s : ℕ) (bits on : Bool) (xs : List Call) (granted :
   -- a load whose path is held, or at depth N + 1: any words of the memory but those that it counts and the one around the bytes that it loads may be
   -- altered, and its value or fault, its references and its exits are the same. With bits on, a load on a held path is let off if it sets a
   -- bit or meets W for one
-  pub run-counted-load : (a w : ℕ) → HeldOrPlain config book false a → SetsNone unit memory false a
+  pub run-counted-load : (a w : ℕ) → HeldOrPlain config (state .machine) book false a → SetsNone unit memory false a
       → (n : List ℕ) → length n ≡ length memory → SameWords memory n (countedOf unit memory false a) → SameWords memory n (touchedOf unit memory false a)
       → SameLoad unit memory n a w
   run-counted-load a w k = words-counted-load state unit memory stands a w (here false a k)
@@ -680,12 +684,12 @@ module _ (m : List ℕ) (h s : ℕ) (bits on : Bool) (xs : List Call) (granted :
   -- a store that is granted through a held path or at depth N + 1: after such a change it stores to the same bytes, or is refused
   -- with 11, which happens only if a host or shadow word was altered. With bits on, a store on a held path is let off if it sets a bit; one
   -- that the path forbids refills it, and is none of these
-  pub run-counted-store : (a w v k e : ℕ) → HeldOrPlain config book true a → SetsNone unit memory true a → storeCall unit memory a w v .result .answer ≡ answer.Done k e
+  pub run-counted-store : (a w v k e : ℕ) → HeldOrPlain config (state .machine) book true a → SetsNone unit memory true a → storeCall unit memory a w v .result .answer ≡ answer.Done k e
       → (n : List ℕ) → length n ≡ length memory → SameWords memory n (countedOf unit memory true a) → SameStore unit memory n a w v k e
   run-counted-store a w v k e q clear = words-counted-store state unit memory stands a w v (here true a q) clear k e
 
   -- those words are as many as the references of the answer, of requests that set bits too
-  pub run-counted-words : (a w : ℕ) → (HeldOrPlain config book false a → References (length (countedOf unit memory false a)) (loadCall unit memory a w .result .answer))
-      × ((v : ℕ) → HeldOrPlain config book true a → References (length (countedOf unit memory true a)) (storeCall unit memory a w v .result .answer))
+  pub run-counted-words : (a w : ℕ) → (HeldOrPlain config (state .machine) book false a → References (length (countedOf unit memory false a)) (loadCall unit memory a w .result .answer))
+      × ((v : ℕ) → HeldOrPlain config (state .machine) book true a → References (length (countedOf unit memory true a)) (storeCall unit memory a w v .result .answer))
   run-counted-words a w =
       (λ k. load-counted state unit memory stands a w (here false a k), λ v k. store-counted state unit memory stands a w v (here true a k))

@@ -15,27 +15,31 @@ use Rattle.spec.specs.Config.{Config}
 use Rattle.spec.specs.Entry.{present, pageOf}
 use Rattle.spec.specs.Prefix.{same, begins}
 use Rattle.spec.specs.Walk.{World, Trace, granted, trace}
-use Rattle.spec.specs.Plain.{Place, levels, walk}
+use Rattle.spec.specs.Plain.{Place, isSpan, levels, walk, upper}
 use Rattle.spec.specs.Machine.{Machine, world}
 use Rattle.spec.specs.Book.{Held, find, fill, holding, shadowTables}
 use Rattle.spec.specs.Bits.{dirtyAt}
 use Rattle.spec.specs.Count.{serves, heldBy, rightOf, others}
+use Rattle.spec.specs.Call.{addressIndexes}
 use Rattle.spec.specs.Run.{State}
 use Rattle.spec.specs.Prefix.{All}
 use Rattle.spec_laws.proofs.Lists.{all-map}
 use Rattle.spec_laws.proofs.Local.{SameWord}
 use Rattle.spec_laws.proofs.Indexes.{indexes-all}
-use Rattle.spec_laws.proofs.Depth.{PathFits, no-proper-prefix}
-use Rattle.spec_laws.proofs.Keeps.{Valid, held-place, fill-valid, InGuestArea}
+use Rattle.spec_laws.proofs.Depth.{PathFits}
+use Rattle.spec_laws.proofs.Keeps.{Valid, held-place, fill-valid, InGuestArea, area-real, PlaceIn, depth-real}
 use Rattle.spec_laws.proofs.SetBits.{dirty-on}
 use Rattle.spec_laws.proofs.Refill.{others-all, others-unheld}
-use Rattle.spec_laws.proofs.Runs.{BookFits, fill-all, fill-keeps}
+use Rattle.spec_laws.proofs.Runs.{HeldFits, BookFits, fill-all, fill-keeps, request-fits}
+use Rattle.spec_laws.proofs.Parts.{lower}
+use Rattle.claims.proofs.Paths.{path-upper}
 use Rattle.area_laws.proofs.Paths.{onto}
+use Rattle.area_laws.proofs.Hosts.{indexes-small}
 use Rattle.area_laws.proofs.Whole.{Holds, Next}
 use Rattle.walk.specs.declared.Walked.{Walked}
 use Rattle.walk.proofs.Stands.{Stands, stands-trace}
 use Rattle.accessed.specs.Entries.{wordsOf}
-use Rattle.accessed.proofs.Walks.{walk-read, trail-entries}
+use Rattle.accessed.proofs.Walks.{root-entries}
 use Rattle.record.specs.declared.Record.{Record}
 use Rattle.record.specs.Record.{configOf}
 use Rattle.record.proofs.Rules.{Fits, fits-true, holds-pool}
@@ -44,12 +48,13 @@ use Rattle.shadow.specs.Fill.{fillOf}
 use Rattle.shadow.proofs.Parts.{entry-present}
 use Rattle.drops_laws.proofs.Held.{leafAt}
 use Rattle.drops_laws.proofs.Fill.{trail-is, fill-is}
+use Rattle.drops_laws.proofs.Find.{Apart}
 use Rattle.drops_laws.proofs.Valid.{framesAt, entryOf, entry-thin, valid-frame, inside-area, Stays, stays-same}
 use Rattle.translate.specs.Translate.{holding as holdingAt, translation, fillBy, filledOf, passesOf}
 use Rattle.translate.specs.declared.Held.{Held as Holding}
 use Rattle.record.specs.Record.{headTables}
 use Rattle.area_laws.proofs.Paths.{Guests}
-use Rattle.walk.specs.Memory.{memoryWorld, trailOf}
+use Rattle.walk.specs.Memory.{memoryWorld, rootTrail}
 use Rattle.spec_laws.proofs.Asks.{Guest, walk-asks}
 use Rattle.calls.specs.Calls.{hostTop, heldOf, headHeld, withHeld}
 use Rattle.claims.proofs.Invariant.{longer, topBy, frames, Inv, stands}
@@ -120,7 +125,7 @@ module _ (s : State) (r : Record) (m : List ℕ) (inv : Inv s r m) (st : Bool) (
 
   -- the tables that the walk of the shadow part comes through
   abbrev pub gs : List ℕ
-  gs = trailOf c ht m 0 (walk c st (r .guest .root .0) path) .tables
+  gs = rootTrail c ht m st (r .guest .root .0) path .tables
 
   abbrev pub part : Trace Fault Place
   part = trace w (walk c st (mach .root) path)
@@ -129,8 +134,8 @@ module _ (s : State) (r : Record) (m : List ℕ) (inv : Inv s r m) (st : Bool) (
   small-path = indexes-all (c .levels - deep) (pageOf a / 2 ^ (9 * deep))
 
   -- the walk over memory
-  asks : Guest c (InGuestArea c) (walk c st (mach .root) path) (λ q. InGuestArea c (q .0))
-  asks = walk-asks c (InGuestArea c) st (mach .root) path (found.root-small s r m inv) small-path
+  asks : Guest c (InGuestArea c) (area-real c) (walk c st (mach .root) path) (λ q. PlaceIn c (lower (c .levels) path) (q .0))
+  asks = walk-asks c (InGuestArea c) (area-real c) st (mach .root) path (found.root-small s r m inv) small-path
 
   pub part-trace : trace (memoryWorld c ht m) (walk c st (r .guest .root .0) path) ≡ part
   part-trace =
@@ -144,10 +149,8 @@ module _ (s : State) (r : Record) (m : List ℕ) (inv : Inv s r m) (st : Bool) (
   apart-all : (low : deep ≤ c .levels) → All (λ (h : Held). T (begins (h .path) path) → h .path ≡ path) (s .book .held)
       × All (λ (h : Held). T (begins path (h .path)) → path ≡ h .path) (s .book .held)
   apart-all low =
-      let f = found.path-depth s r m inv a low in (
-        all-map (λ h. PathFits (c .levels) (s .book .marks) (h .path)) _ (s .book .held) (λ h g. no-proper-prefix (c .levels) (s .book .marks) (h .path) path g f) (inv .book .held),
-        all-map (λ h. PathFits (c .levels) (s .book .marks) (h .path)) _ (s .book .held) (λ h g. no-proper-prefix (c .levels) (s .book .marks) path (h .path) f g) (inv .book .held),
-      )
+      let f = found.apart-all s r m inv a low in
+      (all-map (Apart path) _ (s .book .held) (λ h k. k .0) f, all-map (Apart path) _ (s .book .held) (λ h k. k .1) f)
 
   module _ (t : ℕ) (wide : Bool) (low : deep ≤ c .levels) (comes : part .result ≡ granted (t, wide)) where
     -- the writable bit that the path gets
@@ -163,8 +166,23 @@ module _ (s : State) (r : Record) (m : List ℕ) (inv : Inv s r m) (st : Bool) (
     abbrev pub after : State
     after = record { config = c; machine = mach; book = holding (s .book) filled }
 
+    -- the walk, by the indexes as the specification has them
+    upper-is : upper c deep (addressIndexes c a) ≡ path
+    upper-is = path-upper c deep a low
+
+    comes-upper : (trace w (walk c st (mach .root) (upper c deep (addressIndexes c a)))) .result ≡ granted (t, wide)
+    comes-upper = ap (λ p. (trace w (walk c st (mach .root) p)) .result) upper-is ∙ comes
+
+    real : isSpan c t ≡ false
+    real = depth-real c mach a _ (found.memory-stands s r m inv .inside) (found.root-small s r m inv) st (t, wide) comes-upper
+
     new-valid : Valid c mach new
-    new-valid = fill-valid c mach st deep path (t, wide) small-path (found.path-length s r m inv a low) comes
+    new-valid = fill-valid c mach st deep path (t, wide) small-path (found.path-length s r m inv a low) comes real
+
+    new-fits : HeldFits c (s .book .marks) new
+    new-fits =
+        subst (λ p. PathFits (c .levels) (s .book .marks) p (length ((trace w (walk c st (mach .root) p)) .reads))) upper-is
+        (request-fits c mach (s .book .marks) st a (t, wide) (inv .book .marks) low comes-upper)
 
     pub new-here : (frames r m (onto [] path) ≡ t) × InGuestArea c t
     new-here =
@@ -173,7 +191,7 @@ module _ (s : State) (r : Record) (m : List ℕ) (inv : Inv s r m) (st : Bool) (
         (at ∙ sym f, subst (InGuestArea c) (sym f) (inside-area c mach ht m (found.memory-stands s r m inv) (found.root-small s r m inv) (found.few s r m inv) new new-valid))
 
     fill-book : BookFits c (holding (s .book) filled)
-    fill-book = fill-keeps c (s .book) new (found.path-depth s r m inv a low) (inv .book)
+    fill-book = fill-keeps c (s .book) new new-fits (inv .book)
 
     fill-valid-all : All (Valid c mach) filled
     fill-valid-all = fill-all (Valid c mach) c new (others c path (s .book .held)) new-valid (others-all (Valid c mach) c path (s .book .held) (inv .valid))
@@ -186,14 +204,15 @@ module _ (s : State) (r : Record) (m : List ℕ) (inv : Inv s r m) (st : Bool) (
     over-memory = ap (λ (x : Trace Fault Place). x .result) part-trace ∙ comes
 
     tables-are : Guests (frames r m) gs 0 [] path
-    tables-are = trail-is c ht m (found.few s r m inv) st (r .guest .root .0) path (t, wide) reads-few over-memory
+    tables-are = trail-is c ht m (found.few s r m inv) (omega (arith, found.rules s r m inv .sizes .deep)) st (r .guest .root .0) path (t, wide)
+        (indexes-small (c .levels - deep) (pageOf a / 2 ^ (9 * deep))) reads-few over-memory
 
     -- with bits on what the code sees of the last entry is what the book asks
     pub passes-is : c .bits ≡ true → passesOf c m gs st a deep wide ≡ right
     unfolding passesOf memoryWorld
     passes-is on =
         ap (λ xs. wide && (not (eqb deep 0) || st || dirtyAt (wordsOf m) xs))
-        (trail-entries c ht m 0 (walk c st (r .guest .root .0) path) path _ reads-few (walk-read (memoryWorld c ht m) c st (r .guest .root .0) path (t, wide) over-memory) ∙ ap (λ (x : Trace Fault Place). x .reads) part-trace)
+        (root-entries c ht m st (r .guest .root .0) (c .levels - deep) (pageOf a / 2 ^ (9 * deep)) (t, wide) (omega (arith, found.rules s r m inv .sizes .deep)) (omega arith) over-memory ∙ ap (λ (x : Trace Fault Place). x .reads) part-trace)
         ∙ ap (λ b. wide && (not (eqb deep 0) || st || b)) (dirty-on w (wordsOf m) (part .reads) part-words)
         ∙ sym (ap (λ b. wide && (not (b && eqb deep 0) || st || dirtyAt w (part .reads))) on)
 

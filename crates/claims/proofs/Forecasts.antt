@@ -22,7 +22,7 @@ use Rattle.spec.specs.Machine.{Machine, world}
 use Rattle.spec.specs.Book.{Held, Book, depth, find, paths, shadowTables}
 use Rattle.spec.specs.Choice.{entered, observed}
 use Rattle.spec.specs.Call.{forecast, addressIndexes, plain, machineStep}
-use Rattle.spec.specs.Count.{Counted, one, hostExit, serves, request, windowed, bookStep}
+use Rattle.spec.specs.Count.{Counted, one, hostExit, serves, depthIn, request, windowed, bookStep}
 use Rattle.spec.specs.Bytes.{aligned}
 use Rattle.spec.specs.Refusal.{addressFits, forecastRoom, tests, refusal, firstFailed}
 use Rattle.spec.specs.Forecast.{Figures, served, servedBy, figuresOf}
@@ -32,7 +32,7 @@ use Rattle.spec_laws.proofs.Indexes.{indexes-all}
 use Rattle.spec_laws.proofs.Choice.{none-held}
 use Rattle.spec.specs.Entry.{pageOf}
 use Rattle.spec_laws.proofs.Added.{standing, any-append, tables-added, tables-alone, standing-append}
-use Rattle.spec_laws.proofs.Keeps.{right-off, InGuestArea}
+use Rattle.spec_laws.proofs.Keeps.{right-off, InGuestArea, area-real}
 use Rattle.spec_laws.proofs.Covered.{Covered}
 use Rattle.spec_laws.proofs.Price.{Price, shadowPrice, plainPrice, price, Priced, load-priced, filled, serves-load}
 use Rattle.area_laws.proofs.Paths.{onto}
@@ -41,12 +41,12 @@ use Rattle.walk.specs.Memory.{walkedOf}
 use Rattle.walk.proofs.Stands.{plainWalked, root-walked}
 use Rattle.marks.specs.Key.{keyAt}
 use Rattle.translate.specs.declared.Held.{Held as Holding}
-use Rattle.translate.specs.Translate.{translation, exitBy, directOf, servedOf, servesOf, foundOf, plainOf}
+use Rattle.translate.specs.Translate.{translation, exitBy, directOf, servedOf, servesOf, foundOf, plainOf, turnedDepth}
 use Rattle.forecast.specs.declared.Sum.{Sum}
 use Rattle.forecast.specs.declared.Paths.{Paths}
 use Rattle.forecast.specs.declared.Outlook.{Outlook}
 use Rattle.forecast.specs.declared.Next.{Next}
-use Rattle.forecast.specs.declared.Next.the-variants.{Go}
+use Rattle.forecast.specs.declared.Next.the-variants.{Go, Damaged}
 use Rattle.forecast.specs.Forecast.{newest, metFrom, tablesWith, filledOf, added, paid, heldAfter, missedBy, missedOf, foundBy, keptOf, loadOf, addressOf, onward, listOf, start, forecastOf}
 use Rattle.forecast.proofs.Keys.{keyPath, PathKey, key-path, path-key, any-keys, met-standing, newest-set}
 use Rattle.drops_laws.proofs.Tables.{tables-used}
@@ -58,6 +58,7 @@ use Rattle.claims.proofs.Invariant.{frames, Inv, Follows, at}
 use Rattle.claims.proofs.Paths.{path-upper, exit-is}
 use Rattle.claims.proofs.Moves.{at-inv, follows-no}
 use Rattle.claims.proofs.Found as found
+use Rattle.claims.proofs.Depths.{turned-is}
 use Rattle.claims.proofs.Fills as fills
 use Rattle.claims.proofs.Translates as translates
 use Rattle.claims.proofs.Requests.{follows-by, judged-by}
@@ -349,6 +350,7 @@ module _ (s : State) (r : Record) (m : List ℕ) (inv : Inv s r m) (off : config
                 let g = after-keeps known refl in
                 advances path (shadowPrice c mach false deep is known (part .count) (granted p)) (priced known (granted p) known-is e) (f .result) (f .memory) _
                 (ap (missedBy c ht m hold ks o known n a deep) (came ∙ ap (λ y. plainWalked y (part .count)) e)
+                ∙ ap (λ x. cond x (yields Damaged ks) (yields (paid (o .sum) (f .result) (servedOf c ht m hold false a deep t right (one (not known)))) (f .memory))) (area-real c t here)
                 ∙ ap (λ y. yields y (f .memory)) (served-paid t right here (f .result) (one (not known))))
                 (g .0) (g .1)
 
@@ -383,9 +385,9 @@ module _ (s : State) (r : Record) (m : List ℕ) (inv : Inv s r m) (off : config
     address-advances : (addressFits c a && aligned a 8) ≡ true → Advances o (served c mach a b) (addressOf c ht m hold (rootOf r) (keysOf r) ks o a)
     unfolding served refusal tests bookStep addressOf
     address-advances e =
-        subst (λ y. Advances o (servedBy c mach a b (firstFailed ((y, 4) ∷ []))) (cond y (loadOf c ht m hold (rootOf r) ks o a (depthAt r a)) (yields (Go o) ks))) (sym e)
-        (subst (λ ms. Advances o (windowed c none (request c mach b false a (depth ms is))) (loadOf c ht m hold (rootOf r) ks o a (depthAt r a))) (sym same-marks)
-        (subst (λ d. Advances o (windowed c none k) (loadOf c ht m hold (rootOf r) ks o a d)) (sym (found.depth-is s r m inv a)) (windowed-advances o k _ load-advances)))
+        subst (λ y. Advances o (servedBy c mach a b (firstFailed ((y, 4) ∷ []))) (cond y (loadOf c ht m hold (rootOf r) ks o a (turnedDepth c ht m (rootOf r) a (depthAt r a))) (yields (Go o) ks))) (sym e)
+        (subst (λ ms. Advances o (windowed c none (request c mach b false a (depthIn c mach a (depth ms is)))) (loadOf c ht m hold (rootOf r) ks o a (turnedDepth c ht m (rootOf r) a (depthAt r a)))) (sym same-marks)
+        (subst (λ d. Advances o (windowed c none k) (loadOf c ht m hold (rootOf r) ks o a d)) (sym (turned-is s r m inv a)) (windowed-advances o k _ load-advances)))
 
   -- ---- the list
 
@@ -406,7 +408,7 @@ module _ (s : State) (r : Record) (m : List ℕ) (inv : Inv s r m) (off : config
 
   passed-over : (a : ℕ) (ks : List ℕ) (o : Outlook) → (addressFits c a && aligned a 8) ≡ false → addressOf c ht m hold (rootOf r) (keysOf r) ks o a ≡ yields (Go o) ks
   unfolding addressOf
-  passed-over a ks o e = ap (λ y. cond y (loadOf c ht m hold (rootOf r) ks o a (depthAt r a)) (yields (Go o) ks)) e
+  passed-over a ks o e = ap (λ y. cond y (loadOf c ht m hold (rootOf r) ks o a (turnedDepth c ht m (rootOf r) a (depthAt r a))) (yields (Go o) ks)) e
 
   one-more : (a : ℕ) (xs ks : List ℕ) (o : Outlook) (b : Book) → ((ks : List ℕ) (o : Outlook) (b : Book) → ComesTo xs ks o b) → ComesTo (a ∷ xs) ks o b
   unfolding listOf figuresOf

@@ -18,15 +18,18 @@ use Rattle.spec.specs.Plain.{Place, hosted, levels, walk}
 use Rattle.spec.specs.Machine.{Machine, world}
 use Rattle.spec.specs.Book.{Held, find, depth, paths}
 use Rattle.spec.specs.Call.{addressIndexes}
+use Rattle.spec.specs.Count.{requestDepth}
+use Rattle.spec.specs.Prefix.{All}
 use Rattle.spec.specs.Run.{State}
-use Rattle.spec_laws.proofs.Lists.{all-map, all-keep, same-is}
+use Rattle.spec_laws.proofs.Lists.{all-map, all-both, all-keep, same-is}
 use Rattle.spec_laws.proofs.Local.{Seen, seen}
 use Rattle.spec_laws.proofs.Granted.{granted-is, through}
 use Rattle.spec_laws.proofs.Indexes.{indexes-length}
-use Rattle.spec_laws.proofs.Depth.{PathFits, no-proper-prefix, fill-fits}
+use Rattle.spec_laws.proofs.Apart.{request-apart}
+use Rattle.spec_laws.proofs.Runs.{HeldFits}
 use Rattle.spec_laws.proofs.Keeps.{Valid, again, right-deep, InGuestArea}
 use Rattle.spec_laws.proofs.Added.{standing, standing-most, unbroken, unbroken-standing}
-use Rattle.area_laws.proofs.Paths.{onto}
+use Rattle.area_laws.proofs.Paths.{onto, Small}
 use Rattle.area_laws.proofs.Find.{steps}
 use Rattle.area_laws.proofs.Hosts.{indexes-small}
 use Rattle.area_laws.proofs.Whole as tree
@@ -43,7 +46,6 @@ use Rattle.shadow.proofs.Parts.{entry-frame, entry-writable}
 use Rattle.drops_laws.proofs.Held.{leafAt, HeldEntries}
 use Rattle.drops_laws.proofs.Find.{answerFound, held-is, find-all, Apart, path-fits}
 use Rattle.drops_laws.proofs.Drops.{namedIn}
-use Rattle.drops_laws.proofs.Fill.{frame-small}
 use Rattle.drops_laws.proofs.Tables.{steps-standing}
 use Rattle.drops_laws.proofs.Valid.{framesAt, entryOf, valid-entries, valid-frame, inside-area}
 use Rattle.translate.specs.Translate.{pathIndexes, foundOf}
@@ -115,20 +117,41 @@ module _ (s : State) (r : Record) (m : List ℕ) (inv : Inv s r m) where
   memory-stands = stands cfg mach (r .pools .host) m (inv .maps) (inv .area)
 
   -- the entries of the held paths, with the record's root
-  pub held-entries : HeldEntries cfg (frames r m) (namedIn m (frames r m)) (r .guest .root .0) (entryOf cfg (frames r m)) (longer (s .book .held))
+  pub held-entries : HeldEntries cfg (frames r m) (namedIn cfg m (frames r m)) (r .guest .root .0) (entryOf cfg (frames r m)) (longer (s .book .held))
   held-entries =
-      subst (λ x. HeldEntries cfg (framesAt cfg (hostTop r) m x) (namedIn m (framesAt cfg (hostTop r) m x)) x (entryOf cfg (framesAt cfg (hostTop r) m x)) (longer (s .book .held))) (sym (inv .root))
+      subst (λ x. HeldEntries cfg (framesAt cfg (hostTop r) m x) (namedIn cfg m (framesAt cfg (hostTop r) m x)) x (entryOf cfg (framesAt cfg (hostTop r) m x)) (longer (s .book .held))) (sym (inv .root))
       (valid-entries cfg mach (hostTop r) m memory-stands root-small few (longer (s .book .held))
       (all-map (λ h. Valid cfg mach h × T (ltb 0 (length (h .path)))) (Valid cfg mach) (longer (s .book .held)) (λ h k. k .0)
       (all-keep (Valid cfg mach) (λ (h : Held). ltb 0 (length (h .path))) (s .book .held) (inv .valid))))
 
-  module _ (a : ℕ) where
-    -- the depth of the address, and its path
-    abbrev pub deep : ℕ
-    deep = depth (s .book .marks) (addressIndexes cfg a)
+  -- each held path, with what the invariant says of it
+  abbrev pub Holds-well : Held → Type 0
+  Holds-well h = HeldFits cfg (s .book .marks) h × Valid cfg mach h
 
-    pub depth-is : depthAt r a ≡ deep
-    depth-is = depth-book cfg (r .guest .marks) (s .book) (omega (arith, rules .sizes .deep)) (inv .sorted) (inv .marks) a
+  pub all-well : All Holds-well (s .book .held)
+  all-well = all-both (HeldFits cfg (s .book .marks)) (Valid cfg mach) (s .book .held) (inv .book .held) (inv .valid)
+
+  -- a path that is apart from all of them, looked up in the shadow tables
+  module _ (p : List ℕ) (some-index : 0 < length p) (short : length p ≤ cfg .levels) (small : Small p) (apart : All (Apart p) (s .book .held)) where
+    pub free : tree.Fits (shadowArea cfg) (leafAt (entryOf cfg (frames r m)) (longer (s .book .held))) p
+    free =
+        path-fits cfg (entryOf cfg (frames r m)) (longer (s .book .held)) p some-index short small
+        (all-map (λ h. Apart p h × T (ltb 0 (length (h .path)))) (Apart p) (longer (s .book .held)) (λ h k. k .0) (all-keep (Apart p) (λ (h : Held). ltb 0 (length (h .path))) (s .book .held) apart))
+
+    pub looked-up : shadow.heldOf cfg m (r .pools .shadow .top) p ≡ answerFound (entryOf cfg (frames r m)) (find p (s .book .held)) (steps (inv .shadow .tabs) [] p)
+    looked-up =
+        held-is (inv .shadow) held-entries p free ∙ ap (λ o. answerFound (entryOf cfg (frames r m)) o (steps (inv .shadow .tabs) [] p)) (find-longer p (s .book .held) some-index)
+
+  module _ (a : ℕ) where
+    -- the depth that the marks give the address, that of its request, and the path of that
+    abbrev pub marked : ℕ
+    marked = depth (s .book .marks) (addressIndexes cfg a)
+
+    pub marked-is : depthAt r a ≡ marked
+    marked-is = depth-book cfg (r .guest .marks) (s .book) (omega (arith, rules .sizes .deep)) (inv .sorted) (inv .marks) a
+
+    abbrev pub deep : ℕ
+    deep = requestDepth cfg mach (s .book) a
 
     abbrev pub path : List ℕ
     path = pathIndexes cfg deep a
@@ -137,27 +160,18 @@ module _ (s : State) (r : Record) (m : List ℕ) (inv : Inv s r m) where
       pub path-length : length path ≡ cfg .levels - deep
       path-length = indexes-length (cfg .levels - deep) (pageOf a / 2 ^ (9 * deep))
 
-      pub path-depth : PathFits (cfg .levels) (s .book .marks) path
-      path-depth =
-          subst (PathFits (cfg .levels) (s .book .marks)) (path-upper cfg deep a low)
-          (fill-fits (cfg .levels) (s .book .marks) (addressIndexes cfg a) (inv .book .marks) (indexes-length (cfg .levels) (pageOf a)) low)
-
-      apart-from : (h : Held) → PathFits (cfg .levels) (s .book .marks) (h .path) → Apart path h
-      apart-from h f = (no-proper-prefix (cfg .levels) (s .book .marks) (h .path) path f path-depth, no-proper-prefix (cfg .levels) (s .book .marks) path (h .path) path-depth f)
+      pub apart-all : All (Apart path) (s .book .held)
+      apart-all =
+          all-map Holds-well (Apart path) (s .book .held)
+          (λ h k. subst (λ p. Apart p h) (path-upper cfg deep a low) (request-apart cfg mach (s .book .marks) (inv .book .marks) a h (k .0) (k .1) low)) all-well
 
       pub path-free : 0 < length path → tree.Fits (shadowArea cfg) (leafAt (entryOf cfg (frames r m)) (longer (s .book .held))) path
-      path-free l =
-          path-fits cfg (entryOf cfg (frames r m)) (longer (s .book .held)) path l (omega (arith, path-length)) (indexes-small (cfg .levels - deep) (pageOf a / 2 ^ (9 * deep)))
-          (all-map (λ h. PathFits (cfg .levels) (s .book .marks) (h .path) × T (ltb 0 (length (h .path)))) (Apart path) (longer (s .book .held)) (λ h k. apart-from h (k .0))
-          (all-keep (λ h. PathFits (cfg .levels) (s .book .marks) (h .path)) (λ (h : Held). ltb 0 (length (h .path))) (s .book .held) (inv .book .held)))
+      path-free l = free path l (omega (arith, path-length)) (indexes-small (cfg .levels - deep) (pageOf a / 2 ^ (9 * deep))) apart-all
 
       -- at depth N the path has no index
       pub path-empty : cfg .levels ≤ deep → path ≡ []
       unfolding indexes
       path-empty l = let z : cfg .levels - deep ≡ 0 = omega arith in ap (λ n. indexes n (pageOf a / 2 ^ (9 * deep))) z
-
-      frame-thin : (q : List ℕ) → frames r m q < frameLimit
-      frame-thin q = let k = frame-small cfg (hostTop r) m few (r .guest .root .0) q in omega arith
 
       -- a held path of no index: every guest entry so far is writable, and it leads to the root's frame, which is not 0
       empty-right : (h : Held) → Valid cfg mach h → h .path ≡ [] → h .right ≡ true
@@ -173,6 +187,9 @@ module _ (s : State) (r : Record) (m : List ℕ) (inv : Inv s r m) where
           let i = inside-area cfg mach (hostTop r) m memory-stands root-small few h v in
           subst (InGuestArea cfg) (sym (ap (λ x. framesAt cfg (hostTop r) m x (onto [] (h .path))) (inv .root) ∙ valid-frame cfg mach (hostTop r) m memory-stands root-small few h v)) i
 
+      frame-thin : (h : Held) → Valid cfg mach h → frames r m (onto [] (h .path)) < frameLimit
+      frame-thin h v = omega (arith, frame-held h v .1, few)
+
       abbrev pub found : HostWalk
       found = foundOf cfg m (heldOf r) a deep
 
@@ -185,7 +202,8 @@ module _ (s : State) (r : Record) (m : List ℕ) (inv : Inv s r m) where
               → cond b (shadow.heldOf cfg m (r .pools .shadow .top) path) (cond (eqb (r .guest .held .0) 0) (host.Absent 0) (host.Found (r .guest .held) true)) ≡ host.Absent (standing path (paths (s .book .held)))
           go true q =
               let l : 0 < length path = let k = ltb→lt deep (cfg .levels) (subst T (sym q) tt) in omega (arith, path-length) in
-              held-is (inv .shadow) held-entries path (path-free l) ∙ ap (λ o. answerFound (entryOf cfg (frames r m)) o (steps (inv .shadow .tabs) [] path)) (find-longer path (s .book .held) l ∙ e)
+              looked-up path l (omega (arith, path-length)) (indexes-small (cfg .levels - deep) (pageOf a / 2 ^ (9 * deep))) apart-all
+              ∙ ap (λ o. answerFound (entryOf cfg (frames r m)) o (steps (inv .shadow .tabs) [] path)) e
               ∙ ap host.Absent (steps-standing (inv .shadow) held-entries path l ∙ standing-longer path (s .book .held))
           go false q =
               let l : cfg .levels ≤ deep = ltb-false deep (cfg .levels) q in
@@ -208,12 +226,12 @@ module _ (s : State) (r : Record) (m : List ℕ) (inv : Inv s r m) where
           go true q =
               let l : 0 < length path = let k = ltb→lt deep (cfg .levels) (subst T (sym q) tt) in omega (arith, path-length) in
               let w = entryOf cfg (frames r m) in
-              held-is (inv .shadow) held-entries path (path-free l) ∙ ap (λ o. answerFound w o (steps (inv .shadow .tabs) [] path)) (find-longer path (s .book .held) l ∙ e)
-              ∙ entry-found
+              looked-up path l (omega (arith, path-length)) (indexes-small (cfg .levels - deep) (pageOf a / 2 ^ (9 * deep))) apart-all
+              ∙ ap (λ o. answerFound w o (steps (inv .shadow .tabs) [] path)) e ∙ entry-found
             where
               entry-found : host.Found (page (frameOf (entryOf cfg (frames r m) h))) (writable (entryOf cfg (frames r m) h)) ≡ host.Found (page (frames r m (onto [] path))) (h .right)
               entry-found =
-                  ap₂ (λ f w. host.Found (page f) w) (entry-frame (frames r m (onto [] (h .path))) (ltb (length (h .path)) (cfg .levels)) (h .right) (frame-thin (onto [] (h .path))) ∙ ap (λ p. frames r m (onto [] p)) at)
+                  ap₂ (λ f w. host.Found (page f) w) (entry-frame (frames r m (onto [] (h .path))) (ltb (length (h .path)) (cfg .levels)) (h .right) (frame-thin h v) ∙ ap (λ p. frames r m (onto [] p)) at)
                   (entry-writable (frames r m (onto [] (h .path))) (ltb (length (h .path)) (cfg .levels)) (h .right))
           go false q =
               let l : cfg .levels ≤ deep = ltb-false deep (cfg .levels) q in

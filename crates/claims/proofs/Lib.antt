@@ -3,6 +3,7 @@ pub mod Invariant
 pub mod Moves
 pub mod Paths
 pub mod Found
+pub mod Depths
 pub mod Bits
 pub mod Fills
 pub mod Translates

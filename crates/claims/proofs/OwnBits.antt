@@ -5,7 +5,7 @@ use mathlib.Core.Logic.{inl, inr}
 use Prim.Native.Nat.{ℕ, _+_, _*_, _<_}
 use native.Mathlib.Omega.{arith}
 use mathlib.Core.Bool.{Bool, true, false, _&&_, _||_}
-use mathlib.Core.List.{List, [], _∷_, map}
+use mathlib.Core.List.{List, [], _∷_}
 use lib.Dec.{eqb, ltb}
 use borrow.Author.Tests.{eqb-true, eqb-false, ltb-true, ltb-false}
 use lib.ListN.{length, drop, set, getD, length-set}
@@ -23,9 +23,9 @@ use Rattle.words.specs.Words.{at, wordIn, setIn}
 use Rattle.layout.specs.Layout.{page}
 use Rattle.walk.specs.declared.Walked.{Walked}
 use Rattle.walk.specs.declared.Walked.the-variants as walked
-use Rattle.walk.specs.Memory.{memoryWorld, walkedOf, framesOf}
+use Rattle.walk.specs.Memory.{memoryWorld, walkedOf}
 use Rattle.accessed.specs.Entries.{bitsIn}
-use Rattle.accessed.proofs.Walks.{arrived-granted, walk-read, walk-tables}
+use Rattle.accessed.proofs.Walks.{arrived-granted, walk-area}
 use Rattle.translate.specs.Translate.{whole}
 use Rattle.request.specs.Access.{setBy, bitsOf, settledOf}
 use Rattle.claims.specs.Safety.{Bitted, BitsOnly}
@@ -86,22 +86,13 @@ bits-only c st (x ∷ xs) m a =
     let next = setIn m (x .0) (x .1) (withBits b (wordIn m (x .0) (x .1))) in
     only-trans true area (drop (512 * guestBase c) next) (drop (512 * guestBase c) (bitsIn st next xs)) first (bits-only c st xs next (a .1))
 
--- both parts of each pair
-all-pairs : (P Q : ℕ → Type 0) (xs : List (ℕ × ℕ)) → All P (map (λ x. x .0) xs) → All Q (map (λ x. x .1) xs) → All (λ x. P (x .0) × Q (x .1)) xs
-all-pairs P Q [] a b = tt
-all-pairs P Q (x ∷ xs) a b = ((a .0, b .0), all-pairs P Q xs (a .1) (b .1))
-
 -- ---- a request's
 
 module _ (c : Config) (ht root : ℕ) (st : Bool) (a : ℕ) where
-  whole-in : (m : List ℕ) (t : ℕ) (v : Bool) (n : ℕ) → walkedOf c ht m 0 (whole c st root a) ≡ walked.Arrived (page t) v n
+  whole-in : (m : List ℕ) (t : ℕ) (v : Bool) (n : ℕ) → walkedOf c ht m 0 (whole c st root a) ≡ walked.Arrived v (page t) n
       → All (WordIn c) ((trace (memoryWorld c ht m) (whole c st root a)) .reads)
-  unfolding framesOf
   whole-in m t v n e =
-      let g = arrived-granted c ht m 0 (whole c st root a) t v n e in
-      all-pairs (InGuestArea c) (λ i. i < 512) ((trace (memoryWorld c ht m) (whole c st root a)) .reads)
-      (walk-tables c ht m (InGuestArea c) (λ f i. i) st root (indexes (c .levels) (pageOf a)) (t, v) g)
-      (subst (All (λ i. i < 512)) (sym (walk-read (memoryWorld c ht m) c st root (indexes (c .levels) (pageOf a)) (t, v) g .indexed)) (indexes-all (c .levels) (pageOf a)))
+      walk-area c ht m st root (indexes (c .levels) (pageOf a)) (t, v) (indexes-all (c .levels) (pageOf a)) (arrived-granted c ht m 0 (whole c st root a) t v n e)
 
   set-only : (m : List ℕ) → (length (bitsOf c ht m root st a) ≡ length m) × BitsOnly true (drop (512 * guestBase c) m) (drop (512 * guestBase c) (bitsOf c ht m root st a))
   unfolding bitsOf
@@ -112,7 +103,7 @@ module _ (c : Config) (ht root : ℕ) (st : Bool) (a : ℕ) where
 
       go : (x : Walked) → walkedOf c ht m 0 (whole c st root a) ≡ x
           → (length (setBy x (bitsIn st m xs) m) ≡ length m) × BitsOnly true (drop (512 * guestBase c) m) (drop (512 * guestBase c) (setBy x (bitsIn st m xs) m))
-      go (walked.Arrived t v n) e = (bits-long st xs m, bits-only c st xs m (whole-in m (t .0) v n e))
+      go (walked.Arrived v t n) e = (bits-long st xs m, bits-only c st xs m (whole-in m (t .0) v n e))
       go (walked.Faulted x n) e = (refl, only-refl true (drop (512 * guestBase c) m))
       go walked.Damaged e = (refl, only-refl true (drop (512 * guestBase c) m))
 

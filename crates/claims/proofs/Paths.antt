@@ -1,23 +1,20 @@
--- The indexes of an address in its two parts, a walk above level 1, and the reply of a request by its translation.
+-- The indexes of an address in its two parts, and the reply of a request by its translation.
 -- Assumes nothing.
 use mathlib.Core.Path.{_≡_, refl, sym, ap, _∙_}
-use Prim.Native.Nat.{ℕ, pred, _+_, _-_, _*_, _/_, _^_, _<_, _≤_}
+use Prim.Native.Nat.{ℕ, _+_, _-_, _*_, _/_, _^_, _≤_}
 use native.Mathlib.Omega.{arith}
-use mathlib.Core.Bool.{Bool, true, false, _&&_, cond}
-use mathlib.Core.List.{List, [], _∷_, _++_}
-use lib.Dec.{eqb}
-use borrow.Author.Tests.{ne-eqb}
-use lib.ListN.{length, take, drop}
+use mathlib.Core.Bool.{Bool, cond}
+use mathlib.Core.List.{List, _++_}
+use lib.ListN.{take, drop}
 use lib.Seq.{drop-append-seam}
 use Rattle.spec.specs.declared.Fault.{Fault}
 use Rattle.spec.specs.declared.Fault.the-variants as fault
 use Rattle.spec.specs.Config.{Config}
 use Rattle.spec.specs.Entry.{indexes, pageOf}
-use Rattle.spec.specs.Walk.{Result, granted, failed, _>>=_}
-use Rattle.spec.specs.Plain.{Place, entry, next, levels, walk, hosted, upper}
+use Rattle.spec.specs.Walk.{Result, granted, failed}
+use Rattle.spec.specs.Plain.{Place, upper}
 use Rattle.spec.specs.Call.{addressIndexes}
 use Rattle.spec.specs.Count.{hostExit}
-use Rattle.spec_laws.proofs.Bind.{bind-cong}
 use Rattle.spec_laws.proofs.Indexes.{indexes-length, indexes-split, indexes-take}
 use Rattle.walk.proofs.Stands.{plainWalked}
 use Rattle.translate.specs.Translate.{exitBy, pathIndexes}
@@ -46,26 +43,6 @@ path-lower c d a l =
     ∙ ap (drop (c .levels - d)) (indexes-split (c .levels - d) d (pageOf a))
     ∙ ap (λ k. drop k (xs ++ indexes d (pageOf a))) (sym (indexes-length (c .levels - d) (pageOf a / 2 ^ (9 * d))))
     ∙ drop-append-seam xs (indexes d (pageOf a))
-
--- above level 1 a store walks as a load
-next-above : (g : ℕ) (w : Bool) → next true false g w ≡ next false false g w
-unfolding next
-next-above g w = refl
-
-levels-above : (c : Config) (n t : ℕ) (w : Bool) (is : List ℕ) → length is < n → levels c true n t w is ≡ levels c false n t w is
-unfolding levels
-levels-above c n t w [] h = refl
-levels-above c n t w (i ∷ is) h =
-    let f : eqb n 1 ≡ false = ne-eqb n 1 (λ e. let k : 0 < length is + 1 = omega arith in omega arith) in
-    bind-cong (entry c n t i) _ _ (λ e.
-    ap (λ b. next true b (e .0) (w && e .1) >>= λ r. levels c true (pred n) (r .0) (r .1) is) f
-    ∙ ap (λ p. p >>= λ r. levels c true (pred n) (r .0) (r .1) is) (next-above (e .0) (w && e .1))
-    ∙ bind-cong (next false false (e .0) (w && e .1)) _ _ (λ r. levels-above c (pred n) (r .0) (r .1) is (omega arith))
-    ∙ ap (λ b. next false b (e .0) (w && e .1) >>= λ r. levels c false (pred n) (r .0) (r .1) is) (sym f))
-
-pub walk-above : (c : Config) (root : ℕ) (is : List ℕ) → length is < c .levels → walk c true root is ≡ walk c false root is
-unfolding walk
-walk-above c root is h = bind-cong (hosted root) _ _ (λ r. levels-above c (c .levels) (r .0) true is h)
 
 -- H and W are the faults that call the monitor
 pub exit-is : (x : Result Fault Place) (n : ℕ) → exitBy (plainWalked x n) ≡ hostExit x

@@ -3,7 +3,6 @@
 -- Assumes nothing.
 use mathlib.Core.Path.{_≡_, refl, sym, ap, ap₂, _∙_, subst}
 use Prim.Native.Nat.{ℕ, suc, _+_, _*_, _≤_}
-use native.Mathlib.Nat.{le-of-eq, mul-le-mul}
 use native.Mathlib.Omega.{arith}
 use mathlib.Core.Bool.{Bool, true, false, cond}
 use mathlib.Core.List.{List}
@@ -13,19 +12,21 @@ use Rattle.spec.specs.declared.Fault.{Fault}
 use Rattle.spec.specs.Answer as say
 use Rattle.spec.specs.Answer.{Line, line}
 use Rattle.spec.specs.Config.{Config, guestBase}
-use Rattle.spec.specs.Entry.{wordOf}
+use Rattle.spec.specs.Entry.{wordOf, pageOf}
 use Rattle.spec.specs.Bytes.{widthFits, bytesAt, withBytes}
-use Rattle.spec.specs.Walk.{World, Result, granted, failed, trace}
+use Rattle.spec.specs.Walk.{World, Trace, Result, granted, failed, trace}
 use Rattle.spec.specs.Plain.{Place}
 use Rattle.spec.specs.Machine.{Machine, world, place, wordIn}
 use Rattle.spec.specs.Bits.{owes, judged, bitsSet}
-use Rattle.spec.specs.Book.{depth}
 use Rattle.spec.specs.Call.{Call, device, addressIndexes, plain, verdict, access}
-use Rattle.spec.specs.Count.{Counted, request, storing}
+use Rattle.spec.specs.Count.{Counted, grantedReads, requestDepth, request, storing}
 use Rattle.spec.specs.Run.{State, lineOf, step, after, opened}
-use Rattle.spec_laws.proofs.Counts.{request-count}
+use Rattle.spec_laws.proofs.Counts.{EachReal, request-count, verdict-granted, granted-most}
+use Rattle.spec_laws.proofs.Large.{walk-most}
+use Rattle.spec_laws.proofs.Asks.{AnswerIn}
+use Rattle.spec_laws.proofs.Indexes.{indexes-length}
 use Rattle.spec_laws.proofs.Before.{off-bits}
-use Rattle.spec_laws.proofs.Depth.{depth-bound}
+use Rattle.spec_laws.proofs.Keeps.{InGuestArea, area-real, plain-in, depth-real}
 use Rattle.words.specs.Words as words
 use Rattle.walk.specs.Memory.{memoryWorld, walkedOf}
 use Rattle.translate.specs.Translate.{whole}
@@ -33,14 +34,15 @@ use Rattle.walk.proofs.Stands.{plainWalked}
 use Rattle.record.specs.declared.Record.{Record}
 use Rattle.record.specs.Record.{configOf, configBy, headTables}
 use Rattle.record.specs.Open.{refusalOf}
-use Rattle.calls.specs.Calls.{hostTop, heldOf, headHeld, refused, admitted, placed, addressOk, depthAt, loadCall, storeCall, deviceCall, callOf}
-use Rattle.claims.specs.Plain.{requestAt, isStore, judgedWalk, plainWalk, withOwn, Granted, Faulted, AsWalked, Unrefused}
+use Rattle.calls.specs.Calls.{hostTop, heldOf, rootOf, headHeld, refused, admitted, placed, addressOk, requestDepth as callDepth, loadCall, storeCall, deviceCall, callOf}
+use Rattle.claims.specs.Plain.{requestAt, isStore, judgedWalk, plainWalk, withOwn, readsOf, readsOn, Granted, Faulted, AsWalked, Unrefused}
 use Rattle.claims.specs.Run.{guestArea, runOf}
 use Rattle.claims.proofs.Invariant.{Inv, at}
-use Rattle.claims.proofs.Found.{memory-stands, root-small, depth-is}
+use Rattle.claims.proofs.Found.{memory-stands, root-small}
+use Rattle.claims.proofs.Depths.{depth-is}
 use Rattle.claims.proofs.Requests.{load-step, store-step, settles, same-bitted}
 use Rattle.claims.proofs.Moves.{at-inv}
-use Rattle.claims.proofs.Bits.{whole-owed, whole-walked}
+use Rattle.claims.proofs.Bits.{whole-trace, whole-owed, whole-walked}
 use Rattle.claims.proofs.Demands.{Beside, follows, after-run}
 use Rattle.words.specs.After.{After}
 use Rattle.calls.specs.declared.Reply.{Reply}
@@ -69,22 +71,38 @@ module _ (s : State) (r : Record) (m : List ℕ) (inv : Inv s r m) (beside : Bes
       go (some o) (granted p) = refl
       go (some o) (failed x) = refl
 
-  -- the depth of an address is the book's
-  pub deep : (a : ℕ) → depthAt r a ≡ depth (s .book .marks) (addressIndexes c a)
-  deep a = depth-is s r m inv a
+  -- the guest entries on the way
+  entries-is : (st : Bool) (a : ℕ) → (trace (memoryWorld c (hostTop r) m) (whole c st (rootOf r) a)) .reads ≡ (plain c mach st a) .reads
+  entries-is st a =
+      ap (λ x. (trace (memoryWorld c (hostTop r) m) (whole c st x a)) .reads) (inv .root)
+      ∙ ap (λ (x : Trace Fault Place). x .reads) (whole-trace c mach (hostTop r) m (memory-stands s r m inv) (root-small s r m inv) st a)
+
+  -- so the count is that of machine and book
+  pub reads-on : (st : Bool) (a : ℕ) → readsOf r m st a ≡ readsOn c s st a
+  reads-on st a = ap₂ (λ d xs. grantedReads c d (length xs)) (depth-is s r m inv a) (entries-is st a)
 
   module _ (a w : ℕ) (wide : widthFits w ≡ true) (ok : addressOk false c a w ≡ true) where
     -- the book's count before a word is stored
     abbrev cost : Bool → Counted
-    cost st = request c mach (s .book) st a (depth (s .book .marks) (addressIndexes c a))
+    cost st = request c mach (s .book) st a (requestDepth c mach (s .book) a)
 
-    reads : (st : Bool) (p : Place) → verdict c mach st a ≡ granted p → (cost st) .references ≡ c .levels + c .levels * depthAt r a
+    real : EachReal (world c mach) c
+    unfolding world
+    real g p e = area-real c (p .0) (subst (AnswerIn (InGuestArea c)) e (memory-stands s r m inv .inside g))
+
+    reads : (st : Bool) (p : Place) → verdict c mach st a ≡ granted p → (cost st) .references ≡ readsOf r m st a
     reads st p e =
-        request-count c mach (s .book) st a (depth (s .book .marks) (addressIndexes c a)) p (depth-bound (c .levels) (s .book .marks) (addressIndexes c a) (inv .book .marks)) e
-        ∙ ap (λ d. c .levels + c .levels * d) (sym (deep a))
+        request-count c mach (s .book) st a (requestDepth c mach (s .book) a) p real
+        (area-real c (p .0) (plain-in c mach st a p (memory-stands s r m inv .inside) (root-small s r m inv) (verdict-granted c mach st a p e)))
+        (λ q z. depth-real c mach a _ (memory-stands s r m inv .inside) (root-small s r m inv) st q z) e
+        ∙ sym (reads-on st a)
 
-    few : c .levels + c .levels * depthAt r a ≤ c .levels + c .levels * suc (c .levels)
-    few = let l = depth-bound (c .levels) (s .book .marks) (addressIndexes c a) (inv .book .marks) in let k : c .levels * depthAt r a ≤ c .levels * suc (c .levels) = mul-le-mul (le-of-eq refl) (omega (arith, deep a, l)) in omega (arith, k)
+    few : (st : Bool) (p : Place) → verdict c mach st a ≡ granted p → readsOf r m st a ≤ c .levels + c .levels * suc (c .levels)
+    unfolding plain
+    few st p e =
+        let most = walk-most (world c mach) c st (mach .root) (addressIndexes c a) p (verdict-granted c mach st a p e) in
+        granted-most c (callDepth r m a) (length ((trace (memoryWorld c (hostTop r) m) (whole c st (rootOf r) a)) .reads))
+        (omega (arith, ap length (entries-is st a), most, indexes-length (c .levels) (pageOf a)))
 
     -- the specification's step, by the walk's result
     abbrev stepBy : Option ℕ → Result Fault Place → Line × List ℕ
@@ -129,7 +147,7 @@ module _ (s : State) (r : Record) (m : List ℕ) (inv : Inv s r m) (beside : Bes
         record {
           exits = (cost false) .exits;
           says = ap (λ o. o .0) d ∙ ap₂ (λ x n. say.value (bytesAt a w x) n ((cost false) .exits)) (sym (e .1)) (reads false p q);
-          most = few;
+          most = few false p q;
           area = ap (λ o. o .1) d ∙ sym (e .0);
         }
     granted-by (some v) p q =
@@ -139,7 +157,7 @@ module _ (s : State) (r : Record) (m : List ℕ) (inv : Inv s r m) (beside : Bes
         record {
           exits = x;
           says = ap (λ o. o .0) d ∙ ap (λ n. say.done n x) (reads true p q);
-          most = few;
+          most = few true p q;
           area = ap (λ o. o .1) d ∙ ap₂ (λ xs y. set xs (place c (p .0) (wordOf a)) (withBytes a w v y)) (sym (e .0)) (sym (e .1));
         }
 

@@ -12,6 +12,7 @@ use lib.ListN.{length, drop, set, length-set}
 use lib.Seq.{drop-set-add}
 use borrow.Author.Tests.{ltb-false}
 use Rattle.spec.specs.Config.{Config, guestBase, frameBits}
+use Rattle.spec.specs.Plain.{isSpan}
 use Rattle.spec.specs.Machine.{Machine, Mapping, place, wordIn, stored}
 use Rattle.spec.specs.Bits.{isLast, withBits, setBits}
 use Rattle.spec.specs.Book.{Held, find, holding, dropWord, watched, readsFrame, readsWord}
@@ -161,7 +162,7 @@ pub record Drops (s : State) (r : Record) (t i : ℕ) (x : After Put) : Type 0 w
   pub done : x ≡ put pool (one (watched t (s .book .held))) true memory
   pub next : Inv (record { config = configOf r; machine = s .machine; book = holding (s .book) (dropWord t i (s .book .held)) }) (withHeld r (record { pool = pool; frame = r .guest .held })) memory
 
-module _ (s : State) (r : Record) (m : List ℕ) (inv : Inv s r m) (t i : ℕ) (word : i < 512) where
+module _ (s : State) (r : Record) (m : List ℕ) (inv : Inv s r m) (t i : ℕ) (word : i < 512) (real : isSpan (configOf r) t ≡ false) where
   abbrev c : Config
   c = configOf r
 
@@ -175,14 +176,14 @@ module _ (s : State) (r : Record) (m : List ℕ) (inv : Inv s r m) (t i : ℕ) (
   kept = dropWord t i (s .book .held)
 
   -- the path of no index reads no word
-  empty-reads : All (λ (h : Held). h .path ≡ [] → h .reads ≡ readsFrom (framesAt c ht m (mach .root)) [] (h .path)) (s .book .held)
+  empty-reads : All (λ (h : Held). h .path ≡ [] → h .reads ≡ readsFrom c (framesAt c ht m (mach .root)) [] (h .path)) (s .book .held)
   empty-reads = all-map (Valid c mach) _ (s .book .held)
       (λ h k e. (valid-entry c mach ht m (found.memory-stands s r m inv) (found.root-small s r m inv) (found.few s r m inv) h k) .reads) (inv .valid)
 
   watched-same : watchedOf c m (r .pools .shadow .fresh) t ≡ watched t (s .book .held)
   watched-same =
-      watched-is (inv .shadow) (found.held-entries s r m inv) t
-      ∙ watched-longer t (s .book .held) (all-map _ _ (s .book .held) (λ h k e. empty-frame h e (framesAt c ht m (mach .root)) (k e) t) empty-reads)
+      watched-is (inv .shadow) (found.held-entries s r m inv) t real
+      ∙ watched-longer t (s .book .held) (all-map _ _ (s .book .held) (λ h k e. empty-frame h e c (framesAt c ht m (mach .root)) (k e) t) empty-reads)
 
   -- from shadow tables that hold the kept paths, and a memory that differs in them alone
   dropped-next : (p : Pool) (n : List ℕ) → Beside (shadowArea c) m n
@@ -212,14 +213,14 @@ module _ (s : State) (r : Record) (m : List ℕ) (inv : Inv s r m) (t i : ℕ) (
 
       same-find : find [] kept ≡ find [] (s .book .held)
       same-find = find-keep (λ h. not (readsWord t i h)) (s .book .held)
-          (all-map _ _ (s .book .held) (λ h k e. ap not (empty-word h e (framesAt c ht m (mach .root)) (k e) t i)) empty-reads)
+          (all-map _ _ (s .book .held) (λ h k e. ap not (empty-word h e c (framesAt c ht m (mach .root)) (k e) t i)) empty-reads)
 
   pub drops : Drops s r t i (droppedOf c m (r .pools .shadow) t i)
   unfolding droppedOf
   drops = go (watched t (s .book .held)) refl
     where
       scanned : Dropped c m (leafAt (entryOf c (frames r m)) (dropWord t i (longer (s .book .held)))) (frames r m) (scanOf c (Word (page t) i) (r .pools .shadow) m)
-      scanned = drop-word (inv .shadow) (found.held-entries s r m inv) t i word
+      scanned = drop-word (inv .shadow) (found.held-entries s r m inv) t i real word
 
       tables : List Held → Type 0
       tables l = Holds (shadowArea c) false (r .pools .shadow) m (leafAt (entryOf c (frames r m)) l) (frames r m)

@@ -2,11 +2,11 @@
 -- Assumes nothing.
 use mathlib.Core.Path.{_≡_, refl, sym, ap, ap₂, _∙_, subst}
 use mathlib.Core.Logic.{_≢_, _⊎_, inl, inr}
-use Prim.Native.Nat.{ℕ, pred, _*_, _^_, _<_, _≤_}
+use Prim.Native.Nat.{ℕ, pred, _-_, _*_, _^_, _<_, _≤_}
 use native.Mathlib.Omega.{arith}
 use borrow.Author.Tests.{ltb-true, leb-false, eqb-true, eqb-false, ne-eqb}
 use mathlib.Core.Bool.{Bool, true, false, not, cond}
-use mathlib.Core.List.{List, [], _∷_}
+use mathlib.Core.List.{List, [], _∷_, _++_}
 use mathlib.Core.Option.{Option, none, some}
 use lib.Dec.{T, eqb, leb}
 use lib.Pow.{pow-mono}
@@ -17,7 +17,7 @@ use Rattle.spec.specs.Config.{Config, guestBase, frameBits}
 use Rattle.spec.specs.Entry.{frameOf, indexes}
 use Rattle.spec.specs.Prefix.{any}
 use Rattle.spec.specs.Walk.{Walk, World, Trace, granted, trace}
-use Rattle.spec.specs.Plain.{Place, hosted, levels, walk}
+use Rattle.spec.specs.Plain.{Place, Lead, to, into, hosted, levels, walk}
 use Rattle.spec.specs.Machine.{Machine, Mapping, lookup, isMapped, with, without, hostTables, hostCost, remapped, world}
 use Rattle.spec.specs.Book.{Held, find, holding, usesMapping, dropMapping}
 use Rattle.spec.specs.Call.{root, map, unmap, machineStep}
@@ -25,8 +25,9 @@ use Rattle.spec.specs.Count.{bookStep}
 use Rattle.spec.specs.Refusal.{firstFailed, frameFits, inGuestArea, tests, refusal}
 use Rattle.spec.specs.Run.{State}
 use Rattle.spec.specs.Prefix.{All}
-use Rattle.spec_laws.proofs.Lists.{all-map, all-keep, keep-all, is-true}
-use Rattle.spec_laws.proofs.Granted.{through, then-trace, hosted-granted, level-granted}
+use Rattle.spec_laws.proofs.Lists as lists
+use Rattle.spec_laws.proofs.Lists.{all-map, all-keep, all-right, all-append, keep-all, is-true}
+use Rattle.spec_laws.proofs.Granted.{leadAt, leadUses, levelReads, Reaches, through, then-trace, hosted-granted, level-granted}
 use Rattle.spec_laws.proofs.Trail.{readsFrom, usesFrom}
 use Rattle.spec_laws.proofs.Local.{Seen, seen}
 use Rattle.spec_laws.proofs.Keeps.{Valid, again, lookup-with, lookup-without, InGuestArea}
@@ -59,7 +60,7 @@ use Rattle.shadow.specs.Held.{shadowArea}
 use Rattle.drops.specs.Drop.{scanOf}
 use Rattle.drops_laws.proofs.Scan.{Dropped}
 use Rattle.drops_laws.proofs.Held.{leafAt, HeldEntry, HeldEntries}
-use Rattle.drops_laws.proofs.Drops.{namedIn, guestFrame, mapping-all, drop-mapping, empty-mapping}
+use Rattle.drops_laws.proofs.Drops.{namedIn, lead-on, guestFrame, mapping-all, drop-mapping, empty-mapping}
 use Rattle.drops_laws.proofs.Valid.{framesAt, entryOf, valid-entries, Stays, stays-mapping}
 use Rattle.calls.specs.Calls.{hostTop, headHeld, headHost, headRooted, nothing, ended, refused, withHeld, withHost, droppedBy, unmappedOf, mappedBy, rootCall, mapCall, unmapCall}
 use Rattle.claims.proofs.Invariant.{longer, topBy, Inv, Follows, stands}
@@ -103,6 +104,10 @@ root-follows s r m h rules g = rw (h .fits) (go (frameFits (configOf r) g) refl)
 
 -- ---- every mapping that a granted walk uses is there
 module _ (w : World) (c : Config) (st : Bool) where
+  lead-found : (x : Lead) (r : Place) → Reaches w c x r → All (λ g. w .hostAt g ≢ none) (leadUses x)
+  lead-found (to g) r h = ((λ e. no-place (sym e ∙ h .1)), tt)
+  lead-found (into g) r h = tt
+
   levels-found : (n t : ℕ) (v : Bool) (is : List ℕ) (r : Place) → (trace w (levels c st n t v is)) .result ≡ granted r
       → All (λ g. w .hostAt g ≢ none) ((trace w (levels c st n t v is)) .uses)
   unfolding levels trace
@@ -110,7 +115,7 @@ module _ (w : World) (c : Config) (st : Bool) where
   levels-found n t v (i ∷ is) r h =
       let l = level-granted w c st n t v i is r h in
       subst (λ (x : Trace Fault Place). All (λ g. w .hostAt g ≢ none) (x .uses)) (sym (l .whole))
-      ((λ e. no-place (sym e ∙ l .found)), levels-found (pred n) (l .at .0) (l .at .1) is r (l .next))
+      (all-append _ (leadUses (leadAt w c n t i)) _ (lead-found (leadAt w c n t i) (l .at) (l .reaches)) (levels-found (pred n) (l .at .0) (l .at .1) is r (l .next)))
 
   walk-found : (g : ℕ) (is : List ℕ) (r : Place) → (trace w (walk c st g is)) .result ≡ granted r → All (λ f. w .hostAt f ≢ none) ((trace w (walk c st g is)) .uses)
   unfolding walk
@@ -178,7 +183,7 @@ module _ (s : State) (r : Record) (m : List ℕ) (h : Inv s r m) (g : ℕ) (ys :
       (is ∙ top-on c left (s .machine) (changedState .machine) (hostTop r) (p .top) m o (inv-stands h) now (inv-root h) (inv-root h) few staying)
 
   entries : (hs : List Held) → All (Valid (configOf r) (s .machine)) hs
-      → HeldEntries (configOf r) F (namedIn m F) (s .machine .root) (entryOf (configOf r) F) hs
+      → HeldEntries (configOf r) F (namedIn (configOf r) m F) (s .machine .root) (entryOf (configOf r) F) hs
   unfolding F
   entries hs a = valid-entries (configOf r) (s .machine) (hostTop r) m (inv-stands h) (inv-root h) (h .maps .few) hs a
 
@@ -207,18 +212,22 @@ module _ (s : State) (r : Record) (m : List ℕ) (h : Inv s r m) (g : ℕ) (ys :
       (inv-top h ∙ sym (ap (λ hs. topBy (F []) (find [] hs)) same))
 
   -- the guest entries on a held path are not in the host area
-  named-same : (is q : List ℕ) → All (λ (x : ℕ × ℕ). guestBase (configOf r) ≤ x .0) (readsFrom F q is) → usesFrom (namedIn m F) q is ≡ usesFrom (namedIn n F) q is
+  named-same : (is q : List ℕ) → All (λ (x : ℕ × ℕ). guestBase (configOf r) ≤ x .0) (readsFrom (configOf r) F q is) → usesFrom (namedIn (configOf r) m F) q is ≡ usesFrom (namedIn (configOf r) n F) q is
   unfolding namedIn
   named-same [] q a = refl
   named-same (i ∷ is) q a =
-      ap₂ (λ x us. frameOf x ∷ us) (sym (beside-place beside (at (F q) i) (inr (omega (arith, a .0))))) (named-same is (i ∷ q) (a .1))
+      let here = lists.all-left _ (levelReads (configOf r) (F q) i) (readsFrom (configOf r) F (i ∷ q) is) a in
+      ap₂ (λ x us. leadUses x ++ us)
+      (sym (lead-on (configOf r) m n (configOf r .levels - length q) (F q) i (λ k. beside-place beside (at (F q) i)
+      (inr (omega (arith, (subst (λ b. All (λ (x : ℕ × ℕ). guestBase (configOf r) ≤ x .0) (cond b [] ((F q, i) ∷ []))) k here) .0))))))
+      (named-same is (i ∷ q) (all-right _ (levelReads (configOf r) (F q) i) (readsFrom (configOf r) F (i ∷ q) is) a))
 
-  entries-after : HeldEntries (configOf r) F (namedIn n F) (s .machine .root) (entryOf (configOf r) F) (longer held)
+  entries-after : HeldEntries (configOf r) F (namedIn (configOf r) n F) (s .machine .root) (entryOf (configOf r) F) (longer held)
   unfolding held
-  entries-after = record { all = all-map _ _ (longer held) (λ x e. go x e) ((entries (longer held) (all-longer _ held (h .valid))) .all) }
+  entries-after = record { spans = entries (longer held) (all-longer _ held (h .valid)) .spans; all = all-map _ _ (longer held) (λ x e. go x e) ((entries (longer held) (all-longer _ held (h .valid))) .all) }
     where
-      go : (x : Held) → HeldEntry (configOf r) F (namedIn m F) (s .machine .root) (entryOf (configOf r) F x) x
-          → HeldEntry (configOf r) F (namedIn n F) (s .machine .root) (entryOf (configOf r) F x) x
+      go : (x : Held) → HeldEntry (configOf r) F (namedIn (configOf r) m F) (s .machine .root) (entryOf (configOf r) F x) x
+          → HeldEntry (configOf r) F (namedIn (configOf r) n F) (s .machine .root) (entryOf (configOf r) F x) x
       go x e = record {
         set = e .set;
         area = e .area;
@@ -232,12 +241,12 @@ module _ (s : State) (r : Record) (m : List ℕ) (h : Inv s r m) (g : ℕ) (ys :
   top-stays : g ≢ s .machine .root → r .guest .held .0 ≡ topBy (F []) (find [] left)
   unfolding F left held
   top-stays n = inv-top h ∙ sym (ap (topBy (F [])) (find-keep (λ x. not (usesMapping g x)) held
-      (all-map _ _ held (λ x e q. ap not (empty-mapping x q (namedIn m F) (s .machine .root) (e .uses) g ∙ ne-eqb g (s .machine .root) n)) ((entries held (h .valid)) .all))))
+      (all-map _ _ held (λ x e q. ap not (empty-mapping x q (namedIn (configOf r) m F) (s .machine .root) (e .uses) g ∙ ne-eqb g (s .machine .root) n)) ((entries held (h .valid)) .all))))
 
   -- the paths that used the mapping go, and no other
   scan-left : g ≢ s .machine .root
       → Moved changedState r (droppedBy r (withHost r p) (r .guest .held) (scanOf (configOf r) (Names (guestFrame g)) (r .pools .shadow) n))
-  unfolding headHeld headHost headTables left held
+  unfolding headHeld headHost headTables left held F
   scan-left other = go (drop-mapping shadow-stays entries-after g other)
     where
       go : {t : After Left} → Dropped (configOf r) n (leafAt (entryOf (configOf r) F) (dropMapping g (longer held))) F t → Moved changedState r (droppedBy r (withHost r p) (r .guest .held) t)

@@ -21,19 +21,19 @@ use Rattle.spec.specs.Answer.{Line, line, faultLine}
 use Rattle.spec.specs.Config.{Config, frameBits}
 use Rattle.spec.specs.Entry.{wordOf, pageOf, indexes}
 use Rattle.spec.specs.Walk.{Walk, Trace, Result, granted, failed, trace, _>>_}
-use Rattle.spec.specs.Plain.{Place, must, hosted, next}
+use Rattle.spec.specs.Plain.{Place, isSpan, must, hosted, next}
 use Rattle.spec.specs.Machine.{Machine, world, wordIn, stored}
 use Rattle.spec.specs.Prefix.{All}
 use Rattle.spec.specs.Book.{Held, Book, depth, holding, dropWord, readsWord, watched}
 use Rattle.spec.specs.Choice.{firstOf, lower, readsLeaf, leafPrefixes, chargeOf, charged, entered, observed}
 use Rattle.spec.specs.Bits.{setBits, bitsSet}
 use Rattle.spec.specs.Call.{Call, load, store, device, addressIndexes, plain, verdict, deviceWalk, access, asked, machineStep}
-use Rattle.spec.specs.Count.{Counted, one, hostExit, isGranted, request, storing, unshadowed, bookStep}
+use Rattle.spec.specs.Count.{Counted, one, hostExit, isGranted, requestDepth, request, storing, unshadowed, bookStep}
 use Rattle.spec.specs.Bytes.{widthFits, aligned, bytesAt, withBytes}
 use Rattle.spec.specs.Refusal.{firstFailed, deviceFits, tests, refusal}
 use Rattle.spec.specs.Run.{State, lineOf, answered, step}
 use Rattle.spec_laws.proofs.Lists.{and-left, all-map, all-any, all-both, all-keep, all-kept}
-use Rattle.spec_laws.proofs.Keeps.{Valid, plain-in, InGuestArea}
+use Rattle.spec_laws.proofs.Keeps.{Valid, plain-in, InGuestArea, area-real}
 use Rattle.spec_laws.proofs.Charges.{IfSome, quiet-charge}
 use Rattle.spec_laws.proofs.Choice.{keep-keep, observed-held}
 use Rattle.spec_laws.proofs.Rules.{BookRules, SmallPath, ChargeRules, charge-rules, held-book, observed-book, request-rules}
@@ -166,10 +166,10 @@ abbrev Agrees : Config → Charge → Option (List ℕ) → Book → Type 0
 Agrees c x o b = ((x ≡ Nobody) × (observed c o b ≡ observed c none b)) ⊎ ((b .choice ≡ true) × ChargedTo (c .levels - 1) x o)
 
 -- no damage is met
-charge-agrees : (s : State) (r : Record) (m : List ℕ) → Inv s r m → (i : ℕ) (p : Place) → i < 512 → (b : Book) → b .choice ≡ s .book .choice
+charge-agrees : (s : State) (r : Record) (m : List ℕ) → Inv s r m → (i : ℕ) (p : Place) → i < 512 → isSpan (configOf r) (p .0) ≡ false → (b : Book) → b .choice ≡ s .book .choice
     → Agrees (configOf r) (chargeAt r (heldOf r) m (p .0) i) (chargeOf (configOf r) i (granted p) (s .book .held)) b
 unfolding chargeAt chargedIn
-charge-agrees s r m inv i p word b e = go (s .book .choice) refl
+charge-agrees s r m inv i p word real b e = go (s .book .choice) refl
   where
     c : Config
     c = configOf r
@@ -184,7 +184,7 @@ charge-agrees s r m inv i p word b e = go (s .book .choice) refl
     same = charge-longer (configOf r) i p (s .book .held) (omega (arith, found.rules s r m inv .sizes .deep))
 
     charged-by : ChargeIs (configOf r .levels - 1) (charge.chargedOf (configOf r) m (r .pools .shadow .fresh) (p .0) i) (chargeOf (configOf r) i (granted p) (longer (s .book .held)))
-    charged-by = charge-is (inv .shadow) (found.held-entries s r m inv) (p .0) i word (p .1)
+    charged-by = charge-is (inv .shadow) (found.held-entries s r m inv) (p .0) i real word (p .1)
 
     seen : s .book .choice ≡ true → (x : Charge) → ChargeIs (configOf r .levels - 1) x o → Agrees (configOf r) x o b
     seen on x (inl k) = inl (k .0, ap (λ y. observed (configOf r) y b) (k .1))
@@ -194,7 +194,7 @@ charge-agrees s r m inv i p word b e = go (s .book .choice) refl
         → Agrees (configOf r) (cond y (charge.chargedOf (configOf r) m (r .pools .shadow .fresh) (p .0) i) Nobody) o b
     watches on true q = seen on _ (subst (ChargeIs (configOf r .levels - 1) (charge.chargedOf (configOf r) m (r .pools .shadow .fresh) (p .0) i)) same charged-by)
     watches on false q =
-        let quiet : watched (p .0) (longer (s .book .held)) ≡ false = sym (watched-is (inv .shadow) (found.held-entries s r m inv) (p .0)) ∙ q in
+        let quiet : watched (p .0) (longer (s .book .held)) ≡ false = sym (watched-is (inv .shadow) (found.held-entries s r m inv) (p .0) real) ∙ q in
         inl (refl, ap (λ y. observed (configOf r) y b) (sym same ∙ quiet-charge (configOf r) i p (longer (s .book .held)) (subst (λ y. T (not y)) (sym quiet) tt)))
 
     go : (y : Bool) → s .book .choice ≡ y → Agrees (configOf r) (by (r .guest .choice .tally .on)) o b
@@ -304,7 +304,7 @@ module _ (s : State) (r : Record) (m : List ℕ) (inv : Inv s r m) (covered : Al
   -- ---- load
   module _ (a w : ℕ) where
     abbrev costs : Bool → Counted
-    costs st = request c mach (s .book) st a (depth (s .book .marks) (addressIndexes c a))
+    costs st = request c mach (s .book) st a (requestDepth c mach (s .book) a)
 
     pub load-step : widthFits w ≡ true → addressOk false c a w ≡ true
         → let o = asked c mach false a w none in
@@ -314,7 +314,7 @@ module _ (s : State) (r : Record) (m : List ℕ) (inv : Inv s r m) (covered : Al
 
     -- what the request leaves in the book keeps the rules
     costs-rules : (st : Bool) → BookRules c ((costs st) .book)
-    costs-rules st = request-rules c mach (s .book) st a (depth (s .book .marks) (addressIndexes c a)) rules
+    costs-rules st = request-rules c mach (s .book) st a (requestDepth c mach (s .book) a) rules
 
     loaded : widthFits w ≡ true → addressOk false c a w ≡ true → Follows (load a w) s r (windowedBy r (loadFrom c ht (r .guest .root .0) (heldOf r) a w (translatedOf r m false a)))
     unfolding access headHeld headTables headTally
@@ -404,13 +404,13 @@ module _ (s : State) (r : Record) (m : List ℕ) (inv : Inv s r m) (covered : Al
               (stepped (failed y) q) refl refl (window-held (record { config = c; machine = mach; book = k .book }) r (t .held) (t .memory) (t .next) (costs-rules true))
           at-by (granted p) q =
               to-by (chargeAt r (t .held) (t .memory) (p .0) (wordOf a))
-              (charge-agrees (record { config = c; machine = mach; book = k .book }) (withHeld r (t .held)) (t .memory) (t .next) (wordOf a) p (word-fits a) kept refl)
+              (charge-agrees (record { config = c; machine = mach; book = k .book }) (withHeld r (t .held)) (t .memory) (t .next) (wordOf a) p (word-fits a) (area-real c (p .0) there) kept refl)
             where
               there : InGuestArea c (p .0)
               there = page-in true a p (verdict-granted c mach true a p q)
 
               u : Drops (record { config = c; machine = mach; book = k .book }) (withHeld r (t .held)) (p .0) (wordOf a) (droppedOf c (t .memory) (t .held .pool) (p .0) (wordOf a))
-              u = drops (record { config = c; machine = mach; book = k .book }) (withHeld r (t .held)) (t .memory) (t .next) (p .0) (wordOf a) (word-fits a)
+              u = drops (record { config = c; machine = mach; book = k .book }) (withHeld r (t .held)) (t .memory) (t .next) (p .0) (wordOf a) (word-fits a) (area-real c (p .0) there)
 
               h : Holding
               h = record { pool = u .pool; frame = t .held .frame }
@@ -495,10 +495,10 @@ module _ (s : State) (r : Record) (m : List ℕ) (inv : Inv s r m) (covered : Al
           let l : a < 2 ^ (12 + frameBits c) = ltb→lt a (2 ^ (12 + frameBits c)) (and-left (deviceFits c a) (aligned a w) (subst T (sym ok) tt)) in
           shr-lt (frameBits c) 12 (subst (λ n. a < 2 ^ n) (add-comm 12 (frameBits c)) l)
 
-      device-asks : (g : ℕ) → g < 2 ^ frameBits c → Guest c (InGuestArea c) (deviceScript g) (λ q. InGuestArea c (q .0))
-      device-asks g b = asks-bind _ _ _ _ (hosted g) _ _ (hosted-asks c (InGuestArea c) g _ b (λ q f. go (q .1) q f))
+      device-asks : (g : ℕ) → g < 2 ^ frameBits c → Guest c (InGuestArea c) (area-real c) (deviceScript g) (λ q. InGuestArea c (q .0))
+      device-asks g b = asks-bind _ _ _ _ (hosted g) _ _ (hosted-asks c (InGuestArea c) (area-real c) g _ b (λ q f. go (q .1) q f))
         where
-          go : (x : Bool) (q : Place) → InGuestArea c (q .0) → Guest c (InGuestArea c) (must x (HostReadOnly g) >> Walk.done q) (λ y. InGuestArea c (y .0))
+          go : (x : Bool) (q : Place) → InGuestArea c (q .0) → Guest c (InGuestArea c) (area-real c) (must x (HostReadOnly g) >> Walk.done q) (λ y. InGuestArea c (y .0))
           go true q f = f
           go false q f = b
 
@@ -539,7 +539,7 @@ module _ (s : State) (r : Record) (m : List ℕ) (inv : Inv s r m) (covered : Al
               (stepped (failed y) q) refl (ap (faultLine y (tr .count)) (exit-is (failed y) (tr .count))) (at-inv inv)
           by (granted p) q =
               let there = device-in ok p q in
-              let u = drops s r m inv (p .0) (wordOf a) (word-fits a) in
+              let u = drops s r m inv (p .0) (wordOf a) (word-fits a) (area-real c (p .0) there) in
               let h : Holding = record { pool = u .pool; frame = r .guest .held } in
               let after : State = record { config = c; machine = mach; book = holding (s .book) (dropWord (p .0) (wordOf a) (s .book .held)) } in
               let word = same-word c mach ht (u .memory) (found.memory-stands after (withHeld r h) (u .memory) (u .next)) (p .0) (wordOf a) there in

@@ -74,7 +74,7 @@ use Rattle.request.proofs.Device.{device-in}
 use Rattle.charge.specs.declared.Charge.{Charge}
 use Rattle.charge.specs.declared.Charge.the-variants as charge
 use Rattle.automatic.specs.Moves.{Move, chargedOf, setOf, clearedOf}
-use Rattle.calls.specs.Calls.{hostTop, heldOf, rootOf, headHeld, headHost, headWindow, headRooted, nothing, ended, refused, judged, placed, withHeld, withHost, windowedBy, servedBy, addressOk, depthAt, translatedOf, chargeAt, finishedBy, paidBy, storeChargedOf, plainStore, storeBy, storedBy, loadCall, storeCall, deviceCall, rootCall, droppedBy, unmappedOf, mappedBy, mapCall, unmapCall, keysOf, markRefusal, movedBy, callOf, setMarkCall, clearMarkCall, forecastCall, openCall}
+use Rattle.calls.specs.Calls.{hostTop, heldOf, rootOf, headHeld, headHost, headWindow, headRooted, nothing, ended, refused, judged, placed, withHeld, withHost, windowedBy, servedBy, addressOk, requestDepth, translatedOf, chargeAt, finishedBy, paidBy, storeChargedOf, plainStore, storeBy, storedBy, loadCall, storeCall, deviceCall, rootCall, droppedBy, unmappedOf, mappedBy, mapCall, unmapCall, keysOf, markRefusal, movedBy, callOf, setMarkCall, clearMarkCall, forecastCall, openCall}
 use Rattle.calls.proofs.Ranges.{fits-held}
 use Rattle.claims.specs.Safety.{GuestKept, BitsOnly, Numbered, RefusalKept, Untouched, Foretells, Keeps, OpenKeeps}
 use Rattle.claims.specs.Run.{guestArea}
@@ -362,7 +362,7 @@ module _ (r : Record) (m : List ℕ) where
 
   leaves : fitsOf r (length m) ≡ true → (st : Bool) (a : ℕ) → Leaves (configOf r) m (translatedOf r m st a)
   unfolding translatedOf
-  leaves f st a = translate-leaves (configOf r) (hostTop r) m st (heldOf r) (fits-held r (length m) f) (rootOf r) a (depthAt r a)
+  leaves f st a = translate-leaves (configOf r) (hostTop r) m st (heldOf r) (fits-held r (length m) f) (rootOf r) a (requestDepth r m a) (omega (arith, fits-layout r (length m) f .sizes .deep))
 
   -- over a memory whose tables alone differ from m's, it sets a request's bits
   abbrev SetsBits : (List ℕ → List ℕ) → Type 0
@@ -375,7 +375,7 @@ module _ (r : Record) (m : List ℕ) where
 
   loaded-kept : (a w : ℕ) (o : After Translated) → Tables r m (o .memory) → (o .result .sets ≡ true → configOf r .bits ≡ true) → (x : Walked)
       → Kept r m (windowedBy r (loadBy (heldOf r) a w (settledOf (configOf r) (hostTop r) (rootOf r) false a (o .result .sets)) o x))
-  loaded-kept a w o x on (walked.Arrived t y n) =
+  loaded-kept a w o x on (walked.Arrived y t n) =
       let k = settled-kept false a (o .result .sets) on (o .memory) x in
       record { layout = window-layout r (o .result .held) _; long = k .0; area = k .1 }
   loaded-kept a w o x on (walked.Faulted y n) = guest-kept (window-layout r (o .result .held) _) x
@@ -474,7 +474,7 @@ module _ (r : Record) (m : List ℕ) where
     plain-kept = go (o .result .walked) (l .arrived)
       where
         go : (y : Walked) → ArrivedIn (configOf r) y → Kept r m (windowedBy r (access.storeBy (configOf r) (heldOf r) a w v settles o y))
-        go (walked.Arrived t y n) g =
+        go (walked.Arrived y t n) g =
             window-kept f (t .0) a w v g settles settled (o .memory) (o .result .held) came (l .held .0) n (o .result .exits)
             (droppedOf (configOf r) (o .memory) (o .result .held .pool) (t .0) (wordOf a) .result .ok)
         go (walked.Faulted x n) g = guest-kept (window-layout r (o .result .held) _) came
@@ -487,7 +487,7 @@ module _ (r : Record) (m : List ℕ) where
     by-charge t n g charge.Damaged = damage-kept r m (o .memory) came
 
     stored-kept : (y : Walked) → ArrivedIn (configOf r) y → Kept r m (storedBy r a w v o y)
-    stored-kept (walked.Arrived t y n) g = by-charge t n g (chargeAt r (o .result .held) (o .memory) (t .0) (wordOf a))
+    stored-kept (walked.Arrived y t n) g = by-charge t n g (chargeAt r (o .result .held) (o .memory) (t .0) (wordOf a))
     stored-kept (walked.Faulted x n) g = plain-kept
     stored-kept walked.Damaged g = plain-kept
 
@@ -508,7 +508,7 @@ module _ (r : Record) (m : List ℕ) where
       none-set q x = (x .long, subst (BitsOnly (configOf r .bits) (guestArea r m)) (sym (same-area r m q x)) (only-refl (configOf r .bits) (guestArea r m)))
 
       go : Fits r (length m) → (y : Walked) → ArrivedIn (configOf r) y → Kept r m (servedBy r (deviceBy (configOf r) m (heldOf r) a w v y))
-      go f (walked.Arrived t y n) g =
+      go f (walked.Arrived y t n) g =
           served-kept f (t .0) a w v g (λ q. q) none-set m (heldOf r) (none-changed r m) (f .shadow .0) n 0
           (droppedOf (configOf r) m (r .pools .shadow) (t .0) (wordOf a) .result .ok)
       go f (walked.Faulted y n) g = guest-kept (held-layout r (heldOf r)) (none-changed r m)

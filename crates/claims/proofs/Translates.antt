@@ -6,10 +6,10 @@ use native.Mathlib.Nat.{zero-add}
 use native.Mathlib.Omega.{arith}
 use mathlib.Core.Bool.{Bool, true, false, not, _&&_, _||_, cond}
 use mathlib.Core.List.{List, []}
+use lib.ListN.{length}
 use mathlib.Core.Option.{Option, none, some}
 use lib.Dec.{eqb, leb, ltb}
 use borrow.Author.Tests.{le-leb, lt-leb, ltb-true, ltb-false, ne-eqb}
-use lib.ListN.{length, length-map}
 use Rattle.spec.specs.declared.Fault.{Fault}
 use Rattle.spec.specs.declared.Fault.the-variants.{HostReadOnly}
 use Rattle.spec.specs.Config.{Config}
@@ -27,8 +27,10 @@ use Rattle.spec_laws.proofs.Local.{Seen, seen}
 use Rattle.spec_laws.proofs.Granted.{ran, walk-serves}
 use Rattle.spec_laws.proofs.Parts.{shadow-fault, direct-result}
 use Rattle.spec_laws.proofs.Indexes.{indexes-length, indexes-all}
-use Rattle.spec_laws.proofs.Asks.{Guest, levels-asks}
-use Rattle.spec_laws.proofs.Keeps.{Valid, again, right-wide, right-deep, InGuestArea}
+use Rattle.spec_laws.proofs.Asks.{Guest, placed-frame, levels-asks}
+use Rattle.spec_laws.proofs.Parts.{lower}
+use Rattle.spec_laws.proofs.Large.{walk-stores}
+use Rattle.spec_laws.proofs.Keeps.{Valid, again, right-wide, right-deep, InGuestArea, area-real, PlaceIn}
 use Rattle.spec_laws.proofs.SetBits.{lacks-bits}
 use Rattle.spec_laws.proofs.Before.{off-owes, off-verdict, off-bits}
 use Rattle.spec_laws.proofs.Covered.{Covered}
@@ -38,9 +40,8 @@ use Rattle.area_laws.proofs.Paths.{onto}
 use Rattle.layout.specs.Layout.{page}
 use Rattle.walk.specs.declared.Walked.{Walked}
 use Rattle.walk.specs.declared.Walked.the-variants as walked
-use Rattle.walk.specs.Memory.{memoryWorld, walkedOf, trailFrom}
+use Rattle.walk.specs.Memory.{memoryWorld, walkedOf, rootTrail}
 use Rattle.walk.proofs.Stands.{plainWalked, root-walked, table-walked}
-use Rattle.accessed.proofs.Walks.{walk-read}
 use Rattle.record.specs.declared.Record.{Record}
 use Rattle.record.specs.Record.{configOf, headTables}
 use Rattle.drops_laws.proofs.Find.{find-all}
@@ -55,14 +56,15 @@ use Rattle.words.specs.After.{After, yields}
 use Rattle.calls.specs.Calls.{hostTop, heldOf, headHeld, withHeld, translatedOf}
 use Rattle.claims.proofs.Invariant.{frames, Inv}
 use Rattle.claims.proofs.Moves.{at-inv}
-use Rattle.claims.proofs.Paths.{path-upper, path-lower, walk-above, exit-is}
+use Rattle.claims.proofs.Paths.{path-upper, path-lower, exit-is}
+use Rattle.claims.proofs.Depths.{depth-is}
 use Rattle.claims.proofs.Found as found
 use Rattle.claims.proofs.Bits.{walk-lacks, whole-walked, whole-checked}
 use Rattle.claims.proofs.Fills as fills
 
 -- what a request came to, as the code has it. The write right at its end is nothing that a request says
 abbrev pub cameTo : Bool → Result Fault Place → ℕ → Walked
-cameTo right (granted p) n = walked.Arrived (page (p .0)) right n
+cameTo right (granted p) n = walked.Arrived right (page (p .0)) n
 cameTo right (failed x) n = walked.Faulted x n
 
 -- what a translation on s leaves: the verdict, the book's references and exits, and the book's next state. Where the bits of a granted
@@ -155,14 +157,14 @@ module _ (s : State) (r : Record) (m : List ℕ) (inv : Inv s r m) (covered : Al
     same-walk : direct c st a deep t right ≡ directPart c st deep (t, right) (addressIndexes c a)
     same-walk = ap₂ (λ l js. levels c st l t right js) (zero-add deep) (sym (path-lower c deep a low))
 
-    asks : Guest c (InGuestArea c) (direct c st a deep t right) (λ q. InGuestArea c (q .0))
-    asks = levels-asks c (InGuestArea c) st _ t right (indexes deep (pageOf a)) here (indexes-all deep (pageOf a))
+    asks : Guest c (InGuestArea c) (area-real c) (direct c st a deep t right) (λ q. PlaceIn c (lower (0 + deep) (indexes deep (pageOf a))) (q .0))
+    asks = levels-asks c (InGuestArea c) (area-real c) st (0 + deep) t right (indexes deep (pageOf a)) (omega (arith, low)) (placed-frame c (InGuestArea c) (area-real c) (0 + deep) t here) (indexes-all deep (pageOf a))
 
     pub direct-is : directOf c ht m st a deep t right ≡ cameTo (rightIn (rest .result)) (rest .result) ((c .levels - deep) + rest .count)
     unfolding directOf
     direct-is =
         ap (λ l. walkedOf c ht m (c .levels - deep) (levels c st l t right (indexes deep (pageOf a)))) (zero-add deep)
-        ∙ table-walked c mach ht m (found.memory-stands s r m inv) (c .levels - deep) st deep t right (indexes deep (pageOf a)) here (indexes-all deep (pageOf a))
+        ∙ table-walked c mach ht m (found.memory-stands s r m inv) (c .levels - deep) st deep t right (indexes deep (pageOf a)) low here (indexes-all deep (pageOf a))
         ∙ ap (λ js. plainWalked ((trace w (levels c st deep t right js)) .result) ((c .levels - deep) + (trace w (levels c st deep t right js)) .count)) (sym (path-lower c deep a low))
         ∙ came-is (rest .result) ((c .levels - deep) + rest .count)
 
@@ -178,15 +180,15 @@ module _ (s : State) (r : Record) (m : List ℕ) (inv : Inv s r m) (covered : Al
         ap (λ p. trace w p) (sym same-walk) ∙ ap (λ d. trace w (levels c st (0 + d) t right (indexes d (pageOf a)))) z
 
   -- what its bits say where the plain walk is granted
-  checked-is : (q : Place) → all .result ≡ granted q → checkedOf c ht m rt st a deep ≡ owingBy deep (lacks w st (all .reads)) (owed w st (all .reads) (all .uses))
+  checked-is : (q : Place) → all .result ≡ granted q → checkedOf c ht m rt st a deep ≡ owingBy deep (lacks w st (all .reads)) (owed w st (c .levels) (all .reads) (all .uses))
   checked-is q e =
       ap (λ x. checkedOf c ht m x st a deep) (inv .root)
       ∙ whole-checked c mach ht m (found.memory-stands s r m inv) (found.root-small s r m inv) st a deep q e
 
   -- what is owed with bits on
-  owes-on : c .bits ≡ true → owed w st (all .reads) (all .uses) ≡ owing
+  owes-on : c .bits ≡ true → owed w st (c .levels) (all .reads) (all .uses) ≡ owing
   unfolding owes
-  owes-on on = sym (ap (λ b. cond b (owed w st (all .reads) (all .uses)) none) on)
+  owes-on on = sym (ap (λ b. cond b (owed w st (c .levels) (all .reads) (all .uses)) none) on)
 
   verdict-is : (o : Option (ℕ × ℕ)) (x : Result Fault Place) → owing ≡ o → all .result ≡ x → verdict c mach st a ≡ judged o x
   unfolding verdict
@@ -235,7 +237,7 @@ module _ (s : State) (r : Record) (m : List ℕ) (inv : Inv s r m) (covered : Al
         stored : (d : ℕ) → deep ≡ d → cond (eqb d 0) (h .right) true ≡ true → (trace w (walk c true (mach .root) path)) .result ≡ granted (t, valid .wide)
         stored zero q k =
             ap (λ (x : Trace Fault Place). x .result) (walk-serves w c (mach .root) path t (base ∙ ap (λ b. granted (t, b)) (right-wide c mach h valid k))) ∙ base
-        stored (suc d) q k = ap (λ p. (trace w p) .result) (walk-above c (mach .root) path (omega (arith, found.path-length s r m inv a low))) ∙ base
+        stored (suc d) q k = ap (λ (x : Trace Fault Place). x .result) (walk-stores w c (mach .root) path (t, valid .wide) (omega (arith, q, low, found.path-length s r m inv a low)) (area-real c t held-in) base) ∙ base
 
         go : (b : Bool) → cond (eqb deep 0) (not b || h .right) true ≡ true → (trace w (walk c b (mach .root) path)) .result ≡ granted (t, valid .wide)
         go false k = base
@@ -332,15 +334,15 @@ module _ (s : State) (r : Record) (m : List ℕ) (inv : Inv s r m) (covered : Al
             (λ z g. refused-own x (verdict-fault x (whole-is ∙ e)) g) no
         on-path on (granted q) e false k =
             serve ρ false (granted q) 0 (served.served-verdict c mach st a deep (t, valid .wide) h low comes valid its (at ∙ sym upper-is) ok (λ y z. k) ∙ e) refl
-            (through-on c ht m hold rt st a deep t (h .right) false (walked.Arrived (page (q .0)) ρ refs) on (lack-on ∙ k) (came ∙ ap (λ y. cameTo ρ y refs) e))
+            (through-on c ht m hold rt st a deep t (h .right) false (walked.Arrived ρ (page (q .0)) refs) on (lack-on ∙ k) (came ∙ ap (λ y. cameTo ρ y refs) e))
             (λ z g. served.served-machine c mach st a deep (t, valid .wide) h low comes valid its (at ∙ sym upper-is) ok k) no
         on-path on (granted q) e true k = by owing refl
           where
             judge : (o : Option (ℕ × ℕ)) → owing ≡ o
-                → throughOf c ht m hold rt st a deep t (h .right) ≡ settledBy hold refs (walked.Arrived (page (q .0)) (walked-on .0) refs) (owingBy deep (lacks w st (all .reads)) o)
+                → throughOf c ht m hold rt st a deep t (h .right) ≡ settledBy hold refs (walked.Arrived (walked-on .0) (page (q .0)) refs) (owingBy deep (lacks w st (all .reads)) o)
             judge o z =
-                through-on c ht m hold rt st a deep t (h .right) true (walked.Arrived (page (q .0)) (walked-on .0) refs) on (lack-on ∙ k) (came ∙ ap (λ y. cameTo (walked-on .0) y refs) e)
-                ∙ ap (settledBy hold refs (walked.Arrived (page (q .0)) (walked-on .0) refs)) (checked-is q (whole-is ∙ e) ∙ ap (owingBy deep (lacks w st (all .reads))) (owes-on on ∙ z))
+                through-on c ht m hold rt st a deep t (h .right) true (walked.Arrived (walked-on .0) (page (q .0)) refs) on (lack-on ∙ k) (came ∙ ap (λ y. cameTo (walked-on .0) y refs) e)
+                ∙ ap (settledBy hold refs (walked.Arrived (walked-on .0) (page (q .0)) refs)) (checked-is q (whole-is ∙ e) ∙ ap (owingBy deep (lacks w st (all .reads))) (owes-on on ∙ z))
 
             by : (o : Option (ℕ × ℕ)) → owing ≡ o → Translates s r m st a price (yields (throughOf c ht m hold rt st a deep t (h .right)) m)
             by none z = serve ρ (lacks w st (all .reads)) (granted q) 0 (verdict-is none (granted q) z (whole-is ∙ e)) refl (judge none z) (λ y g. own-whole y) (λ y. on)
@@ -373,7 +375,7 @@ module _ (s : State) (r : Record) (m : List ℕ) (inv : Inv s r m) (covered : Al
     missed = missedOf c ht m hold rt st a deep
 
     missed-is : (x : Walked) → plainWalked (part .result) (part .count) ≡ x → missed ≡ missedBy c ht m hold rt st a deep (fills.gs s r m inv st a) x
-    unfolding trailFrom
+    unfolding rootTrail
     missed-is x e = missed-by c ht m hold rt st a deep _ refl ∙ ap (missedBy c ht m hold rt st a deep (fills.gs s r m inv st a)) (walked-is ∙ e)
 
     fault-path : (x : Fault) → part .result ≡ failed x → Translates s r m st a price missed
@@ -441,7 +443,9 @@ module _ (s : State) (r : Record) (m : List ℕ) (inv : Inv s r m) (covered : Al
       ruled = ruledBy c m hold (fills.gs s r m inv st a) a deep t
 
       missed-at : missed ≡ arrivedOf c ht m hold rt (fills.gs s r m inv st a) st a deep (part .count) t wide
-      missed-at = missed-is (walked.Arrived (page t) wide (part .count)) (ap (λ y. plainWalked y (part .count)) shadow-comes)
+      missed-at =
+          missed-is (walked.Arrived wide (page t) (part .count)) (ap (λ y. plainWalked y (part .count)) shadow-comes)
+          ∙ ap (λ b. cond b (yields (translation hold 0 walked.Damaged false) m) (arrivedOf c ht m hold rt (fills.gs s r m inv st a) st a deep (part .count) t wide)) (area-real c t onward-here)
 
       -- a fill that says x
       by-fill : (e : ℕ) (y : Result Fault Place) (sets : Bool) → verdict c mach st a ≡ y → 1 + lateExit deep owing (onward .result) ≡ e
@@ -507,17 +511,17 @@ module _ (s : State) (r : Record) (m : List ℕ) (inv : Inv s r m) (covered : Al
       missed-on on (granted q) e = by owing refl
         where
           grant : (o : Option (ℕ × ℕ)) → owing ≡ o
-              → missed ≡ ruled (walked.Arrived (page (q .0)) (q .1) onward-refs) (clearedBy c m (fills.gs s r m inv st a) st a deep (part .count) wide onward-refs (owingBy deep (lacks w st (all .reads)) o))
+              → missed ≡ ruled (walked.Arrived (q .1) (page (q .0)) onward-refs) (clearedBy c m (fills.gs s r m inv st a) st a deep (part .count) wide onward-refs (owingBy deep (lacks w st (all .reads)) o))
           grant o z =
               strict-at on (granted q) e
-              ∙ ap (λ y. ruled (walked.Arrived (page (q .0)) (q .1) onward-refs) (clearedBy c m (fills.gs s r m inv st a) st a deep (part .count) wide onward-refs y))
+              ∙ ap (λ y. ruled (walked.Arrived (q .1) (page (q .0)) onward-refs) (clearedBy c m (fills.gs s r m inv st a) st a deep (part .count) wide onward-refs y))
               (checked-is q (parts .0 ∙ e) ∙ ap (owingBy deep (lacks w st (all .reads))) (owes-on on ∙ z))
 
           by : (o : Option (ℕ × ℕ)) → owing ≡ o → Translates s r m st a price missed
           by none z =
               let v = verdict-is none (granted q) z (parts .0 ∙ e) in
               by-fill 1 (granted q) (lacks w st (all .reads)) v (ap₂ (λ u y. 1 + lateExit deep u y) z e) (ap₂ (λ b y. b && not (isGranted {A = Place} y)) on v)
-              (grant none z ∙ ap (λ b. filledOf c m hold (fills.gs s r m inv st a) a deep t b 1 (walked.Arrived (page (q .0)) (q .1) onward-refs) (lacks w st (all .reads))) (fills.passes-is s r m inv st a t wide low shadow-comes on))
+              (grant none z ∙ ap (λ b. filledOf c m hold (fills.gs s r m inv st a) a deep t b 1 (walked.Arrived (q .1) (page (q .0)) onward-refs) (lacks w st (all .reads))) (fills.passes-is s r m inv st a t wide low shadow-comes on))
               (λ y g. own-whole y) (λ y. on)
           by (some o) z =
               by-stop (one (leb (o .0) deep)) (HostReadOnly (o .1)) (verdict-is (some o) (granted q) z (parts .0 ∙ e)) (ap₂ (λ u y. 1 + lateExit deep u y) z e) on (grant (some o) z)
@@ -600,20 +604,19 @@ module _ (s : State) (r : Record) (m : List ℕ) (inv : Inv s r m) (covered : Al
       on-walk on (granted q) e = by owing refl
         where
           judge : (o : Option (ℕ × ℕ)) → owing ≡ o
-              → unshadowedOf c ht m hold rt st a deep ≡ settledBy hold (all .count) (walked.Arrived (page (q .0)) (q .1) (all .count)) (owingBy deep (lacks w st (all .reads)) o)
+              → unshadowedOf c ht m hold rt st a deep ≡ settledBy hold (all .count) (walked.Arrived (q .1) (page (q .0)) (all .count)) (owingBy deep (lacks w st (all .reads)) o)
           judge o z =
-              unshadowed-on c ht m hold rt st a deep (walked.Arrived (page (q .0)) (q .1) (all .count)) on (all-walked ∙ ap (λ y. plainWalked y (all .count)) e)
-              ∙ ap (settledBy hold (all .count) (walked.Arrived (page (q .0)) (q .1) (all .count))) (checked-is q e ∙ ap (owingBy deep (lacks w st (all .reads))) (owes-on on ∙ z))
+              unshadowed-on c ht m hold rt st a deep (walked.Arrived (q .1) (page (q .0)) (all .count)) on (all-walked ∙ ap (λ y. plainWalked y (all .count)) e)
+              ∙ ap (settledBy hold (all .count) (walked.Arrived (q .1) (page (q .0)) (all .count))) (checked-is q e ∙ ap (owingBy deep (lacks w st (all .reads))) (owes-on on ∙ z))
 
           by : (o : Option (ℕ × ℕ)) → owing ≡ o → Translates s r m st a (unshadowed (s .book) (all .count) (verdict c mach st a)) (yields (unshadowedOf c ht m hold rt st a deep) m)
           by none z = says (q .1) (lacks w st (all .reads)) (granted q) 0 (verdict-is none (granted q) z e) refl (judge none z) (λ y g. own-whole y) (λ y. on)
           by (some o) z =
               let v = verdict-is (some o) (granted q) z e in
-              let reads-all : length (all .reads) ≡ c .levels = sym (length-map (all .reads) (λ x. x .1)) ∙ ap length (walk-read w c st (mach .root) (addressIndexes c a) q e .indexed) ∙ indexes-length (c .levels) (pageOf a) in
-              let level : o .0 ≤ length (all .reads) = served.owed-level w st (all .reads) (all .uses) o (owes-on on ∙ z) in
+              let level : o .0 ≤ c .levels = served.owed-level w st (c .levels) (all .reads) (all .uses) o (owes-on on ∙ z) in
               says false false (failed (HostReadOnly (o .1))) 1 v refl
               (judge (some o) z ∙ ap (λ b. translation hold (one b) (walked.Faulted (HostReadOnly (o .1)) (all .count)) false)
-              (le-leb (o .0) deep (omega (arith, level, reads-all, high))))
+              (le-leb (o .0) deep (omega (arith, level, high))))
               (λ y g. refused-own (HostReadOnly (o .1)) v g) no
 
       go : (b : Bool) → c .bits ≡ b → Translates s r m st a (unshadowed (s .book) (all .count) (verdict c mach st a)) (yields (unshadowedOf c ht m hold rt st a deep) m)
@@ -624,7 +627,7 @@ module _ (s : State) (r : Record) (m : List ℕ) (inv : Inv s r m) (covered : Al
   pub translates : Translates s r m st a price (translatedOf r m st a)
   unfolding translatedOf translateOf
   translates =
-      subst (λ x. Translates s r m st a price (translateOf c ht m hold rt st a x)) (sym (found.depth-is s r m inv a)) (go (ltb (c .levels) deep) refl)
+      subst (λ x. Translates s r m st a price (translateOf c ht m hold rt st a x)) (sym (depth-is s r m inv a)) (go (ltb (c .levels) deep) refl)
     where
       go : (b : Bool) → ltb (c .levels) deep ≡ b
           → Translates s r m st a price (cond (ltb (c .levels) deep) (yields (unshadowedOf c ht m hold rt st a deep) m) (foundBy c ht m hold rt st a deep (foundOf c m hold a deep)))

@@ -2,9 +2,9 @@
 -- other, and count them; so do the bits that such a request sets. For any memory.
 -- Assumes nothing.
 use mathlib.Core.Path.{_≡_, refl, sym, ap, ap₂, _∙_, subst}
-use mathlib.Core.Logic.{inl, inr}
+use mathlib.Core.Logic.{_⊎_, inl, inr}
 use Prim.Native.Nat.{ℕ, suc, pred, _+_, _-_, _*_, _%_, _<_, _≤_}
-use native.Mathlib.Nat.{zero-add}
+use native.Mathlib.Nat.{zero-add, div-one}
 use native.Mathlib.Omega.{arith}
 use mathlib.Core.Bool.{Bool, true, false, not, _&&_, _||_, cond}
 use mathlib.Core.List.{List, [], _∷_, _++_}
@@ -18,12 +18,12 @@ use Rattle.spec.specs.declared.Fault.the-variants.{Absent, Malformed, Protected
 use Rattle.spec.specs.Config.{Config}
 use Rattle.spec.specs.Entry.{present, writable, frameOf, malformed, pageOf, indexes, entryLimit}
 use Rattle.spec.specs.Walk.{Walk, done, fail, host, word, _>>=_, World, Trace, trace}
-use Rattle.spec.specs.Plain.{Place, must, hosted, entry, next, levels, walk}
+use Rattle.spec.specs.Plain.{Place, Lead, to, into, isSpan, must, hosted, entry, next, entryLead, spanLead, onward, turn, levels, walk}
 use Rattle.spec.specs.Bits.{isLast, withBits, lacks, owed}
 use Rattle.spec.specs.Refusal.{inGuestArea}
 use Rattle.spec.specs.Prefix.{All}
 use Rattle.spec_laws.proofs.Lists.{all-map, all-any, all-left, is-true, is-false, all-append}
-use Rattle.spec_laws.proofs.Indexes.{indexes-length, indexes-all}
+use Rattle.spec_laws.proofs.Indexes.{indexes-length, indexes-all, indexes-split}
 use Rattle.spec_laws.proofs.Asks.{AnswerIn, Guest}
 use Rattle.spec_laws.proofs.Local as answers
 use Rattle.spec_laws.proofs.Local.{SameMapping, SameHost, local}
@@ -35,7 +35,7 @@ use Rattle.pool.specs.declared.Way.the-variants.{To, Not, Damaged}
 use Rattle.area.specs.declared.Look.{Look}
 use Rattle.area.specs.declared.Look.the-variants.{Seen}
 use Rattle.area.specs.declared.Look.the-variants as look
-use Rattle.pool.specs.Header.{entryAtOf}
+use Rattle.pool.specs.Header.{insideOf, entryAtOf}
 use Rattle.pool.specs.Pool.{followOf, onWay}
 use Rattle.pool.specs.Outside.{SameOutside}
 use Rattle.pool.proofs.Laws.{WayGood, follow-good}
@@ -62,13 +62,13 @@ use Rattle.translate.specs.declared.Checked.{Checked}
 use Rattle.translate.specs.declared.Checked.the-variants as checked
 use Rattle.translate.specs.declared.Held.{Held}
 use Rattle.translate.specs.declared.Translated.{Translated}
-use Rattle.translate.specs.Translate.{translation, exitBy, pathIndexes, direct, directOf, servedOf, whole, plainOf, checkedBy, checkedOf, judgedBy, throughOf, unshadowedOf, servesOf, foundOf, missedOf, foundBy, translateOf}
+use Rattle.translate.specs.Translate.{translation, exitBy, pathIndexes, direct, directOf, servedOf, whole, plainOf, checkedBy, checkedOf, judgedBy, throughOf, unshadowedOf, servesOf, foundOf, missedOf, foundBy, translateOf, soonBy, walkedDepth, mayTurn, depthBy, depthOf}
 use Rattle.translate.proofs.Bits.{through-off, through-on, through-end}
 use Rattle.request.specs.Access.{setBy, bitsOf, settledOf}
-use Rattle.calls.specs.Calls.{hostTop, heldOf, rootOf, depthAt, translatedOf}
+use Rattle.calls.specs.Calls.{hostTop, heldOf, rootOf, depthAt, requestDepth, translatedOf}
 use Rattle.claims.specs.Counted.{Word, SameWords, hostWords, walkWords, pathWords, directWords, countedOf, LacksNone, SetsNone}
 use Rattle.words.specs.After.{After, yields}
-use Rattle.spec_laws.proofs.Keeps.{InGuestArea}
+use Rattle.spec_laws.proofs.Keeps.{InGuestArea, area-real}
 
 -- ---- lists of words
 
@@ -121,11 +121,23 @@ next-ends st false g w = ends-bind (hosted g) _ (hosted-ends g) (λ r. tt)
 next-ends st true g w = ends-bind (must (not st || w) (Protected 1)) _ (must-ends (not st || w) (Protected 1) tt) (λ _.
     ends-bind (hosted g) _ (hosted-ends g) (λ r. ends-bind (must (not st || r .1) (HostReadOnly g)) _ (must-ends (not st || r .1) (HostReadOnly g) tt) (λ _. tt)))
 
+onward-ends : (c : Config) (st : Bool) (n : ℕ) (x : Lead) (w : Bool) → Ends (onward c st n x w)
+unfolding onward
+onward-ends c st n (to g) w = next-ends st (eqb n 1) g w
+onward-ends c st n (into g) w = ends-bind (must (not st || w) (Protected n)) _ (must-ends (not st || w) (Protected n) tt) (λ _. tt)
+
+turn-ends : (c : Config) (st : Bool) (n t i : ℕ) (w : Bool) → Ends (turn c st n t i w)
+unfolding turn
+turn-ends c st n t i w = go (isSpan c t)
+  where
+    go : (b : Bool) → Ends (cond b (onward c st n (spanLead c n t i) w) (entry c n t i >>= λ e. onward c st n (entryLead n e) (w && writable e)))
+    go true = onward-ends c st n (spanLead c n t i) w
+    go false = ends-bind (entry c n t i) _ (entry-ends c n t i) (λ e. onward-ends c st n (entryLead n e) (w && writable e))
+
 levels-ends : (c : Config) (st : Bool) (n t : ℕ) (w : Bool) (is : List ℕ) → Ends (levels c st n t w is)
 unfolding levels
 levels-ends c st n t w [] = tt
-levels-ends c st n t w (i ∷ is) = ends-bind (entry c n t i) _ (entry-ends c n t i) (λ e.
-    ends-bind (next st (eqb n 1) (e .0) (w && e .1)) _ (next-ends st (eqb n 1) (e .0) (w && e .1)) (λ r. levels-ends c st (pred n) (r .0) (r .1) is))
+levels-ends c st n t w (i ∷ is) = ends-bind (turn c st n t i w) _ (turn-ends c st n t i w) (λ r. levels-ends c st (pred n) (r .0) (r .1) is)
 
 walk-ends : (c : Config) (st : Bool) (root : ℕ) (is : List ℕ) → Ends (walk c st root is)
 unfolding walk
@@ -230,10 +242,10 @@ module _ (c : Config) (ht : ℕ) (m n : List ℕ) (p : Walk Fault Place) (s : Sa
   lacks-local : (st : Bool) → lacks there st ((trace there p) .reads) ≡ lacks here st ((trace here p) .reads)
   lacks-local st = ap (λ (x : Trace Fault Place). lacks there st (x .reads)) trace-local ∙ lacks-on here there st ((trace here p) .reads) (trace-alike c ht m n p s .words)
 
-  owed-local : (st : Bool) → owed there st ((trace there p) .reads) ((trace there p) .uses) ≡ owed here st ((trace here p) .reads) ((trace here p) .uses)
-  owed-local st =
-      ap (λ (x : Trace Fault Place). owed there st (x .reads) (x .uses)) trace-local
-      ∙ owed-on here there st ((trace here p) .reads) ((trace here p) .uses) (trace-alike c ht m n p s .words)
+  owed-local : (st : Bool) (k : ℕ) → owed there st k ((trace there p) .reads) ((trace there p) .uses) ≡ owed here st k ((trace here p) .reads) ((trace here p) .uses)
+  owed-local st k =
+      ap (λ (x : Trace Fault Place). owed there st k (x .reads) (x .uses)) trace-local
+      ∙ owed-on here there st k ((trace here p) .reads) ((trace here p) .uses) (trace-alike c ht m n p s .words)
       (all-map (SameHost here there) (SameMapping here there) ((trace here p) .uses) (λ g h. h .0) (trace-alike c ht m n p s .hosts))
 
 -- ---- no word of a shadow table is among them
@@ -259,7 +271,7 @@ answer-in c ht m g = go (hostWalkOf c ht m g) (host-fits c ht m g)
     go hosts.Damaged h = tt
 
 pub walk-outside : {A : Type 0} (c : Config) (ht : ℕ) (m n : List ℕ) → SameOutside (c .hosts) (c .shadows) m n → (p : Walk Fault A) (R : A → Type 0)
-    → Guest c (InGuestArea c) p R → SameWords m n (walkWords c ht m p)
+    → Guest c (InGuestArea c) (area-real c) p R → SameWords m n (walkWords c ht m p)
 unfolding walkWords
 walk-outside c ht m n o (done a) R h = tt
 walk-outside c ht m n o (fail x) R h = tt
@@ -318,7 +330,7 @@ module _ (c : Config) (ht root : ℕ) (st : Bool) (a : ℕ) where
     where
       go : (x : Walked) (xs : List Word) → SameWords m n xs
           → (ys : List Word) × SameWords m n ys × (setBy x (bitsIn st m xs) m ≡ bitsIn st m ys) × (setBy x (bitsIn st n xs) n ≡ bitsIn st n ys)
-      go (walked.Arrived t w k) xs q = (xs, q, refl, refl)
+      go (walked.Arrived w t k) xs q = (xs, q, refl, refl)
       go (walked.Faulted y k) xs q = ([], tt, refl, refl)
       go walked.Damaged xs q = ([], tt, refl, refl)
 
@@ -379,7 +391,7 @@ host-reads c ht m g = subst (λ k. LookReads (length (hostWords c ht m g)) k (ho
 
 -- x words were read
 abbrev pub Reads : ℕ → Walked → Type 0
-Reads x (walked.Arrived t w n) = n ≡ x
+Reads x (walked.Arrived w t n) = n ≡ x
 Reads x (walked.Faulted y n) = n ≡ x
 Reads x walked.Damaged = Unit {0}
 
@@ -411,34 +423,112 @@ walk-count c ht m (word t i k) j h =
     (reads-same (j + 1 + length (walkWords c ht m (k (wordIn m t i)))) (j + suc (length (walkWords c ht m (k (wordIn m t i))))) (walkedOf c ht m (j + 1) (k (wordIn m t i))) (omega arith)
     (walk-count c ht m (k (wordIn m t i)) (j + 1) (h (wordIn m t i))))
 
+-- ---- the words of a longer path begin with those of a shorter one
+
+shorter-read : (P : Word → Type 0) (b s : ℕ) (m : List ℕ) (is js : List ℕ) (e : ℕ) → All P (entriesRead b s m e (is ++ js)) → All P (entriesRead b s m e is)
+unfolding entriesRead
+shorter-read P b s m [] js e h = tt
+shorter-read P b s m (i ∷ is) js e h = go (followOf b s e) h (λ f. shorter-read P b s m is js (entryAtOf m f i))
+  where
+    go : (w : Way) → All P (onWay w [] [] (λ f. (f, i) ∷ entriesRead b s m (entryAtOf m f i) (is ++ js)))
+        → ((f : ℕ) → All P (entriesRead b s m (entryAtOf m f i) (is ++ js)) → All P (entriesRead b s m (entryAtOf m f i) is))
+        → All P (onWay w [] [] (λ f. (f, i) ∷ entriesRead b s m (entryAtOf m f i) is))
+    go (To f) h ih = (h .0, ih f (h .1))
+    go Not h ih = tt
+    go Damaged h ih = tt
+
+-- where an entry is present at the end, something is on the way
+abbrev Ended : Look → Type 0
+Ended (Seen e k) = present e ≡ true
+Ended look.Damaged = ⊥
+
+abbrev Shown : Look → Type 0
+Shown (Seen e k) = present e ≡ true
+Shown look.Damaged = Unit {0}
+
+none-shown : present 0 ≡ true → ⊥
+none-shown q = let t : _≡_ {A = Bool} false true = sym present-zero ∙ q in let z : _≡_ {A = ℕ} 0 1 = cc in omega (arith, z)
+
+shown-above : (b s : ℕ) (m : List ℕ) (is js : List ℕ) (e k : ℕ) → Ended (lookupOf b s m e (is ++ js) k) → Shown (lookupOf b s m e is k)
+unfolding lookupOf followOf
+shown-above b s m [] [] e k h = h
+shown-above b s m [] (j ∷ js) e k h = go (present e) h
+  where
+    go : (t : Bool) → Ended (onWay (cond t (cond (insideOf b s (frameOf e)) (To (frameOf e)) Damaged) Not) (Seen 0 k) look.Damaged (λ f. lookupOf b s m (entryAtOf m f j) js (k + 1))) → t ≡ true
+    go true h = refl
+    go false h = absurd (none-shown h)
+shown-above b s m (i ∷ is) js e k h = go (followOf b s e) h (λ f. shown-above b s m is js (entryAtOf m f i) (k + 1))
+  where
+    go : (w : Way) → Ended (onWay w (Seen 0 k) look.Damaged (λ f. lookupOf b s m (entryAtOf m f i) (is ++ js) (k + 1)))
+        → ((f : ℕ) → Ended (lookupOf b s m (entryAtOf m f i) (is ++ js) (k + 1)) → Shown (lookupOf b s m (entryAtOf m f i) is (k + 1)))
+        → Shown (onWay w (Seen 0 k) look.Damaged (λ f. lookupOf b s m (entryAtOf m f i) is (k + 1)))
+    go (To f) h ih = ih f h
+    go Not h ih = absurd (none-shown h)
+    go Damaged h ih = tt
+
+abbrev kind : HostWalk → ℕ
+kind (hosts.Found t w) = 0
+kind (hosts.Absent n) = 1
+kind hosts.Damaged = 2
+
+absent-found : (n : ℕ) (t : HostPhysical) (w : Bool) → hosts.Absent n ≡ hosts.Found t w → ⊥
+absent-found n t w e = let z = ap kind e in omega (arith, z)
+
+damaged-found : (t : HostPhysical) (w : Bool) → hosts.Damaged ≡ hosts.Found t w → ⊥
+damaged-found t w e = let z = ap kind e in omega (arith, z)
+
+damaged-absent : (n : ℕ) → hosts.Damaged ≡ hosts.Absent n → ⊥
+damaged-absent n e = let z = ap kind e in omega (arith, z)
+
+-- so what a longer path finds is not absent on the shorter one
+ended : (c : Config) (l : Look) (t : HostPhysical) (w : Bool) → namedBy c l ≡ hosts.Found t w → Ended l
+unfolding leafOf
+ended c (Seen e k) t w q = go (present e) (inGuestArea c (frameOf e)) q
+  where
+    go : (p i : Bool) → cond p (cond i (hosts.Found (page (frameOf e)) (writable e)) hosts.Damaged) (hosts.Absent k) ≡ hosts.Found t w → p ≡ true
+    go true i q = refl
+    go false i q = absurd (absent-found k t w q)
+ended c look.Damaged t w q = absurd (damaged-found t w q)
+
+absent-above : (c : Config) (l : Look) (k : ℕ) → namedBy c l ≡ hosts.Absent k → Shown l → ⊥
+unfolding leafOf
+absent-above c (Seen e n) k q s = go (present e) (inGuestArea c (frameOf e)) s q
+  where
+    go : (p i : Bool) → p ≡ true → cond p (cond i (hosts.Found (page (frameOf e)) (writable e)) hosts.Damaged) (hosts.Absent n) ≡ hosts.Absent k → ⊥
+    go true true s q = absent-found k (page (frameOf e)) (writable e) (sym q)
+    go true false s q = damaged-absent k q
+    go false i s q = let z : _≡_ {A = ℕ} 0 1 = cc in omega (arith, z)
+absent-above c look.Damaged k q s = damaged-absent k q
+
 -- ---- a translation through a held path, or at depth N + 1
 
 -- bits change neither what is held nor the references
 judged-held : (h : Held) (judge : Bool) (k : Checked) (x : Walked) → judgedBy h judge k x .held ≡ h
-judged-held h true (checked.Clear l) (walked.Arrived t w n) = refl
-judged-held h true (checked.Stopped y e) (walked.Arrived t w n) = refl
-judged-held h true checked.Damaged (walked.Arrived t w n) = refl
-judged-held h false k (walked.Arrived t w n) = refl
+judged-held h true (checked.Clear l) (walked.Arrived w t n) = refl
+judged-held h true (checked.Stopped y e) (walked.Arrived w t n) = refl
+judged-held h true checked.Damaged (walked.Arrived w t n) = refl
+judged-held h false k (walked.Arrived w t n) = refl
 judged-held h judge k (walked.Faulted y n) = refl
 judged-held h judge k walked.Damaged = refl
 
 judged-reads : (h : Held) (judge : Bool) (k : Checked) (x : Walked) (j : ℕ) → Reads j x → Reads j (judgedBy h judge k x .walked)
-judged-reads h true (checked.Clear l) (walked.Arrived t w n) j q = q
-judged-reads h true (checked.Stopped y e) (walked.Arrived t w n) j q = q
-judged-reads h true checked.Damaged (walked.Arrived t w n) j q = tt
-judged-reads h false k (walked.Arrived t w n) j q = q
+judged-reads h true (checked.Clear l) (walked.Arrived w t n) j q = q
+judged-reads h true (checked.Stopped y e) (walked.Arrived w t n) j q = q
+judged-reads h true checked.Damaged (walked.Arrived w t n) j q = tt
+judged-reads h false k (walked.Arrived w t n) j q = q
 judged-reads h judge k (walked.Faulted y n) j q = q
 judged-reads h judge k walked.Damaged j q = tt
 
-module _ (r : Record) (st : Bool) (a : ℕ) where
+module _ (r : Record) (st : Bool) (a d : ℕ) where
   abbrev pub c : Config
   c = configOf r
 
   abbrev pub ht : ℕ
   ht = hostTop r
 
-  abbrev pub d : ℕ
-  d = depthAt r a
+  -- on memory m the request has depth d
+  abbrev At : List ℕ → Type 0
+  At m = requestDepth r m a ≡ d
 
   abbrev hold : Held
   hold = heldOf r
@@ -467,6 +557,11 @@ module _ (r : Record) (st : Bool) (a : ℕ) where
     held : (t : HostPhysical) (w : Bool) → d ≤ c .levels → foundIn m ≡ hosts.Found t w → servesOf st d w ≡ true → Reaches m
     plain : c .levels < d → Reaches m
 
+  -- at depth d
+  translated-is : (m : List ℕ) → At m → translatedOf r m st a ≡ translateOf c ht m hold rt st a d
+  unfolding translatedOf
+  translated-is m e = ap (translateOf c ht m hold rt st a) e
+
   found-local : (m n : List ℕ) → SameWords m n (pathWords r m a d) → foundIn n ≡ foundIn m
   unfolding foundOf shadowed pathWords
   found-local m n h = go (ltb d (c .levels)) h
@@ -479,32 +574,39 @@ module _ (r : Record) (st : Bool) (a : ℕ) where
           (same-entries m n (entriesRead (c .hosts) (c .shadows) m (r .pools .shadow .top) (pathIndexes c d a)) q))
       go false q = refl
 
-  held-is : (m : List ℕ) (t : HostPhysical) (w : Bool) → d ≤ c .levels → foundIn m ≡ hosts.Found t w → servesOf st d w ≡ true
+  held-is : (m : List ℕ) → At m → (t : HostPhysical) (w : Bool) → d ≤ c .levels → foundIn m ≡ hosts.Found t w → servesOf st d w ≡ true
       → translatedOf r m st a ≡ yields (throughOf c ht m hold rt st a d (t .0) w) m
-  unfolding translatedOf translateOf
-  held-is m t w l f s =
-      ap (λ b. cond b (yields (unshadowedOf c ht m hold rt st a d) m) (foundBy c ht m hold rt st a d (foundIn m))) (le-ltb (c .levels) d l)
+  unfolding translateOf
+  held-is m e t w l f s =
+      translated-is m e
+      ∙ ap (λ b. cond b (yields (unshadowedOf c ht m hold rt st a d) m) (foundBy c ht m hold rt st a d (foundIn m))) (le-ltb (c .levels) d l)
       ∙ ap (foundBy c ht m hold rt st a d) f
       ∙ ap (λ b. cond b (yields (throughOf c ht m hold rt st a d (t .0) w) m) (missedOf c ht m hold rt st a d)) s
 
-  plain-is : (m : List ℕ) → c .levels < d → translatedOf r m st a ≡ yields (unshadowedOf c ht m hold rt st a d) m
-  unfolding translatedOf translateOf
-  plain-is m l =
-      ap (λ b. cond b (yields (unshadowedOf c ht m hold rt st a d) m) (foundBy c ht m hold rt st a d (foundIn m)))
+  plain-is : (m : List ℕ) → At m → c .levels < d → translatedOf r m st a ≡ yields (unshadowedOf c ht m hold rt st a d) m
+  unfolding translateOf
+  plain-is m e l =
+      translated-is m e
+      ∙ ap (λ b. cond b (yields (unshadowedOf c ht m hold rt st a d) m) (foundBy c ht m hold rt st a d (foundIn m)))
       (lt-ltb (c .levels) d l)
 
   -- the words that it counts
-  held-counted : (m : List ℕ) (t : HostPhysical) (w : Bool) → d ≤ c .levels → foundIn m ≡ hosts.Found t w
+  abbrev countedAt : List ℕ → ℕ → List Word
+  countedAt m k = cond (leb k (c .levels)) (pathWords r m a k ++ directWords c ht m st a k (foundOf c m hold a k)) (plainly m)
+
+  held-counted : (m : List ℕ) → At m → (t : HostPhysical) (w : Bool) → d ≤ c .levels → foundIn m ≡ hosts.Found t w
       → countedOf r m st a ≡ pathWords r m a d ++ directly m (t .0) w
   unfolding countedOf
-  held-counted m t w l f =
-      ap (λ b. cond b (pathWords r m a d ++ directWords c ht m st a d (foundIn m)) (plainly m)) (is-true (leb d (c .levels)) (le→leb d (c .levels) l))
+  held-counted m e t w l f =
+      ap (countedAt m) e
+      ∙ ap (λ b. cond b (pathWords r m a d ++ directWords c ht m st a d (foundIn m)) (plainly m)) (is-true (leb d (c .levels)) (le→leb d (c .levels) l))
       ∙ ap (λ x. pathWords r m a d ++ directWords c ht m st a d x) f
 
-  plain-counted : (m : List ℕ) → c .levels < d → countedOf r m st a ≡ plainly m
+  plain-counted : (m : List ℕ) → At m → c .levels < d → countedOf r m st a ≡ plainly m
   unfolding countedOf
-  plain-counted m l =
-      ap (λ b. cond b (pathWords r m a d ++ directWords c ht m st a d (foundIn m)) (plainly m))
+  plain-counted m e l =
+      ap (countedAt m) e
+      ∙ ap (λ b. cond b (pathWords r m a d ++ directWords c ht m st a d (foundIn m)) (plainly m))
       (is-false (leb d (c .levels)) (λ z. let k = leb→le d (c .levels) z in omega arith))
 
   -- the shadow entries on the path are N − d words where it is held
@@ -570,23 +672,23 @@ module _ (r : Record) (st : Bool) (a : ℕ) where
   unshadowed-held : (m : List ℕ) → unshadowedOf c ht m hold rt st a d .held ≡ hold
   unshadowed-held m = unshadowed-comes m (length (plainly m)) (wholly-reads m) .0
 
-  pub comes : (m : List ℕ) → Reaches m → Comes m
+  pub comes : (m : List ℕ) → At m → Reaches m → Comes m
   unfolding directOf
-  comes m (held t w l f s) =
-      let e = held-counted m t w l f in
+  comes m at (held t w l f s) =
+      let e = held-counted m at t w l f in
       let long = ap length e ∙ length-append (pathWords r m a d) (directly m (t .0) w) ∙ ap (λ x. x + length (directly m (t .0) w)) (path-reads m t w l f) in
       let x : Translated = throughOf c ht m hold rt st a d (t .0) w in
       let q = through-comes m (t .0) w (length (countedOf r m st a))
       (reads-same _ _ (from m (t .0) w) (sym long) (walk-count c ht m (direct c st a d (t .0) w) (c .levels - d) (levels-ends c st _ (t .0) w (indexes d (pageOf a))))) in
-      record { exits = x .exits; walked = x .walked; sets = x .sets; done = held-is m t w l f s ∙ left-is x m (q .0); count = q .1 }
-  comes m (plain l) =
+      record { exits = x .exits; walked = x .walked; sets = x .sets; done = held-is m at t w l f s ∙ left-is x m (q .0); count = q .1 }
+  comes m at (plain l) =
       let x : Translated = unshadowedOf c ht m hold rt st a d in
       record {
         exits = x .exits;
         walked = x .walked;
         sets = x .sets;
-        done = plain-is m l ∙ left-is x m (unshadowed-held m);
-        count = unshadowed-comes m (length (countedOf r m st a)) (reads-same _ _ (wholly m) (sym (ap length (plain-counted m l))) (wholly-reads m)) .1;
+        done = plain-is m at l ∙ left-is x m (unshadowed-held m);
+        count = unshadowed-comes m (length (countedOf r m st a)) (reads-same _ _ (wholly m) (sym (ap length (plain-counted m at l))) (wholly-reads m)) .1;
       }
 
   -- ---- memory n has the words that it counts on m
@@ -600,8 +702,8 @@ module _ (r : Record) (st : Bool) (a : ℕ) where
   through-none m t w clear = go (c .bits) refl
     where
       by : c .bits ≡ true → (x : Walked) → from m t w ≡ x → throughOf c ht m hold rt st a d t w ≡ translation hold (exitBy x) x false
-      by on (walked.Arrived p v n) q =
-          through-on c ht m hold rt st a d t w false (walked.Arrived p v n) on
+      by on (walked.Arrived v p n) q =
+          through-on c ht m hold rt st a d t w false (walked.Arrived v p n) on
           (clear on (p .0, v) (arrived-granted c ht m (c .levels - d) (direct c st a d t w) (p .0) v n q)) q
       by on (walked.Faulted x n) q = through-end c ht m hold rt st a d t w (walked.Faulted x n) on q
       by on walked.Damaged q = through-end c ht m hold rt st a d t w walked.Damaged on q
@@ -629,9 +731,9 @@ module _ (r : Record) (st : Bool) (a : ℕ) where
       let p = whole c st rt a in
       let x : wholly n ≡ wholly m = walk-local c ht m n p 0 (walk-ends c st rt (indexes (c .levels) (pageOf a))) s in
       let v = memoryWorld c ht n in
-      ap (λ y. cond (c .bits) (judgedBy hold true (checkedBy d (lacks v st ((trace v p) .reads)) (owed v st ((trace v p) .reads) ((trace v p) .uses)) y) y) (translation hold (exitBy y) y false)) x
+      ap (λ y. cond (c .bits) (judgedBy hold true (checkedBy d (lacks v st ((trace v p) .reads)) (owed v st (c .levels) ((trace v p) .reads) ((trace v p) .uses)) y) y) (translation hold (exitBy y) y false)) x
       ∙ ap₂ (λ l o. cond (c .bits) (judgedBy hold true (checkedBy d l o (wholly m)) (wholly m)) (translation hold (exitBy (wholly m)) (wholly m) false))
-      (lacks-local c ht m n p s st) (owed-local c ht m n p s st)
+      (lacks-local c ht m n p s st) (owed-local c ht m n p s st (c .levels))
 
   pub record Alike (m n : List ℕ) : Type 0 where
     pub exits : ℕ
@@ -641,29 +743,128 @@ module _ (r : Record) (st : Bool) (a : ℕ) where
     pub altered : translatedOf r n st a ≡ left exits walked sets n
     pub own : (xs : List Word) × SameWords m n xs × (settledOf c ht rt st a sets m ≡ bitsIn st m xs) × (settledOf c ht rt st a sets n ≡ bitsIn st n xs)
 
-  pub alike : (m n : List ℕ) → Reaches m → SetsNone r m st a → SameWords m n (countedOf r m st a) → Alike m n
+  -- ---- and there it has the same depth
+
+  abbrev μ : ℕ
+  μ = depthAt r a
+
+  abbrev upward : List ℕ
+  upward = pathIndexes c μ a
+
+  abbrev top : ℕ
+  top = r .pools .shadow .top
+
+  whole-path : μ ≤ c .levels → pathIndexes c 0 a ≡ upward ++ indexes μ (pageOf a)
+  whole-path l =
+      let k : c .levels - 0 ≡ c .levels - μ + μ = omega (arith, l) in
+      ap₂ indexes k (div-one (pageOf a)) ∙ indexes-split (c .levels - μ) μ (pageOf a)
+
+  in-shadow : (m : List ℕ) (k : ℕ) → k < c .levels → foundOf c m hold a k ≡ namedBy c (lookupOf (c .hosts) (c .shadows) m top (pathIndexes c k a) 0)
+  unfolding foundOf shadowed
+  in-shadow m k l = ap (λ b. cond b (namedBy c (lookupOf (c .hosts) (c .shadows) m top (pathIndexes c k a) 0)) (cond (eqb (r .guest .held .0) 0) (hosts.Absent 0) (hosts.Found (r .guest .held) true))) (lt-ltb k (c .levels) l)
+
+  shadow-words : (m : List ℕ) (k : ℕ) → k < c .levels → pathWords r m a k ≡ entriesRead (c .hosts) (c .shadows) m top (pathIndexes c k a)
+  unfolding pathWords
+  shadow-words m k l = ap (λ b. cond b (entriesRead (c .hosts) (c .shadows) m top (pathIndexes c k a)) []) (lt-ltb k (c .levels) l)
+
+  abbrev turned : List ℕ → HostWalk → ℕ
+  turned m = depthBy c ht m rt a μ
+
+  module _ (m n : List ℕ) (t : HostPhysical) (w : Bool) (f : foundIn m ≡ hosts.Found t w) (s : SameWords m n (pathWords r m a d)) (up : μ < c .levels) where
+    -- what the shorter path of a large page meets is met again
+    upward-local : d ≡ 0 → foundOf c n hold a μ ≡ foundOf c m hold a μ
+    upward-local e =
+        let words = subst (λ is. SameWords m n (entriesRead (c .hosts) (c .shadows) m top is)) (whole-path (omega (arith, up)))
+        (subst (SameWords m n) (shadow-words m 0 (omega (arith, up))) (subst (λ k. SameWords m n (pathWords r m a k)) e s)) in
+        in-shadow n μ up
+        ∙ ap (namedBy c) (look-local (c .hosts) (c .shadows) m n upward top 0 (same-entries m n (entriesRead (c .hosts) (c .shadows) m top upward)
+        (shorter-read _ (c .hosts) (c .shadows) m upward (indexes μ (pageOf a)) top words)))
+        ∙ sym (in-shadow m μ up)
+
+    -- and something is met
+    absent-none : (k : ℕ) → d ≡ 0 → foundOf c m hold a μ ≡ hosts.Absent k → ⊥
+    absent-none k e q =
+        absent-above c (lookupOf (c .hosts) (c .shadows) m top upward 0) k (sym (in-shadow m μ up) ∙ q)
+        (shown-above (c .hosts) (c .shadows) m upward (indexes μ (pageOf a)) top 0
+        (subst (λ is. Ended (lookupOf (c .hosts) (c .shadows) m top is 0)) (whole-path (omega (arith, up)))
+        (ended c (lookupOf (c .hosts) (c .shadows) m top (pathIndexes c 0 a) 0) t w (sym (in-shadow m 0 (omega (arith, up))) ∙ ap (foundOf c m hold a) (sym e) ∙ f))))
+
+    -- a walk in place of a held path says the marks' depth, or 0
+    soon : (x : Walked) → (soonBy c μ x ≡ μ) ⊎ (soonBy c μ x ≡ 0)
+    soon (walked.Arrived v p k) = go (isSpan c (p .0))
+      where
+        go : (b : Bool) → (cond b 0 μ ≡ μ) ⊎ (cond b 0 μ ≡ 0)
+        go true = inr refl
+        go false = inl refl
+    soon (walked.Faulted y k) = inl refl
+    soon walked.Damaged = inl refl
+
+    turned-local : (x : HostWalk) → foundOf c m hold a μ ≡ x → turned m x ≡ d → turned n (foundOf c n hold a μ) ≡ d
+    unfolding walkedDepth
+    turned-local (hosts.Found p v) q e = ap (turned n) (subst (λ k. foundOf c n hold a k ≡ foundOf c m hold a k) (sym e) (found-local m n s) ∙ q) ∙ e
+    turned-local (hosts.Absent k) q e = elim (soon (walkedOf c ht m 0 (walk c false rt upward))) [
+      | inl z ↦ absurd (absent-found k t w (sym q ∙ ap (foundOf c m hold a) (sym z ∙ e) ∙ f))
+      | inr z ↦ absurd (absent-none k (sym e ∙ z) q)
+    ]
+    turned-local hosts.Damaged q e = ap (turned n) (upward-local (sym e) ∙ q) ∙ e
+
+  depth-local : (m n : List ℕ) → 3 ≤ c .levels → At m → (t : HostPhysical) (w : Bool) → foundIn m ≡ hosts.Found t w → SameWords m n (pathWords r m a d) → At n
+  unfolding depthOf mayTurn
+  depth-local m n three at t w f s = go (eqb μ 0) (ltb μ 3) refl at
+    where
+      go : (z l : Bool) → ltb μ 3 ≡ l → cond (cond z false l) (turned m (foundOf c m hold a μ)) μ ≡ d → cond (cond z false l) (turned n (foundOf c n hold a μ)) μ ≡ d
+      go true l q e = e
+      go false false q e = e
+      go false true q e = turned-local m n t w f s (omega (arith, ltb-true μ 3 q, three)) (foundOf c m hold a μ) refl e
+
+  -- at depth N + 1 the marks say it
+  marks-local : (m n : List ℕ) → 3 ≤ c .levels → c .levels < d → At m → At n
+  unfolding depthOf mayTurn walkedDepth
+  marks-local m n three l at = go (eqb μ 0) (ltb μ 3) refl at
+    where
+      low : (x : Walked) → soonBy c μ x ≤ μ
+      low (walked.Arrived v p k) = by (isSpan c (p .0))
+        where
+          by : (b : Bool) → cond b 0 μ ≤ μ
+          by true = omega arith
+          by false = omega arith
+      low (walked.Faulted y k) = omega arith
+      low walked.Damaged = omega arith
+
+      most : (x : HostWalk) → turned m x ≤ μ
+      most (hosts.Found p v) = omega arith
+      most (hosts.Absent k) = low (walkedOf c ht m 0 (walk c false rt upward))
+      most hosts.Damaged = omega arith
+
+      go : (z b : Bool) → ltb μ 3 ≡ b → cond (cond z false b) (turned m (foundOf c m hold a μ)) μ ≡ d → cond (cond z false b) (turned n (foundOf c n hold a μ)) μ ≡ d
+      go true b q e = e
+      go false false q e = e
+      go false true q e = absurd (omega (arith, most (foundOf c m hold a μ), e, ltb-true μ 3 q, three, l))
+
+  pub alike : (m n : List ℕ) → 3 ≤ c .levels → At m → Reaches m → SetsNone r m st a → SameWords m n (countedOf r m st a) → Alike m n
   unfolding SetsNone settledOf
-  alike m n (held t w l f s) b h =
-      let k : SameWords m n (pathWords r m a d ++ directly m (t .0) w) = subst (SameWords m n) (held-counted m t w l f) h in
+  alike m n three at (held t w l f s) b h =
+      let k : SameWords m n (pathWords r m a d ++ directly m (t .0) w) = subst (SameWords m n) (held-counted m at t w l f) h in
       let p = all-left _ (pathWords r m a d) (directly m (t .0) w) k in
       let q = all-rest _ (pathWords r m a d) (directly m (t .0) w) k in
-      let clear : Clear m (t .0) w = λ on. subst (LacksNone c ht m st a d) f (b on l) in
+      let clear : Clear m (t .0) w = λ on. subst (LacksNone c ht m st a d) f (subst (λ k. k ≤ c .levels → LacksNone c ht m st a k (foundOf c m hold a k)) at (b on) l) in
+      let there = depth-local m n three at t w f p in
       record {
         exits = exitBy (from m (t .0) w);
         walked = from m (t .0) w;
         sets = false;
-        before = held-is m t w l f s ∙ ap (λ x. yields x m) (through-none m (t .0) w clear);
-        altered = held-is n t w l (found-local m n p ∙ f) s ∙ ap (λ x. yields x n) (through-local m n (t .0) w q clear ∙ through-none m (t .0) w clear);
+        before = held-is m at t w l f s ∙ ap (λ x. yields x m) (through-none m (t .0) w clear);
+        altered = held-is n there t w l (found-local m n p ∙ f) s ∙ ap (λ x. yields x n) (through-local m n (t .0) w q clear ∙ through-none m (t .0) w clear);
         own = ([], tt, refl, refl);
       }
-  alike m n (plain l) b h =
-      let k : SameWords m n (plainly m) = subst (SameWords m n) (plain-counted m l) h in
+  alike m n three at (plain l) b h =
+      let k : SameWords m n (plainly m) = subst (SameWords m n) (plain-counted m at l) h in
       let x : Translated = unshadowedOf c ht m hold rt st a d in
       record {
         exits = x .exits;
         walked = x .walked;
         sets = x .sets;
-        before = plain-is m l ∙ left-is x m (unshadowed-held m);
-        altered = plain-is n l ∙ ap (λ y. yields y n) (unshadowed-local m n k) ∙ left-is x n (unshadowed-held m);
+        before = plain-is m at l ∙ left-is x m (unshadowed-held m);
+        altered = plain-is n (marks-local m n three l at) l ∙ ap (λ y. yields y n) (unshadowed-local m n k) ∙ left-is x n (unshadowed-held m);
         own = own-entries c ht rt st a m n k (x .sets);
       }

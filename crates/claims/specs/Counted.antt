@@ -17,9 +17,10 @@ use Rattle.spec.specs.Bytes.{withBytes}
 use Rattle.spec.specs.Walk.{Walk, done, fail, host, word, granted, trace}
 use Rattle.spec.specs.Plain.{Place, upper}
 use Rattle.spec.specs.Bits.{lacks}
-use Rattle.spec.specs.Machine.{place}
-use Rattle.spec.specs.Book.{Book, depth, find}
+use Rattle.spec.specs.Machine.{Machine, place}
+use Rattle.spec.specs.Book.{Book, find}
 use Rattle.spec.specs.Call.{addressIndexes}
+use Rattle.spec.specs.Count as count
 use Rattle.spec.specs.Count.{serves}
 use Rattle.spec.specs.Prefix.{All}
 use Rattle.words.specs.Words.{wordIn}
@@ -36,7 +37,7 @@ use Rattle.record.specs.declared.Record.{Record}
 use Rattle.record.specs.Record.{configOf, headOf, headTally, withHead}
 use Rattle.translate.specs.Translate.{pathIndexes, foundOf, direct, whole}
 use Rattle.request.specs.Access.{settledOf}
-use Rattle.calls.specs.Calls.{hostTop, heldOf, rootOf, tallyAfter, depthAt, translatedOf, loadCall, storeCall}
+use Rattle.calls.specs.Calls.{hostTop, heldOf, rootOf, tallyAfter, requestDepth, translatedOf, loadCall, storeCall}
 use Rattle.claims.specs.Run.{guestArea}
 use Rattle.words.specs.After.{After}
 use Rattle.calls.specs.declared.Reply.{Reply}
@@ -78,13 +79,13 @@ unfoldable pub countedOf : Record → List ℕ → Bool → ℕ → List Word
 countedOf r m st a =
     let c = configOf r in
     let ht = hostTop r in
-    let d = depthAt r a in
+    let d = requestDepth r m a in
     cond (leb d (c .levels))
     (pathWords r m a d ++ directWords c ht m st a d (foundOf c m (heldOf r) a d))
     (walkWords c ht m (whole c st (rootOf r) a))
 
 abbrev pub touchedBy : ℕ → Walked → List Word
-touchedBy a (walked.Arrived t w n) = (t .0, wordOf a) ∷ []
+touchedBy a (walked.Arrived w t n) = (t .0, wordOf a) ∷ []
 touchedBy a (walked.Faulted x n) = []
 touchedBy a walked.Damaged = []
 
@@ -92,12 +93,11 @@ touchedBy a walked.Damaged = []
 unfoldable pub touchedOf : Record → List ℕ → Bool → ℕ → List Word
 touchedOf r m st a = touchedBy a (translatedOf r m st a .result .walked)
 
--- the address's path is held, or its depth is N + 1, on the book; a store's held path must not forbid the store
-unfoldable pub HeldOrPlain : Config → Book → Bool → ℕ → Type 0
-HeldOrPlain c b st a =
-    let is = addressIndexes c a in
-    let d = depth (b .marks) is in
-    T (serves st d (find (upper c d is) (b .held))) ⊎ (c .levels < d)
+-- the request's path is held, or its depth is N + 1, on machine and book; a store's held path must not forbid the store
+unfoldable pub HeldOrPlain : Config → Machine → Book → Bool → ℕ → Type 0
+HeldOrPlain c m b st a =
+    let d = count.requestDepth c m b a in
+    T (serves st d (find (upper c d (addressIndexes c a)) (b .held))) ⊎ (c .levels < d)
 
 -- with bits on, a request on a held path may rest on words of its plain walk that it does not count, if it sets a bit, refills the
 -- path or meets W for a bit. A path that is to be refilled is none of `HeldOrPlain`; a request does one of the others exactly if its
@@ -116,7 +116,7 @@ LacksNone c ht m st a d hosts.Damaged = Unit {0}
 unfoldable pub SetsNone : Record → List ℕ → Bool → ℕ → Type 0
 SetsNone r m st a =
     let c = configOf r in
-    let d = depthAt r a in
+    let d = requestDepth r m a in
     c .bits ≡ true → d ≤ c .levels → LacksNone c (hostTop r) m st a d (foundOf c m (heldOf r) a d)
 
 -- the memory with the bits that the request itself sets

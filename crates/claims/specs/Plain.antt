@@ -5,7 +5,7 @@ use Prim.Native.Nat.{ℕ, suc, _+_, _*_, _≤_}
 use mathlib.Core.Bool.{Bool, true, false}
 use mathlib.Core.List.{List}
 use mathlib.Core.Option.{Option, none, some}
-use lib.ListN.{set}
+use lib.ListN.{length, set}
 use Rattle.spec.specs.declared.Fault.{Fault}
 use Rattle.spec.specs.declared.Fault.the-variants.{HostReadOnly}
 use Rattle.spec.specs.declared.Answer.{Answer}
@@ -16,8 +16,9 @@ use Rattle.spec.specs.Entry.{wordOf}
 use Rattle.spec.specs.Bytes.{bytesAt, withBytes}
 use Rattle.spec.specs.Walk.{trace}
 use Rattle.spec.specs.Bits.{owes}
+use Rattle.spec.specs.Config.{Config}
 use Rattle.spec.specs.Machine.{place}
-use Rattle.spec.specs.Call.{Call, load, store}
+use Rattle.spec.specs.Call.{Call, load, store, plain}
 use Rattle.words.specs.Words as words
 use Rattle.walk.specs.declared.Walked.{Walked}
 use Rattle.walk.specs.declared.Walked.the-variants as walked
@@ -26,7 +27,10 @@ use Rattle.translate.specs.Translate.{whole}
 use Rattle.request.specs.Access.{settledOf}
 use Rattle.record.specs.declared.Record.{Record}
 use Rattle.record.specs.Record.{configOf}
-use Rattle.calls.specs.Calls.{hostTop, rootOf, depthAt}
+use Rattle.calls.specs.Calls.{hostTop, rootOf, requestDepth}
+use Rattle.spec.specs.Count as count
+use Rattle.spec.specs.Count.{grantedReads}
+use Rattle.spec.specs.Run.{State}
 use Rattle.claims.specs.Run.{guestArea}
 use Rattle.words.specs.After.{After}
 use Rattle.calls.specs.declared.Reply.{Reply}
@@ -53,7 +57,7 @@ touched a w (some v) e area k = set area k (withBytes a w v e)
 -- W for a bit that is owed comes after every other check of the walk
 abbrev pub judgedWalk : Option (ℕ × ℕ) → Walked → Walked
 judgedWalk none x = x
-judgedWalk (some o) (walked.Arrived t y n) = walked.Faulted (HostReadOnly (o .1)) n
+judgedWalk (some o) (walked.Arrived y t n) = walked.Faulted (HostReadOnly (o .1)) n
 judgedWalk (some o) (walked.Faulted x n) = walked.Faulted x n
 judgedWalk (some o) walked.Damaged = walked.Damaged
 
@@ -68,12 +72,21 @@ plainWalk r m st a =
 abbrev pub withOwn : Record → List ℕ → Bool → ℕ → List ℕ
 withOwn r m st a = settledOf (configOf r) (hostTop r) (rootOf r) st a (configOf r .bits) m
 
--- e is what a request leaves that is granted at its bytes of host frame t, on the memory with its own bits. It read N + N·d words for the depth d of its address, at
--- most 24 with four levels
+-- the words that it reads where it is granted, by its depth and the guest entries on its way: with four levels 4 + 4·d where there is no large page
+abbrev pub readsOf : Record → List ℕ → Bool → ℕ → ℕ
+readsOf r m st a =
+    grantedReads (configOf r) (requestDepth r m a) (length ((trace (memoryWorld (configOf r) (hostTop r) m) (whole (configOf r) st (rootOf r) a)) .reads))
+
+-- the same on machine and book
+abbrev pub readsOn : Config → State → Bool → ℕ → ℕ
+readsOn c s st a = grantedReads c (count.requestDepth c (s .machine) (s .book) a) (length ((plain c (s .machine) st a) .reads))
+
+-- e is what a request leaves that is granted at its bytes of host frame t, on the memory with its own bits. It read at most 24 words with four
+-- levels
 pub record Granted (r : Record) (m : List ℕ) (a w : ℕ) (v : Option ℕ) (e : After Reply) (t : ℕ) : Type 0 where
   pub exits : ℕ
-  pub says : line (e .result .answer) ≡ grantedLine a w v (words.wordIn (withOwn r m (isStore v) a) t (wordOf a)) (configOf r .levels + configOf r .levels * depthAt r a) exits
-  pub most : configOf r .levels + configOf r .levels * depthAt r a ≤ configOf r .levels + configOf r .levels * suc (configOf r .levels)
+  pub says : line (e .result .answer) ≡ grantedLine a w v (words.wordIn (withOwn r m (isStore v) a) t (wordOf a)) (readsOf r m (isStore v) a) exits
+  pub most : readsOf r m (isStore v) a ≤ configOf r .levels + configOf r .levels * suc (configOf r .levels)
   pub area : guestArea r (e .memory) ≡ touched a w v (words.wordIn (withOwn r m (isStore v) a) t (wordOf a)) (guestArea r (withOwn r m (isStore v) a)) (place (configOf r) t (wordOf a))
 
 -- and one that meets the fault y
@@ -85,7 +98,7 @@ pub record Faulted (r : Record) (m : List ℕ) (e : After Reply) (y : Fault) : T
 
 -- by what the plain walk came to
 abbrev pub AsWalked : Record → List ℕ → ℕ → ℕ → Option ℕ → After Reply → Walked → Type 0
-AsWalked r m a w v e (walked.Arrived t y n) = Granted r m a w v e (t .0)
+AsWalked r m a w v e (walked.Arrived y t n) = Granted r m a w v e (t .0)
 AsWalked r m a w v e (walked.Faulted y n) = Faulted r m e y
 AsWalked r m a w v e walked.Damaged = ⊥
 

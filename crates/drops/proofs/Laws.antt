@@ -1,13 +1,18 @@
 -- The steps of links, scans and searches, and what they always satisfy.
 -- Assumes nothing.
 use mathlib.Core.Path.{_≡_, refl, ap, _∙_}
-use Prim.Native.Nat.{ℕ, zero, suc, _+_, _-_, _≤_, _<_}
+use mathlib.Core.Logic.{_≢_}
+use Prim.Native.Nat.{ℕ, zero, suc, _+_, _-_, _*_, _≤_, _<_}
 use native.Mathlib.Omega.{arith}
 use mathlib.Core.Bool.{Bool, true, false, cond}
 use mathlib.Core.List.{List}
+use lib.Dec.{eqb}
+use borrow.Author.Tests.{eq-eqb, ne-eqb, eqb-true, eqb-false, le-leb, lt-leb}
 use Rattle.spec.specs.Config.{Config}
-use Rattle.spec.specs.Entry.{present, frameOf, index, indexes}
+use Rattle.spec.specs.Entry.{present, frameOf, large, framesBelow, index, indexes}
 use Rattle.spec.specs.Refusal.{inGuestArea}
+use Rattle.spec.specs.Plain.{isSpan, firstFrame, entryLead, spanLead}
+use Rattle.words.specs.Words.{wordIn}
 use Rattle.pool.specs.declared.Pool.{Pool}
 use Rattle.pool.specs.declared.Way.the-variants as way
 use Rattle.pool.specs.Header.{entryAtOf, parentOf, slotOf, insideOf}
@@ -22,9 +27,39 @@ use Rattle.drops.specs.declared.Cut.the-variants.{Word, Names, Slot}
 use Rattle.drops.specs.declared.Above.{Above}
 use Rattle.drops.specs.declared.Above.the-variants.{Met, To}
 use Rattle.drops.specs.declared.Above.the-variants as above
-use Rattle.drops.specs.Cut.{isLeaf, kindOf, cutOf, lowOf, endOf, linkUpOf, upBy, linksUpOf}
+use Rattle.drops.specs.Cut.{isLeaf, kindOf, leadIn, leadsTo, cutOf, lowOf, endOf, linkUpOf, upBy, linksUpOf}
 use Rattle.drops.specs.Drop.{outcome, clearOneOf, clearLeavesOf, visitOf, scanFrom, scanOf, tableBy, tableNamed, holderOf, dropPrefixOf}
 use Rattle.words.specs.After.{yields}
+
+-- ---- where a level leads
+module _ (c : Config) (m : List ℕ) (g n t i : ℕ) where
+  -- from a guest table by its entry, if that maps no large page
+  pub lead-large : t < c .frames → large n (wordIn m t i) ≡ true → leadsTo g (leadIn c m n t i) ≡ false
+  unfolding leadIn isSpan entryLead
+  lead-large l e = rw (lt-leb (c .frames) t l, e)
+
+  pub lead-named : t < c .frames → large n (wordIn m t i) ≡ false → leadsTo g (leadIn c m n t i) ≡ eqb g (frameOf (wordIn m t i))
+  unfolding leadIn isSpan entryLead
+  lead-named l e = rw (lt-leb (c .frames) t l, e)
+
+  -- from a span to the frame at that index, and above level 1 to none
+  pub lead-part : c .frames ≤ t → n ≢ 1 → leadsTo g (leadIn c m n t i) ≡ false
+  unfolding leadIn isSpan spanLead
+  lead-part l e = rw (le-leb (c .frames) t l, ne-eqb n 1 e)
+
+  pub lead-page : c .frames ≤ t → n ≡ 1 → leadsTo g (leadIn c m n t i) ≡ eqb g (t - c .frames + i)
+  unfolding leadIn isSpan spanLead firstFrame framesBelow
+  lead-page l e =
+      let z : t - c .frames + i * 1 ≡ t - c .frames + i = omega arith in
+      rw (le-leb (c .frames) t l, e, z)
+
+-- a test of a sum, as one of a difference
+pub sum-test : (g d i : ℕ) → i ≤ g → eqb g (d + i) ≡ eqb (g - i) d
+sum-test g d i l = go (eqb (g - i) d) refl
+  where
+    go : (b : Bool) → eqb (g - i) d ≡ b → eqb g (d + i) ≡ b
+    go true e = let z = eqb-true (g - i) d e in eq-eqb g (d + i) (omega (arith, z, l))
+    go false e = ne-eqb g (d + i) (λ z. eqb-false (g - i) d e (omega (arith, z)))
 
 -- ---- links up
 abbrev pub AboveSmall : Above → Type 0
@@ -34,7 +69,7 @@ AboveSmall above.Damaged = Unit {0}
 
 pub above-small : (c : Config) (x : Cut) (m : List ℕ) (f : ℕ) → AboveSmall (linkUpOf c x m f)
 unfolding linkUpOf
-above-small c x m f = go (insideOf (c .hosts) (c .shadows) (parentOf m f)) (cutOf m x (parentOf m f) (slotOf m f))
+above-small c x m f = go (insideOf (c .hosts) (c .shadows) (parentOf m f)) (cutOf c m x (parentOf m f) (slotOf m f))
   where
     go : (b d : Bool) → AboveSmall (cond b (cond d Met (To (parentOf m f))) above.Damaged)
     go true true = tt

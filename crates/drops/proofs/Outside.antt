@@ -44,7 +44,7 @@ module _ (c : Config) where
   module _ (x : Cut) where
     one-out : (all lowest : Bool) (f i : ℕ) (m : List ℕ) → In f → i < 512 → Same c m (clearOneOf c x all lowest f m i .memory)
     unfolding clearOneOf
-    one-out all lowest f i m h l = go (kindOf c lowest (entryAtOf m f i)) (goesOf m x all f i)
+    one-out all lowest f i m h l = go (kindOf c lowest (entryAtOf m f i)) (goesOf c m x all f i)
       where
         go : (k : Kind) (b : Bool) → Same c m (clearBy k m b f i .memory)
         go Gone b = same m

@@ -7,8 +7,9 @@ use lib.Dec.{eqb}
 use Rattle.spec.specs.Config.{Config}
 use Rattle.spec.specs.Entry.{present, switch, frameOf}
 use Rattle.spec.specs.Refusal.{inGuestArea}
+use Rattle.spec.specs.Plain.{Lead, to, into, isSpan, entryLead, spanLead}
 use Rattle.words.specs.Words.{wordIn}
-use Rattle.pool.specs.Header.{guestOf, parentOf, slotOf, insideOf}
+use Rattle.pool.specs.Header.{guestOf, levelOf, parentOf, slotOf, insideOf}
 use Rattle.drops.specs.declared.Kind.{Kind}
 use Rattle.drops.specs.declared.Kind.the-variants.{Gone, Leaf, Table, Damaged}
 use Rattle.drops.specs.declared.Cut.{Cut}
@@ -35,11 +36,20 @@ kindOf c lowest e =
 
 -- ---- cuts
 
+-- where level n leads by index i of the place t, a guest table's host frame or a span, by the words of memory
+unfoldable pub leadIn : Config → List ℕ → ℕ → ℕ → ℕ → Lead
+leadIn c m n t i = cond (isSpan c t) (spanLead c n t i) (entryLead n (wordIn m t i))
+
+-- is guest frame g's mapping used there? A lead into a large page uses none
+abbrev pub leadsTo : ℕ → Lead → Bool
+leadsTo g (to h) = eqb g h
+leadsTo g (into h) = false
+
 -- is entry i of the table in frame f cut? A path goes if an entry on it is cut
-abbrev pub cutOf : List ℕ → Cut → ℕ → ℕ → Bool
-cutOf m (Word t j) f i = cond (eqb i (j % 512)) (eqb (guestOf m f) (t .0)) false
-cutOf m (Names g) f i = eqb (frameOf (wordIn m (guestOf m f) i)) (g .0)
-cutOf m (Slot t j) f i = cond (eqb i (j % 512)) (eqb f (t .0)) false
+abbrev pub cutOf : Config → List ℕ → Cut → ℕ → ℕ → Bool
+cutOf c m (Word t j) f i = cond (eqb i (j % 512)) (eqb (guestOf m f) (t .0)) false
+cutOf c m (Names g) f i = leadsTo (g .0) (leadIn c m (levelOf m f) (guestOf m f) i)
+cutOf c m (Slot t j) f i = cond (eqb i (j % 512)) (eqb f (t .0)) false
 
 -- the entries of a table at which it may be cut: from lowOf on, below endOf
 abbrev pub lowOf : Cut → ℕ
@@ -62,7 +72,7 @@ touchesOf m (Slot t j) f = eqb f (t .0)
 unfoldable pub linkUpOf : Config → Cut → List ℕ → ℕ → Above
 linkUpOf c x m f =
     cond (insideOf (c .hosts) (c .shadows) (parentOf m f))
-    (cond (cutOf m x (parentOf m f) (slotOf m f)) Met (To (parentOf m f)))
+    (cond (cutOf c m x (parentOf m f) (slotOf m f)) Met (To (parentOf m f)))
     above.Damaged
 
 abbrev pub upBy : Above → (ℕ → Above) → Above

@@ -37,12 +37,12 @@ clearBy Leaf m goes f i = yields true (cond goes (putEntryOf m f i 0) m)
 clearBy (Table t) m goes f i = yields true m
 clearBy Damaged m goes f i = yields false m
 
-unfoldable pub goesOf : List ℕ → Cut → Bool → ℕ → ℕ → Bool
-goesOf m x all f i = cond all true (cutOf m x f i)
+unfoldable pub goesOf : Config → List ℕ → Cut → Bool → ℕ → ℕ → Bool
+goesOf c m x all f i = cond all true (cutOf c m x f i)
 
 -- entry i of the table in frame f: a leaf that is cut, or any leaf where all go
 unfoldable pub clearOneOf : Config → Cut → Bool → Bool → ℕ → List ℕ → ℕ → After Bool
-clearOneOf c x all lowest f m i = clearBy (kindOf c lowest (entryAtOf m f i)) m (goesOf m x all f i) f i
+clearOneOf c x all lowest f m i = clearBy (kindOf c lowest (entryAtOf m f i)) m (goesOf c m x all f i) f i
 
 -- the k entries from i on
 unfoldable pub clearLeavesOf : Config → Cut → Bool → Bool → ℕ → ℕ → ℕ → List ℕ → After Bool

@@ -3,7 +3,8 @@ ghost use mathlib.Core.Path.{_≡_};
 ghost use Prim.Native.Nat.{_+_, _-_, _<_, _≤_};
 ghost use Rattle.spec.specs.Entry.{index, indexes, frameLimit};
 ghost use Rattle.layout.specs.Layout.{LayoutFits, config};
-ghost use Rattle.drops.specs.Cut.{isLeaf, kindOf, cutOf, lowOf, endOf, touchesOf, linkUpOf, linksUpOf};
+ghost use Rattle.pool.specs.Header.{levelOf, guestOf};
+ghost use Rattle.drops.specs.Cut.{isLeaf, kindOf, leadIn, leadsTo, cutOf, lowOf, endOf, touchesOf, linkUpOf, linksUpOf};
 ghost use Rattle.drops.specs.Drop.{goesOf, clearOneOf, clearLeavesOf, settleOf, sweepOf, visitOf, scanOf, tableNamed, holderOf, dropPrefixOf};
 use entry::GuestPhysical;
 use entry::HostPhysical;
@@ -21,7 +22,7 @@ pub enum Kind {
 }
 
 // At which entries held paths are cut. Word: the entry at an index of each table that stands for the guest table in a host
-// frame. Names: those whose guest entry names a guest frame. Slot: the entry at an index of one table.
+// frame. Names: those by which the guest's walk comes to a guest frame. Slot: the entry at an index of one table.
 pub enum Cut {
     Word(HostPhysical, u64),
     Names(GuestPhysical),
@@ -77,23 +78,42 @@ fn kind_of(layout: Layout, lowest: bool, entry: u64) -> Kind
 
 // ---- cuts
 
+// Whether the guest's walk comes to that guest frame by the entry of a table: by the guest table that it stands for, or in a large page.
+fn leads_to(mem: &[u64], layout: Layout, guest: u64, table: u64, at: u64) -> bool
+    requires { ⌜ (LayoutFits layout) × (table < frameLimit) × (at < 512) ⌝ }
+    ensures { λ r. ⌜ r ≡ leadsTo guest (leadIn (config layout) (now (mem .entry)) (levelOf (now (mem .entry)) table) (guestOf (now (mem .entry)) table) at) ⌝ }
+{
+    let place = pool::guest(mem, table);
+    let level = pool::level(mem, table);
+    if place < layout.frames {
+        let e = words::word_in(mem, place, at);
+        if entry::large(level, e) {
+            return false;
+        }
+        return guest == entry::frame_of(e);
+    }
+    if level == 1 {
+        if at <= guest {
+            return guest - at == place - layout.frames;
+        }
+    }
+    false
+}
+
 // Whether an entry of a table is cut.
-fn cut_at(mem: &[u64], cut: Cut, table: u64, at: u64) -> bool
-    requires { ⌜ (table < frameLimit) × (at < 512) ⌝ }
-    ensures { λ r. ⌜ r ≡ cutOf (now (mem .entry)) cut table at ⌝ }
+fn cut_at(mem: &[u64], layout: Layout, cut: Cut, table: u64, at: u64) -> bool
+    requires { ⌜ (LayoutFits layout) × (table < frameLimit) × (at < 512) ⌝ }
+    ensures { λ r. ⌜ r ≡ cutOf (config layout) (now (mem .entry)) cut table at ⌝ }
 {
     match cut {
         Cut::Word(frame, index) => {
             if at == index % 512 {
-                pool::guest(mem, table) == frame.0
+                pool::stands_for(mem, table, frame.0)
             } else {
                 false
             }
         }
-        Cut::Names(g) => {
-            let t = pool::guest(mem, table);
-            entry::frame_of(words::word_in(mem, t, at)) == g.0
-        }
+        Cut::Names(g) => leads_to(mem, layout, g.0, table, at),
         Cut::Slot(frame, index) => {
             if at == index % 512 {
                 table == frame.0
@@ -132,7 +152,7 @@ fn touches(mem: &[u64], cut: Cut, table: u64) -> bool
     ensures { λ r. ⌜ r ≡ touchesOf (now (mem .entry)) cut table ⌝ }
 {
     match cut {
-        Cut::Word(frame, index) => pool::guest(mem, table) == frame.0,
+        Cut::Word(frame, index) => pool::stands_for(mem, table, frame.0),
         Cut::Names(g) => true,
         Cut::Slot(frame, index) => table == frame.0,
     }
@@ -140,12 +160,12 @@ fn touches(mem: &[u64], cut: Cut, table: u64) -> bool
 
 // One link up from the table in that frame.
 fn link_up(mem: &[u64], layout: Layout, cut: Cut, frame: u64) -> Above
-    requires { ⌜ frame < frameLimit ⌝ }
+    requires { ⌜ (LayoutFits layout) × (frame < frameLimit) ⌝ }
     ensures { λ r. ⌜ r ≡ linkUpOf (config layout) cut (now (mem .entry)) frame ⌝ }
 {
     let p = pool::parent(mem, frame);
     if pool::inside(layout.hosts, layout.shadows, p) {
-        if cut_at(mem, cut, p, pool::slot(mem, frame)) {
+        if cut_at(mem, layout, cut, p, pool::slot(mem, frame)) {
             Above::Met
         } else {
             Above::To(p)
@@ -157,7 +177,7 @@ fn link_up(mem: &[u64], layout: Layout, cut: Cut, frame: u64) -> Above
 
 // Whether an entry above the table in that frame is cut; `above` tables stand above it.
 fn links_up(mem: &[u64], layout: Layout, cut: Cut, above: u64, frame: u64) -> Above
-    requires { ⌜ frame < frameLimit ⌝ }
+    requires { ⌜ (LayoutFits layout) × (frame < frameLimit) ⌝ }
     ensures { λ r. ⌜ r ≡ linksUpOf (config layout) cut (now (mem .entry)) above frame ⌝ }
 {
     let mut t = frame;
@@ -189,14 +209,14 @@ pub fn links(levels: u64, level: u64) -> u64
 // ---- one table
 
 // Whether a leaf at the index of the table in that frame goes.
-fn goes(mem: &[u64], cut: Cut, all: bool, frame: u64, index: u64) -> bool
-    requires { ⌜ (frame < frameLimit) × (index < 512) ⌝ }
-    ensures { λ r. ⌜ r ≡ goesOf (now (mem .entry)) cut all frame index ⌝ }
+fn goes(mem: &[u64], layout: Layout, cut: Cut, all: bool, frame: u64, index: u64) -> bool
+    requires { ⌜ (LayoutFits layout) × (frame < frameLimit) × (index < 512) ⌝ }
+    ensures { λ r. ⌜ r ≡ goesOf (config layout) (now (mem .entry)) cut all frame index ⌝ }
 {
     if all {
         true
     } else {
-        cut_at(mem, cut, frame, index)
+        cut_at(mem, layout, cut, frame, index)
     }
 }
 
@@ -216,7 +236,7 @@ fn clear_one(
     match kind_of(layout, lowest, pool::entry_at(mem, frame, index)) {
         Kind::Gone => true,
         Kind::Leaf => {
-            if goes(mem, cut, all, frame, index) {
+            if goes(mem, layout, cut, all, frame, index) {
                 pool::put_entry(mem, frame, index, 0);
                 true
             } else {

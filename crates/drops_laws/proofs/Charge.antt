@@ -7,26 +7,30 @@ use Prim.Native.Nat.{ℕ, zero, suc, _+_, _-_, _*_, _/_, _%_, _^_, _<_, _≤_}
 use native.Mathlib.Omega.{arith}
 use native.Mathlib.Decide.{ℕ-discrete}
 use mathlib.Core.Bool.{Bool, true, false, _&&_, _||_, cond, or-false}
-use mathlib.Core.List.{List, [], _∷_, _++_, append-assoc}
+use mathlib.Core.List.{List, [], _∷_, _++_, append-assoc, append-nil}
 use mathlib.Core.Option.{Option, none, some, IsSome}
 use lib.Dec.{T, eqb, eqb→eq, eqb-refl, ltb}
-use lib.ListN.{length, take, drop}
+use lib.ListN.{length, take, drop, length-append, drop-of-length-le}
 use lib.Pow.{pow-add}
 use lib.Seq.{take-at, drop-at}
 use borrow.Author.Tests.{eq-eqb, eqb-true}
 use Rattle.spec.specs.Config.{Config}
 use Rattle.spec.specs.Entry.{present, index, indexes}
+use Rattle.spec.specs.Plain.{Lead, isSpan}
 use Rattle.spec.specs.Prefix.{same, any, keep, All}
 use Rattle.spec.specs.Walk.{granted}
 use Rattle.spec.specs.Book.{Held}
 use Rattle.spec.specs.Choice.{better, firstOf, lower, readsLeaf, leafPrefixes, chargeOf}
 use Rattle.spec_laws.proofs.Lists.{all-map, all-both, all-keep, same-is, same-refl, is-true, and-left, and-right, both, or-cases, or-left, or-right}
 use Rattle.spec_laws.proofs.Indexes.{indexes-split}
-use Rattle.spec_laws.proofs.Trail.{readsFrom}
+use Rattle.spec_laws.proofs.Granted.{levelReads}
+use Rattle.spec_laws.proofs.Large.{level-most}
+use Rattle.spec_laws.proofs.Trail.{readsFrom, Spans}
 use Rattle.spec_laws.proofs.Charges.{IfSome, first-has, leaf-all}
 use Rattle.spec_laws.proofs.Least.{prefixes, prefixOf, lowest-is, Within, least-same}
 use Rattle.pool.specs.declared.Pool.{Pool}
 use Rattle.pool.specs.Header.{guestOf, levelOf, parentOf, entryAtOf}
+use Rattle.area_laws.proofs.Change.{differ}
 use Rattle.area_laws.proofs.Paths.{onto, onto-long, turn-turn, turn-empty, Small}
 use Rattle.area_laws.proofs.Invariant.{slot, inside-is, present-set, above, none-last, frame-small}
 use Rattle.area_laws.proofs.Whole.{Holds, above-leaf}
@@ -37,7 +41,7 @@ use Rattle.charge.specs.declared.Charge.{Charge}
 use Rattle.charge.specs.declared.Charge.the-variants.{Nobody, To}
 use Rattle.charge.specs.Charge as charge
 use Rattle.charge.specs.Charge.{endsAt, lowerBy, chargeBy, visitOf, chargedFrom, chargedOf}
-use Rattle.drops_laws.proofs.Held.{leafAt, HeldEntry, HeldEntries, leaf-any, any-leaf}
+use Rattle.drops_laws.proofs.Held.{leafAt, HeldEntry, HeldEntries, leaf-any, any-leaf, no-span}
 
 -- ---- prefixes as numbers, 9 bits for each index
 abbrev numberOf : List ℕ → ℕ
@@ -84,11 +88,32 @@ numbers-all P [] a = tt
 numbers-all P (p ∷ ps) a = (a .0, numbers-all P ps (a .1))
 
 -- ---- the level 1 word of a path
-reads-drop : (F : List ℕ → ℕ) (k : ℕ) (is q : List ℕ) → drop k (readsFrom F q is) ≡ readsFrom F (onto q (take k is)) (drop k is)
-unfolding onto
-reads-drop F zero is q = refl
-reads-drop F (suc k) [] q = refl
-reads-drop F (suc k) (i ∷ is) q = reads-drop F k is (i ∷ q)
+
+module _ (c : Config) (F : List ℕ → ℕ) where
+  reads-split : (is js q : List ℕ) → readsFrom c F q (is ++ js) ≡ readsFrom c F q is ++ readsFrom c F (onto q is) js
+  unfolding onto
+  reads-split [] js q = refl
+  reads-split (i ∷ is) js q =
+      ap (λ rs. levelReads c (F q) i ++ rs) (reads-split is js (i ∷ q)) ∙ sym (append-assoc (levelReads c (F q) i) (readsFrom c F (i ∷ q) is) (readsFrom c F (onto (i ∷ q) is) js))
+
+  -- a word for each index at most, and just that many where a path ends above the page and in no span
+  reads-most : (is q : List ℕ) → length (readsFrom c F q is) ≤ length is
+  reads-most [] q = omega arith
+  reads-most (i ∷ is) q = omega (arith, length-append (levelReads c (F q) i) (readsFrom c F (i ∷ q) is), level-most c (F q) i, reads-most is (i ∷ q))
+
+  reads-all : Spans c F → (is q : List ℕ) → length q + length is < c .levels → isSpan c (F (onto q is)) ≡ false
+      → (isSpan c (F q) ≡ false) × (length (readsFrom c F q is) ≡ length is)
+  unfolding onto
+  reads-all s [] q l o = (o, refl)
+  reads-all s (i ∷ is) q l o =
+      let ih = reads-all s is (i ∷ q) (omega (arith, l)) o in
+      let real = go (isSpan c (F q)) refl (ih .0) in
+      let one : length (levelReads c (F q) i) ≡ 1 = ap (λ b. length (cond {A = List (ℕ × ℕ)} b [] ((F q, i) ∷ []))) real in
+      (real, omega (arith, length-append (levelReads c (F q) i) (readsFrom c F (i ∷ q) is), one, ih .1))
+    where
+      go : (b : Bool) → isSpan c (F q) ≡ b → isSpan c (F (i ∷ q)) ≡ false → isSpan c (F q) ≡ false
+      go true e o = differ (sym (s i q (omega (arith, l)) e) ∙ o)
+      go false e o = e
 
 -- a held path of N indexes: the last of them, and the prefix before it
 module _ (c : Config) (h : Held) (j : ℕ) (x : List ℕ) (ends : onto [] (h .path) ≡ j ∷ x) (long : suc (length x) ≡ c .levels) where
@@ -101,17 +126,29 @@ module _ (c : Config) (h : Held) (j : ℕ) (x : List ℕ) (ends : onto [] (h .pa
   leaf-prefix : take (c .levels - 1) (h .path) ≡ onto [] x
   leaf-prefix = ap (take (c .levels - 1)) whole ∙ take-at (onto [] x) (j ∷ []) (c .levels - 1) all-but
 
-  leaf-last : drop (c .levels - 1) (h .path) ≡ j ∷ []
-  leaf-last = ap (drop (c .levels - 1)) whole ∙ drop-at (onto [] x) (j ∷ []) (c .levels - 1) all-but
-
-  leaf-reads : (F : List ℕ → ℕ) (t i : ℕ) → h .reads ≡ readsFrom F [] (h .path) → readsLeaf c t i h ≡ (eqb t (F x) && eqb i j)
-  leaf-reads F t i e =
+  -- in a large page it read fewer words than N, and its last table, a span, is not the frame stored to
+  leaf-reads : (F : List ℕ → ℕ) (t i : ℕ) → isSpan c t ≡ false → Spans c F → h .reads ≡ readsFrom c F [] (h .path) → readsLeaf c t i h ≡ (eqb t (F x) && eqb i j)
+  leaf-reads F t i real s e =
       let n : length (h .path) ≡ c .levels = let k = onto-long [] (h .path) in let u = ap length ends in omega arith in
-      let test = any (λ (r : ℕ × ℕ). eqb t (r .0) && eqb i (r .1)) in
       ap₂ _&&_ (eq-eqb (length (h .path)) (c .levels) n)
-      (ap (λ rs. test (drop (c .levels - 1) rs)) e ∙ ap test (reads-drop F (c .levels - 1) (h .path) [])
-      ∙ ap₂ (λ p is. test (readsFrom F (onto [] p) is)) leaf-prefix leaf-last
-      ∙ ap (λ y. test (readsFrom F y (j ∷ []))) (turn-turn x) ∙ or-false (eqb t (F x) && eqb i j))
+      (ap (λ rs. any is-word (drop (c .levels - 1) rs)) (e ∙ ap (readsFrom c F []) whole ∙ reads-split c F (onto [] x) (j ∷ []) [] ∙ ap (λ y. words ++ readsFrom c F y (j ∷ [])) (turn-turn x)
+      ∙ ap (λ rs. words ++ rs) (append-nil (levelReads c (F x) j)))
+      ∙ go (isSpan c (F x)) refl)
+    where
+      is-word : ℕ × ℕ → Bool
+      is-word r = eqb t (r .0) && eqb i (r .1)
+
+      words : List (ℕ × ℕ)
+      words = readsFrom c F [] (onto [] x)
+
+      go : (b : Bool) → isSpan c (F x) ≡ b → any is-word (drop (c .levels - 1) (words ++ cond b [] ((F x, j) ∷ []))) ≡ (eqb t (F x) && eqb i j)
+      go true o =
+          ap (λ rs. any is-word (drop (c .levels - 1) rs)) (append-nil words)
+          ∙ ap (any is-word) (drop-of-length-le words {i = c .levels - 1} (omega (arith, reads-most c F (onto [] x) [], all-but)))
+          ∙ sym (ap (λ b. b && eqb i j) (no-span c t (F x) real o))
+      go false o =
+          let k = reads-all c F s (onto [] x) [] (omega (arith, all-but, long)) (ap (λ y. isSpan c (F y)) (turn-turn x) ∙ o) .1 in
+          ap (any is-word) (drop-at words ((F x, j) ∷ []) (c .levels - 1) (k ∙ all-but)) ∙ or-false (eqb t (F x) && eqb i j)
 
 -- ---- the tables in which such a path ends
 abbrev numberBy : Prefix → ℕ
@@ -214,8 +251,8 @@ pub record ChargedTo (k : ℕ) (x : Charge) (o : Option (List ℕ)) : Type 0 whe
 abbrev pub ChargeIs : ℕ → Charge → Option (List ℕ) → Type 0
 ChargeIs k x o = ((x ≡ Nobody) × (o ≡ none)) ⊎ ChargedTo k x o
 
-module _ {c : Config} {p : Pool} {m : List ℕ} {guest G : List ℕ → ℕ} {root : ℕ} {w : Held → ℕ} {hs : List Held}
-    (h : Holds (shadowArea c) false p m (leafAt w hs) guest) (a : HeldEntries c guest G root w hs) (t i : ℕ) (l : i < 512) where
+module _ {c : Config} {p : Pool} {m : List ℕ} {guest : List ℕ → ℕ} {G : List ℕ → Lead} {root : ℕ} {w : Held → ℕ} {hs : List Held}
+    (h : Holds (shadowArea c) false p m (leafAt w hs) guest) (a : HeldEntries c guest G root w hs) (t i : ℕ) (real : isSpan c t ≡ false) (l : i < 512) where
   -- a table of level 1, and a path that ends in it
   record Ends (f : ℕ) : Type 0 where
     pub prefix : List ℕ
@@ -301,7 +338,7 @@ module _ {c : Config} {p : Pool} {m : List ℕ} {guest G : List ℕ → ℕ} {ro
           let d : length (k .path) ≡ c .levels = eqb→eq (length (k .path)) (c .levels) (and-left (eqb (length (k .path)) (c .levels)) _ r) in
           let v = onto-long [] (k .path) in
           let n : suc (length x) ≡ c .levels = let y = ap length u in omega arith in
-          let b : T (eqb t (guest x) && eqb i j) = subst T (leaf-reads c k j x u n guest t i (e .reads)) r in
+          let b : T (eqb t (guest x) && eqb i j) = subst T (leaf-reads c k j x u n guest t i real (a .spans) (e .reads)) r in
           let word : t ≡ guest x = eqb→eq t (guest x) (and-left (eqb t (guest x)) (eqb i j) b) in
           let at : i ≡ j = eqb→eq i j (and-right (eqb t (guest x)) (eqb i j) b) in
           let o : leafAt w hs (i ∷ x) ≢ 0 = subst (λ z. leafAt w hs (z ∷ x) ≢ 0) (sym at) (subst (λ z. leafAt w hs z ≢ 0) u s) in
@@ -325,7 +362,7 @@ module _ {c : Config} {p : Pool} {m : List ℕ} {guest G : List ℕ → ℕ} {ro
           → T (readsLeaf c t i k && eqb (numberOf x) (numberAbove c k))
       here k s u =
           both (readsLeaf c t i k) _
-          (subst T (sym (leaf-reads c k i x u (e .long) guest t i (s .reads))) (both (eqb t (guest x)) (eqb i i) (rw (e .reads) (eqb-refl t)) (eqb-refl i)))
+          (subst T (sym (leaf-reads c k i x u (e .long) guest t i real (a .spans) (s .reads))) (both (eqb t (guest x)) (eqb i i) (rw (e .reads) (eqb-refl t)) (eqb-refl i)))
           (rw (leaf-prefix c k i x u (e .long), turn-turn x) (eqb-refl (numberOf x)))
 
   -- ---- the prefixes that the book counts

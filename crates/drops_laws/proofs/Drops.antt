@@ -3,7 +3,7 @@
 -- Assumes nothing.
 use mathlib.Core.Path.{_≡_, refl, sym, ap, _∙_, subst}
 use mathlib.Core.Logic.{_≢_, inl, inr}
-use Prim.Native.Nat.{ℕ, zero, suc, _+_, _%_, _<_, _≤_}
+use Prim.Native.Nat.{ℕ, zero, suc, _+_, _-_, _%_, _<_, _≤_}
 use native.Mathlib.Omega.{arith}
 use native.Mathlib.Decide.{ℕ-discrete}
 use mathlib.Core.Bool.{Bool, true, false, not, _&&_, _||_, cond, or-false}
@@ -13,7 +13,7 @@ use lib.Dec.{T, eqb, eqb-refl}
 use lib.ListN.{length}
 use borrow.Author.Tests.{eq-eqb, ne-eqb}
 use Rattle.spec.specs.Config.{Config}
-use Rattle.spec.specs.Entry.{frameOf}
+use Rattle.spec.specs.Plain.{Lead, to, isSpan, entryLead, spanLead}
 use Rattle.spec.specs.Prefix.{begins, same, any, keep}
 use Rattle.spec.specs.Book.{Held, readsWord, readsFrame, usesMapping, dropWord, dropMapping, dropPrefix}
 use Rattle.spec.specs.Prefix.{All}
@@ -23,7 +23,7 @@ use Rattle.entry.specs.declared.GuestPhysical.{GuestPhysical}
 use Rattle.words.specs.Words.{wordIn}
 use Rattle.pool.specs.declared.Pool.{Pool}
 use Rattle.pool.specs.declared.Way.the-variants as way
-use Rattle.pool.specs.Header.{entryAtOf}
+use Rattle.pool.specs.Header.{levelOf, entryAtOf}
 use Rattle.pool.specs.Pool.{onWay, noneOf}
 use Rattle.prune.specs.Remove.{lastIndex}
 use Rattle.layout.specs.Layout.{page}
@@ -38,7 +38,7 @@ use Rattle.spec_laws.proofs.Indexes.{eqb-sym}
 use Rattle.drops.specs.declared.Cut.{Cut}
 use Rattle.drops.specs.declared.Cut.the-variants.{Word, Names, Slot}
 use Rattle.shadow.specs.Held.{shadowArea}
-use Rattle.drops.specs.Cut.{cutOf, kindOf}
+use Rattle.drops.specs.Cut.{leadIn, leadsTo, cutOf, kindOf}
 use Rattle.drops.specs.Drop.{outcome, scanOf, tableBy, tableNamed, holderOf, dropPrefixOf}
 use Rattle.drops_laws.proofs.Scan.{under, kindAt, slot-kind, Cuts, Dropped, scan-drops}
 use Rattle.drops_laws.proofs.Held.{leafAt, leaf-none, HeldEntries, leaves-are, cutWord, cutNames, cutPrefix, under-prefix, word-drop, names-drop, prefix-drop}
@@ -46,10 +46,19 @@ use Rattle.drops_laws.proofs.Watch.{guest-inside}
 use Rattle.words.specs.After.{After}
 use Rattle.drops.specs.declared.Left.{Left}
 
--- the guest frame that the guest entry at the end of a prefix names, by the words of memory
-unfoldable pub namedIn : List ℕ → (List ℕ → ℕ) → List ℕ → ℕ
-namedIn m F [] = 0
-namedIn m F (i ∷ q) = frameOf (wordIn m (F q) i)
+-- where the last index of a prefix leads, by the words of memory; F: the places that prefixes come to
+unfoldable pub namedIn : Config → List ℕ → (List ℕ → ℕ) → List ℕ → Lead
+namedIn c m F [] = to 0
+namedIn c m F (i ∷ q) = leadIn c m (c .levels - length q) (F q) i
+
+-- a span reads no word
+pub lead-on : (c : Config) (m n : List ℕ) (k t i : ℕ) → (isSpan c t ≡ false → wordIn n t i ≡ wordIn m t i) → leadIn c n k t i ≡ leadIn c m k t i
+unfolding leadIn
+lead-on c m n k t i e = go (isSpan c t) refl
+  where
+    go : (b : Bool) → isSpan c t ≡ b → cond b (spanLead c k t i) (entryLead k (wordIn n t i)) ≡ cond b (spanLead c k t i) (entryLead k (wordIn m t i))
+    go true s = refl
+    go false s = ap (entryLead k) (e s)
 
 abbrev pub guestFrame : ℕ → GuestPhysical
 guestFrame g = record { 0 = g }
@@ -68,22 +77,22 @@ pub prefix-all : (hs : List Held) → dropPrefix [] hs ≡ []
 prefix-all hs = keep-none (λ h. not (begins [] (h .path))) hs (all-any _ hs (λ h. refl))
 
 -- every path uses the root's mapping
-uses-root : (root : ℕ) (G : List ℕ → ℕ) (h : Held) → h .uses ≡ root ∷ usesFrom G [] (h .path) → (g : ℕ) → usesMapping g h ≡ (eqb g root || any (eqb g) (usesFrom G [] (h .path)))
+uses-root : (root : ℕ) (G : List ℕ → Lead) (h : Held) → h .uses ≡ root ∷ usesFrom G [] (h .path) → (g : ℕ) → usesMapping g h ≡ (eqb g root || any (eqb g) (usesFrom G [] (h .path)))
 uses-root root G h e g = ap (any (eqb g)) e
 
-pub mapping-all : {c : Config} {F G : List ℕ → ℕ} {root : ℕ} {w : Held → ℕ} {hs : List Held} → HeldEntries c F G root w hs → dropMapping root hs ≡ []
+pub mapping-all : {c : Config} {F : List ℕ → ℕ} {G : List ℕ → Lead} {root : ℕ} {w : Held → ℕ} {hs : List Held} → HeldEntries c F G root w hs → dropMapping root hs ≡ []
 mapping-all {G = G} {root = root} {hs = hs} a =
     keep-none (λ h. not (usesMapping root h)) hs (all-map _ _ hs (λ h s. ap not (uses-root root G h (s .uses) root ∙ ap (λ b. b || any (eqb root) (usesFrom G [] (h .path))) (is-true (eqb root root) (eqb-refl root)))) (a .all))
 
-module _ {c : Config} {p : Pool} {m : List ℕ} {guest G : List ℕ → ℕ} {root : ℕ} {w : Held → ℕ} {hs : List Held}
+module _ {c : Config} {p : Pool} {m : List ℕ} {guest : List ℕ → ℕ} {G : List ℕ → Lead} {root : ℕ} {w : Held → ℕ} {hs : List Held}
     (h : Holds (shadowArea c) false p m (leafAt w hs) guest) (a : HeldEntries c guest G root w hs) where
   drop-by : (x : Cut) (C : List ℕ → Bool) (ks : List Held) → Cuts c x C (h .tabs) guest m → ((q : List ℕ) → leafAt w ks q ≡ cond (under C q) 0 (leafAt w hs q))
       → Dropped c m (leafAt w ks) guest (scanOf c x p m)
   drop-by x C ks cuts e = dropped-leaves (leafAt w ks) (λ y. sym (e y)) (scan-drops h x C (leaves-are a) cuts)
 
   -- a store into word i of host frame t: the paths whose shadow part read that word go, and no other
-  pub drop-word : (t i : ℕ) → i < 512 → Dropped c m (leafAt w (dropWord t i hs)) guest (scanOf c (Word (page t) i) p m)
-  drop-word t i l = drop-by (Word (page t) i) (cutWord t i guest) (dropWord t i hs) cuts (λ q. word-drop w hs q t i guest (all-map _ _ hs (λ h s. s .reads) (a .all)))
+  pub drop-word : (t i : ℕ) → isSpan c t ≡ false → i < 512 → Dropped c m (leafAt w (dropWord t i hs)) guest (scanOf c (Word (page t) i) p m)
+  drop-word t i real l = drop-by (Word (page t) i) (cutWord t i guest) (dropWord t i hs) cuts (λ q. word-drop w hs q c t i real guest (all-map _ _ hs (λ h s. s .reads) (a .all)))
     where
       go : (b d : Bool) → cond b d false ≡ (d && b)
       go true true = refl
@@ -92,7 +101,7 @@ module _ {c : Config} {p : Pool} {m : List ℕ} {guest G : List ℕ → ℕ} {ro
       go false false = refl
 
       cuts : Cuts c (Word (page t) i) (cutWord t i guest) (h .tabs) guest m
-      cuts n b y f j e q k =
+      cuts n b y f j e q v k =
           let z : i % 512 ≡ i = omega arith in
           rw (z, q, eqb-sym j i, eqb-sym (guest y) t) (go (eqb i j) (eqb t (guest y)))
 
@@ -166,7 +175,7 @@ module _ {c : Config} {p : Pool} {m : List ℕ} {guest G : List ℕ → ℕ} {ro
           leaf (no v) = absurd (subst IsSome e (above-leaf h x (record { path = q; under = above; set = v })))
 
       cuts : (f : ℕ) → h .tabs x ≡ some f → Cuts c (Slot (page f) k) (cutPrefix z) (h .tabs) guest m
-      cuts f e n b y d j t q v =
+      cuts f e n b y d j t q r v =
           let o : k % 512 ≡ k = (let r = last-small i is s in omega arith) in
           rw (o, path) (by (ℕ-discrete j k) (ℕ-discrete d f))
         where
@@ -192,27 +201,29 @@ module _ {c : Config} {p : Pool} {m : List ℕ} {guest G : List ℕ → ℕ} {ro
 
 -- a guest frame mapped or unmapped: the paths whose shadow part used its mapping go; for the root's see `mapping-all`
 pub drop-mapping : {c : Config} {p : Pool} {m : List ℕ} {guest : List ℕ → ℕ} {root : ℕ} {w : Held → ℕ} {hs : List Held} → Holds (shadowArea c) false p m (leafAt w hs) guest
-    → HeldEntries c guest (namedIn m guest) root w hs → (g : ℕ) → g ≢ root → Dropped c m (leafAt w (dropMapping g hs)) guest (scanOf c (Names (guestFrame g)) p m)
+    → HeldEntries c guest (namedIn c m guest) root w hs → (g : ℕ) → g ≢ root → Dropped c m (leafAt w (dropMapping g hs)) guest (scanOf c (Names (guestFrame g)) p m)
 unfolding namedIn
 drop-mapping {c = c} {m = m} {guest = guest} {root = root} {w = w} {hs = hs} h a g n =
-    drop-by h a (Names (guestFrame g)) (cutNames g (namedIn m guest)) (dropMapping g hs) cuts
-    (λ q. names-drop w hs q g root (namedIn m guest) (all-map _ _ hs (λ h s. s .uses) (a .all)) (ne-eqb g root n))
+    drop-by h a (Names (guestFrame g)) (cutNames g (namedIn c m guest)) (dropMapping g hs) cuts
+    (λ q. names-drop w hs q g root (namedIn c m guest) (all-map _ _ hs (λ h s. s .uses) (a .all)) (ne-eqb g root n))
   where
-    cuts : Cuts c (Names (guestFrame g)) (cutNames g (namedIn m guest)) (h .tabs) guest m
-    cuts n b y f j e q l = elim (h .exact y (is-some e)) [ inl r ↦ leaf r | inr r ↦ absurd (r .1) ]
+    cuts : Cuts c (Names (guestFrame g)) (cutNames g (namedIn c m guest)) (h .tabs) guest m
+    cuts n b y f j e q v l = elim (h .exact y (is-some e)) [ inl r ↦ leaf r | inr r ↦ absurd (r .1) ]
       where
-        leaf : Leaf (leafAt w hs) y → cutOf n (Names (guestFrame g)) f j ≡ cutNames g (namedIn m guest) (j ∷ y)
-        leaf r = rw (q, b .else (guest y) (inr (guest-inside a y r)) j l) (eqb-sym (frameOf (wordIn m (guest y) j)) g)
+        leaf : Leaf (leafAt w hs) y → cutOf c n (Names (guestFrame g)) f j ≡ cutNames g (namedIn c m guest) (j ∷ y)
+        leaf r =
+            let k : levelOf n f ≡ c .levels - length y = omega (arith, v) in
+            rw (q, k) (ap (leadsTo g) (lead-on c m n (c .levels - length y) (guest y) j (λ s. b .else (guest y) (inr (guest-inside a y r s)) j l)))
 
 -- ---- a held path without an index: no word read, the root's mapping used, and it begins with the empty prefix only
 module _ (h : Held) (e : h .path ≡ []) where
-  pub empty-word : (F : List ℕ → ℕ) → h .reads ≡ readsFrom F [] (h .path) → (t i : ℕ) → readsWord t i h ≡ false
-  empty-word F r t i = ap (any (λ x. eqb t (x .0) && eqb i (x .1))) (r ∙ ap (readsFrom F []) e)
+  pub empty-word : (c : Config) (F : List ℕ → ℕ) → h .reads ≡ readsFrom c F [] (h .path) → (t i : ℕ) → readsWord t i h ≡ false
+  empty-word c F r t i = ap (any (λ x. eqb t (x .0) && eqb i (x .1))) (r ∙ ap (readsFrom c F []) e)
 
-  pub empty-frame : (F : List ℕ → ℕ) → h .reads ≡ readsFrom F [] (h .path) → (t : ℕ) → readsFrame t h ≡ false
-  empty-frame F r t = ap (any (λ x. eqb t (x .0))) (r ∙ ap (readsFrom F []) e)
+  pub empty-frame : (c : Config) (F : List ℕ → ℕ) → h .reads ≡ readsFrom c F [] (h .path) → (t : ℕ) → readsFrame t h ≡ false
+  empty-frame c F r t = ap (any (λ x. eqb t (x .0))) (r ∙ ap (readsFrom c F []) e)
 
-  pub empty-mapping : (G : List ℕ → ℕ) (root : ℕ) → h .uses ≡ root ∷ usesFrom G [] (h .path) → (g : ℕ) → usesMapping g h ≡ eqb g root
+  pub empty-mapping : (G : List ℕ → Lead) (root : ℕ) → h .uses ≡ root ∷ usesFrom G [] (h .path) → (g : ℕ) → usesMapping g h ≡ eqb g root
   empty-mapping G root u g = ap (any (eqb g)) (u ∙ ap (λ is. root ∷ usesFrom G [] is) e) ∙ or-false (eqb g root)
 
   pub empty-prefix : (i : ℕ) (is : List ℕ) → begins (i ∷ is) (h .path) ≡ false

@@ -1,27 +1,30 @@
 -- A fill is the book's: the new path stands in place of one that has its indexes, and the others with it exactly if the tables find room.
 -- Assumes nothing.
-use mathlib.Core.Path.{_≡_, refl, sym, ap, _∙_, subst}
+use mathlib.Core.Path.{_≡_, refl, sym, ap, ap₂, _∙_, subst}
 use mathlib.Core.Logic.{inl, inr}
-use Prim.Native.Nat.{ℕ, zero, suc, _+_, _<_, _≤_}
+use Prim.Native.Nat.{ℕ, suc, pred, _+_, _-_, _*_, _<_, _≤_}
 use native.Mathlib.Omega.{arith}
 use mathlib.Core.Bool.{Bool, true, false, cond}
-use mathlib.Core.List.{List, [], _∷_, map}
+use mathlib.Core.List.{List, [], _∷_}
 use mathlib.Core.Option.{some}
 use lib.Dec.{leb}
-use lib.ListN.{length, getD, take, replicate}
+use lib.ListN.{length, getD, replicate}
 use borrow.Author.Tests.{leb-true, leb-false}
+use Rattle.spec.specs.declared.Fault.{Fault}
 use Rattle.spec.specs.Config.{Config}
-use Rattle.spec.specs.Entry.{present, frameOf, entryLimit}
+use Rattle.spec.specs.Entry.{present, entryLimit}
 use Rattle.spec.specs.Book.{Held, find, paths, shadowTables, fill}
 use Rattle.spec.specs.Count.{others}
 use Rattle.spec.specs.Prefix.{All, same}
 use Rattle.spec_laws.proofs.Lists.{all-map}
 use Rattle.spec_laws.proofs.Indexes.{same-sym}
 use Rattle.spec_laws.proofs.Refill.{others-find, fill-others}
-use Rattle.spec.specs.Walk.{trace, granted}
-use Rattle.spec.specs.Plain.{Place, walk}
-use Rattle.spec_laws.proofs.Trail.{frameIn, frameAt, readsFrom, walk-trail}
+use Rattle.spec.specs.Walk.{Walk, World, trace, granted}
+use Rattle.spec.specs.Plain.{Place, Lead, to, into, span, isSpan, entryLead, spanLead, hosted, turn, levels, walk}
+use Rattle.spec_laws.proofs.Granted.{through, hosted-granted, leadAt, turn-granted}
+use Rattle.spec_laws.proofs.Trail.{frameIn, placeBy, frameAt, reaches-place}
 use Rattle.pool.specs.declared.Pool.{Pool}
+use Rattle.pool.specs.Header.{guestRoom}
 use Rattle.pool.specs.Pool.{noneOf}
 use Rattle.area.specs.Tree.{insertOf}
 use Rattle.layout.specs.declared.HostWalk.{HostWalk}
@@ -29,81 +32,126 @@ use Rattle.layout.specs.declared.HostWalk.the-variants.{Found, Absent, Damaged}
 use Rattle.host.specs.Walk.{hostWalkOf}
 use Rattle.layout.proofs.Laws.{HostFits}
 use Rattle.host.proofs.Laws.{host-fits}
-use Rattle.walk.specs.Memory.{placeOf, memoryWorld, noted, framesOf, trailFrom, trailOf}
+use Rattle.walk.specs.Memory.{placeOf, memoryWorld, noted, passedBy, passed, passedRoot, rootTrail}
 use Rattle.area_laws.specs.Run as run
 use Rattle.area_laws.proofs.Change.{upd}
-use Rattle.area_laws.proofs.Paths.{onto, Pre, Ext, pre-ext, Guests}
+use Rattle.area_laws.proofs.Paths.{onto, Small, Pre, Ext, pre-ext, Guests}
 use Rattle.area_laws.proofs.Whole.{Holds, Fits, Next, next-leaves, first-insert}
 use Rattle.area_laws.proofs.Count.{Lists, insert-next, insert-not}
 use Rattle.area_laws.proofs.Claim.{Solid, map-lists, leaves-put}
 use Rattle.shadow.specs.Held.{shadowArea}
 use Rattle.shadow.specs.Fill.{fillOf}
+use Rattle.walk.proofs.Laws.{NearLead, span-near, entry-near}
 use Rattle.walk.proofs.Trails.{noted-at}
 use Rattle.drops_laws.proofs.Held.{entries, leafAt, HeldEntries}
 use Rattle.drops_laws.proofs.Find.{entryFound, get-find}
 
--- ---- the guest tables on the way, as the walk over memory goes through them
+-- ---- the guest tables and spans on the way, as the walk over memory goes through them
+
+-- by the places that F gives
+abbrev placesOn : (List ℕ → ℕ) → List ℕ → List ℕ → List ℕ
+placesOn F q [] = []
+placesOn F q (i ∷ is) = F q ∷ placesOn F (i ∷ q) is
+
+places-long : (F : List ℕ → ℕ) (q is : List ℕ) → length (placesOn F q is) ≡ length is
+places-long F q [] = refl
+places-long F q (i ∷ is) = ap suc (places-long F (i ∷ q) is)
+
+-- a list that has these places from d on; each fits a header
+guests-by : (F : List ℕ → ℕ) (gs : List ℕ) → ((y : List ℕ) → Small y → length y ≤ 8 → F y < guestRoom) → (is : List ℕ) (d : ℕ) (x : List ℕ)
+    → Small x → Small is → length x + length is ≤ 8 → ((j : ℕ) → j < length is → getD gs (d + j) 0 ≡ getD (placesOn F x is) j 0) → Guests F gs d x is
+guests-by F gs s [] d x sx si l h = tt
+guests-by F gs s (i ∷ is) d x sx si l h = (
+  (let z : d + 0 ≡ d = omega arith in ap (λ k. getD gs k 0) (sym z) ∙ h 0 (omega arith)),
+  s x sx (omega (arith, l)),
+  guests-by F gs s is (d + 1) (i ∷ x) (si .0, sx) (si .1) (omega (arith, l))
+      (λ j k. let z : d + 1 + j ≡ d + suc j = omega arith in ap (λ k. getD gs k 0) z ∙ h (suc j) (omega (arith, k))),
+)
+
 found-small : (c : Config) (r : HostWalk) → c .frames ≤ 65536 → HostFits c r → frameIn (placeOf r) < 65536
 found-small c (Found p w) l h = omega (arith, h .1)
 found-small c (Absent n) l h = omega arith
 found-small c Damaged l h = omega arith
 
-guests-by : (F : List ℕ → ℕ) → ((y : List ℕ) → F y < 65536) → (gs is : List ℕ) (d : ℕ) (x : List ℕ) → ((j : ℕ) → j < length is → getD gs (d + j) 0 ≡ F (onto x (take j is)))
-    → Guests F gs d x is
-unfolding onto
-guests-by F s gs [] d x h = tt
-guests-by F s gs (i ∷ is) d x h = (
-  (let z : d + 0 ≡ d = omega arith in ap (λ k. getD gs k 0) (sym z) ∙ h 0 (omega arith)),
-  s x,
-  guests-by F s gs is (d + 1) (i ∷ x) (λ j l. let z : d + 1 + j ≡ d + suc j = omega arith in ap (λ k. getD gs k 0) z ∙ h (suc j) (omega arith)),
-)
-
-frames-at : (T : List ℕ → ℕ) (q is : List ℕ) (j : ℕ) → j < length is → getD (map (λ r. r .0) (readsFrom T q is)) j 0 ≡ T (onto q (take j is))
-unfolding onto
-frames-at T q [] j l = absurd (omega arith)
-frames-at T q (i ∷ is) zero l = refl
-frames-at T q (i ∷ is) (suc j) l = frames-at T (i ∷ q) is j (omega arith)
-
-frames-long : (T : List ℕ → ℕ) (q is : List ℕ) → length (map (λ r. r .0) (readsFrom T q is)) ≡ length is
-frames-long T q [] = refl
-frames-long T q (i ∷ is) = ap suc (frames-long T (i ∷ q) is)
-
 module _ (c : Config) (ht : ℕ) (m : List ℕ) where
+  abbrev over : World
+  over = memoryWorld c ht m
+
   mapped-small : c .frames ≤ 65536 → (g : ℕ) → frameIn (memoryWorld c ht m .hostAt g) < 65536
   unfolding memoryWorld
   mapped-small l g = found-small c (hostWalkOf c ht m g) l (host-fits c ht m g)
 
-  pub frame-small : c .frames ≤ 65536 → (root : ℕ) (x : List ℕ) → frameAt (memoryWorld c ht m) root x < 65536
-  unfolding frameAt
-  frame-small l root [] = mapped-small l root
-  frame-small l root (i ∷ x) = mapped-small l (frameOf (memoryWorld c ht m .wordAt (frameAt (memoryWorld c ht m) root x) i))
+  lead-near : (n t i : ℕ) → n ≤ 5 → i < 512 → NearLead c t (leadAt over c n t i)
+  lead-near n t i l b = go (isSpan c t) refl
+    where
+      go : (x : Bool) → isSpan c t ≡ x → NearLead c t (cond x (spanLead c n t i) (entryLead n (over .wordAt t i)))
+      go true e = span-near c n t i l b e
+      go false e = entry-near c n t (over .wordAt t i)
 
-  -- a walk that arrives hands out at each depth the host frame of the guest table, as `frameAt` has it
-  pub trail-is : c .frames ≤ 65536 → (st : Bool) (root : ℕ) (is : List ℕ) (r : Place) → length is ≤ 8 → (trace (memoryWorld c ht m) (walk c st root is)) .result ≡ granted r
-      → Guests (frameAt (memoryWorld c ht m) root) (trailOf c ht m 0 (walk c st root is) .tables) 0 [] is
-  unfolding trailFrom framesOf
-  trail-is few st root is r b g = guests-by F (frame-small few root) _ is 0 [] at
+  place-most : c .frames ≤ 65536 → (t k : ℕ) → t < 2199023255552 + 35184372088832 * k → (x : Lead) → NearLead c t x → placeBy over c x < 2199023255552 + 35184372088832 * suc k
+  unfolding span
+  place-most few t k b (to g) near = omega (arith, mapped-small few g)
+  place-most few t k b (into g) (inl near) = omega (arith, few, near)
+  place-most few t k b (into g) (inr near) = omega (arith, b, near)
+
+  -- a place is a host frame, or a span some levels below a large page's entry
+  frame-most : c .frames ≤ 65536 → c .levels ≤ 5 → (root : ℕ) (y : List ℕ) → Small y → frameAt over c root y < 2199023255552 + 35184372088832 * length y
+  unfolding frameAt
+  frame-most few deep root [] s = omega (arith, mapped-small few root)
+  frame-most few deep root (i ∷ y) s =
+      let n = c .levels - length y in
+      let t = frameAt over c root y in
+      place-most few t (length y) (frame-most few deep root y (s .1)) (leadAt over c n t i) (lead-near n t i (omega (arith, deep)) (s .0))
+
+  passed-is : (root : ℕ) (st : Bool) (n t : ℕ) (v : Bool) (is q : List ℕ) (r : Place) → t ≡ frameAt over c root q → n ≡ c .levels - length q
+      → (trace over (levels c st n t v is)) .result ≡ granted r → passed c ht m st n t v is ≡ placesOn (frameAt over c root) q is
+  unfolding passed levels frameAt
+  passed-is root st n t v [] q r e l h = refl
+  passed-is root st n t v (i ∷ is) q r e l h =
+      let f : Place → Walk Fault Place = λ p. levels c st (pred n) (p .0) (p .1) is in
+      let a = through over (turn c st n t i v) f r h in
+      let z = turn-granted over c st n t i v (a .mid) (a .first) in
+      let at : a .mid .0 ≡ frameAt over c root (i ∷ q) =
+      reaches-place over c (leadAt over c n t i) (a .mid) (z .reaches) ∙ ap (placeBy over c) (ap₂ (λ x y. leadAt over c x y i) l e) in
+      ap (λ x. t ∷ passedBy x (λ p. passed c ht m st (pred n) (p .0) (p .1) is)) (a .first)
+      ∙ ap₂ (λ x xs. x ∷ xs) e (passed-is root st (pred n) (a .mid .0) (a .mid .1) is (i ∷ q) r at (omega (arith, l)) (a .next))
+
+  root-passed : (root : ℕ) (st : Bool) (is : List ℕ) (r : Place) → (trace over (walk c st root is)) .result ≡ granted r
+      → passedRoot c ht m st root is ≡ placesOn (frameAt over c root) [] is
+  unfolding passedRoot walk frameAt
+  root-passed root st is r h =
+      let a = through over (hosted root) (λ p. levels c st (c .levels) (p .0) true is) r h in
+      let at = hosted-granted over root (a .mid) (a .first) .0 in
+      ap (λ x. passedBy x (λ p. passed c ht m st (c .levels) (p .0) true is)) (a .first)
+      ∙ passed-is root st (c .levels) (a .mid .0) true is [] r (sym (ap frameIn at)) (omega arith) (a .next)
+
+  -- a walk that arrives hands out at each depth the host frame of the guest table, or the span, as `frameAt` has it
+  pub trail-is : c .frames ≤ 65536 → c .levels ≤ 5 → (st : Bool) (root : ℕ) (is : List ℕ) (r : Place) → Small is → length is ≤ 8
+      → (trace (memoryWorld c ht m) (walk c st root is)) .result ≡ granted r
+      → Guests (frameAt (memoryWorld c ht m) c root) (rootTrail c ht m st root is .tables) 0 [] is
+  unfolding rootTrail
+  trail-is few deep st root is r s b g = guests-by F _ fits is 0 [] tt s (omega (arith, b)) at
     where
       F : List ℕ → ℕ
-      F = frameAt (memoryWorld c ht m) root
+      F = frameAt over c root
 
-      fs : List ℕ
-      fs = map (λ r. r .0) ((trace (memoryWorld c ht m) (walk c st root is)) .reads)
+      fits : (y : List ℕ) → Small y → length y ≤ 8 → F y < guestRoom
+      fits y sy l = omega (arith, frame-most few deep root y sy, l)
 
-      named : fs ≡ map (λ r. r .0) (readsFrom F [] is)
-      named = ap (map (λ r. r .0)) (walk-trail (memoryWorld c ht m) c root st is r g .0)
+      named : passedRoot c ht m st root is ≡ placesOn F [] is
+      named = root-passed root st is r g
 
-      long : length fs ≡ length is
-      long = ap length named ∙ frames-long F [] is
+      long : length (passedRoot c ht m st root is) ≡ length is
+      long = ap length named ∙ places-long F [] is
 
-      at : (j : ℕ) → j < length is → getD (noted (replicate 8 0) 0 fs) (0 + j) 0 ≡ F (onto [] (take j is))
-      at j l = noted-at fs (replicate 8 0) 0 j (omega (arith, long)) (omega (arith, long)) ∙ ap (λ xs. getD xs j 0) named ∙ frames-at F [] is j l
+      at : (j : ℕ) → j < length is → getD (noted (replicate 8 0) 0 (passedRoot c ht m st root is)) (0 + j) 0 ≡ getD (placesOn F [] is) j 0
+      at j l = noted-at (passedRoot c ht m st root is) (replicate 8 0) 0 j (omega (arith, long, b)) (omega (arith, long, l)) ∙ ap (λ xs. getD xs j 0) named
 
 -- only the tables on the way matter
 pub guests-agree : (F G : List ℕ → ℕ) (gs : List ℕ) (d : ℕ) (x is : List ℕ) → ((y : List ℕ) → Pre y x is → G y ≡ F y) → Guests F gs d x is → Guests G gs d x is
 guests-agree F G gs d x [] e h = tt
 guests-agree F G gs d x (i ∷ is) e h =
-    (h .0 ∙ sym (e x (inl refl)), subst (λ f. f < 65536) (sym (e x (inl refl))) (h .1), guests-agree F G gs (d + 1) (i ∷ x) is (λ y k. e y (inr k)) (h .2))
+    (h .0 ∙ sym (e x (inl refl)), subst (λ f. f < guestRoom) (sym (e x (inl refl))) (h .1), guests-agree F G gs (d + 1) (i ∷ x) is (λ y k. e y (inr k)) (h .2))
 
 -- ---- the paths of the list
 pub entries-paths : (w : Held → ℕ) (hs : List Held) → run.paths (entries w hs) ≡ paths hs
@@ -125,7 +173,7 @@ leaf-only : (w : Held → ℕ) (k : Held) (y : List ℕ) → upd (λ x. 0) (onto
 unfolding entries run.get
 leaf-only w k y = leaves-put [] (k .path) (w k) y
 
-module _ {c : Config} {p : Pool} {m : List ℕ} {guest G : List ℕ → ℕ} {root : ℕ} {w : Held → ℕ} {hs : List Held} (h : Holds (shadowArea c) false p m (leafAt w hs) guest)
+module _ {c : Config} {p : Pool} {m : List ℕ} {guest : List ℕ → ℕ} {G : List ℕ → Lead} {root : ℕ} {w : Held → ℕ} {hs : List Held} (h : Holds (shadowArea c) false p m (leafAt w hs) guest)
     (a : HeldEntries c guest G root w hs) (k : Held) (f : Fits (shadowArea c) (leafAt w hs) (k .path)) (gs : List ℕ) (gg : Guests guest gs 0 [] (k .path))
     (thin : w k < entryLimit) (present-new : present (w k) ≡ true) (room : c .levels ≤ c .shadows) where
   listed : Lists (upd (leafAt w hs) (onto [] (k .path)) (w k)) (paths (k ∷ hs))
@@ -176,7 +224,7 @@ module _ (c : Config) (w : Held → ℕ) (k : Held) (hs : List Held) (y : List �
       go false = refl
 
 -- the new tables' headers name the guest tables of the walk over memory
-pub fill-is : {c : Config} {p : Pool} {m : List ℕ} {guest G : List ℕ → ℕ} {root : ℕ} {w : Held → ℕ} {hs : List Held} → Holds (shadowArea c) false p m (leafAt w hs) guest
+pub fill-is : {c : Config} {p : Pool} {m : List ℕ} {guest : List ℕ → ℕ} {G : List ℕ → Lead} {root : ℕ} {w : Held → ℕ} {hs : List Held} → Holds (shadowArea c) false p m (leafAt w hs) guest
     → HeldEntries c guest G root w hs → (k : Held) → Fits (shadowArea c) (leafAt w hs) (k .path) → (F : List ℕ → ℕ) (gs : List ℕ) → Guests F gs 0 [] (k .path)
     → ((y : List ℕ) → Ext y (onto [] (k .path)) → guest y ≡ F y) → w k < entryLimit → present (w k) ≡ true → c .levels ≤ c .shadows
     → Next (shadowArea c) false p m (leafAt w (fill c k (others c (k .path) hs))) guest (fillOf c gs p m (k .path) (w k))

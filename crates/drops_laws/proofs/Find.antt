@@ -13,6 +13,7 @@ use lib.ListN.{length}
 use Rattle.spec.specs.Config.{Config}
 use Rattle.spec.specs.Entry.{writable, frameOf}
 use Rattle.spec.specs.Prefix.{begins, same}
+use Rattle.spec.specs.Plain.{Lead}
 use Rattle.spec.specs.Book.{Held, find}
 use Rattle.spec.specs.Prefix.{All}
 use Rattle.spec_laws.proofs.Indexes.{same-sym}
@@ -102,7 +103,7 @@ find-all P is k (h ∷ hs) a e = go (same is (h .path)) e (find-all P is k hs (a
     go false q ih = ih q
 
 -- the tables answer as the book does: found if held, else absent, never damaged
-pub held-is : {c : Config} {p : Pool} {m : List ℕ} {guest G : List ℕ → ℕ} {root : ℕ} {w : Held → ℕ} {hs : List Held} (h : Holds (shadowArea c) false p m (leafAt w hs) guest)
+pub held-is : {c : Config} {p : Pool} {m : List ℕ} {guest : List ℕ → ℕ} {G : List ℕ → Lead} {root : ℕ} {w : Held → ℕ} {hs : List Held} (h : Holds (shadowArea c) false p m (leafAt w hs) guest)
     → HeldEntries c guest G root w hs → (is : List ℕ) → Fits (shadowArea c) (leafAt w hs) is → heldOf c m (p .top) is ≡ answerFound w (find is hs) (steps (h .tabs) [] is)
 held-is {c = c} {p = p} {m = m} {w = w} {hs = hs} h a is f = go (find is hs) refl
   where

@@ -9,20 +9,25 @@ use mathlib.Core.Bool.{Bool, true, false, not, _&&_, _||_, cond, or-false}
 use mathlib.Core.List.{List, [], _∷_}
 use lib.Dec.{T, eqb, ltb}
 use lib.ListN.{length}
+use borrow.Author.Tests.{ne-eqb}
 use Rattle.spec.specs.Config.{Config, guestBase}
 use Rattle.spec.specs.Entry.{present, switch, frameOf}
+use Rattle.spec.specs.Plain.{Lead, to, into, isSpan}
 use Rattle.spec.specs.Prefix.{begins, same, any, keep, propers}
 use Rattle.spec.specs.Refusal.{inGuestArea}
 use Rattle.spec.specs.Book.{Held, readsWord, usesMapping, dropWord, dropMapping, dropPrefix}
 use Rattle.spec.specs.Prefix.{All}
 use Rattle.spec_laws.proofs.Lists.{all-map, all-any, begins-refl, same-is, same-refl, is-true, is-false, or-cases, or-left, or-right}
 use Rattle.spec_laws.proofs.Distinct.{In}
-use Rattle.spec_laws.proofs.Trail.{readsFrom, usesFrom}
+use Rattle.spec_laws.proofs.Added.{any-append}
+use Rattle.spec_laws.proofs.Granted.{levelReads, leadUses}
+use Rattle.spec_laws.proofs.Trail.{readsFrom, usesFrom, Spans}
 use Rattle.area_laws.specs.Run.{Map, get}
 use Rattle.area_laws.proofs.Change.{differ}
 use Rattle.area_laws.proofs.Paths.{onto, onto-long, turn-turn, turn-none, Ext}
 use Rattle.area_laws.proofs.Count.{propers-ext, ext-propers, propers-begins, begins-propers}
 use Rattle.area_laws.proofs.Claim.{leaves}
+use Rattle.drops.specs.Cut.{leadsTo}
 use Rattle.drops_laws.proofs.Scan.{under, Leaves}
 
 -- two tests that say the same
@@ -44,19 +49,20 @@ pub leaf-none : (w : Held → ℕ) (q : List ℕ) → leafAt w [] q ≡ 0
 unfolding entries get
 leaf-none w q = refl
 
--- a held path and its entry e, as the shadow tables have it: T gives the host frames of the guest tables, G the guest frames
--- that guest entries name, both by prefix
-pub record HeldEntry (c : Config) (T G : List ℕ → ℕ) (root e : ℕ) (h : Held) : Type 0 where
+-- a held path and its entry e, as the shadow tables have it: T gives the host frames of the guest tables and the spans, G where the last
+-- index leads, both by prefix
+pub record HeldEntry (c : Config) (T : List ℕ → ℕ) (G : List ℕ → Lead) (root e : ℕ) (h : Held) : Type 0 where
   pub set : present e ≡ true
   pub area : inGuestArea c (frameOf e) ≡ true
   pub ends : switch e ≡ ltb (length (h .path)) (c .levels)
-  pub reads : h .reads ≡ readsFrom T [] (h .path)
+  pub reads : h .reads ≡ readsFrom c T [] (h .path)
   pub uses : h .uses ≡ root ∷ usesFrom G [] (h .path)
   -- the words read are in the guest area
   pub inside : All (λ r. guestBase c ≤ r .0) (h .reads)
 
 -- all of them
-pub record HeldEntries (c : Config) (T G : List ℕ → ℕ) (root : ℕ) (w : Held → ℕ) (hs : List Held) : Type 0 where
+pub record HeldEntries (c : Config) (T : List ℕ → ℕ) (G : List ℕ → Lead) (root : ℕ) (w : Held → ℕ) (hs : List Held) : Type 0 where
+  pub spans : Spans c T
   pub all : All (λ h. HeldEntry c T G root (w h) h) hs
 
 -- where a leaf stands a path is held
@@ -114,7 +120,7 @@ any-leaf P w D s (h ∷ hs) a n = elim (or-cases (D h) (any D hs) n) [
         go true = s h (a .0)
         go false = r .leaf
 
-pub leaves-are : {c : Config} {F G : List ℕ → ℕ} {root : ℕ} {w : Held → ℕ} {hs : List Held} → HeldEntries c F G root w hs → Leaves c (leafAt w hs)
+pub leaves-are : {c : Config} {F : List ℕ → ℕ} {G : List ℕ → Lead} {root : ℕ} {w : Held → ℕ} {hs : List Held} → HeldEntries c F G root w hs → Leaves c (leafAt w hs)
 leaves-are {c = c} {w = w} {hs = hs} a = record {
   area = λ y n. let r = leaf-held _ w hs y (a .all) n in rw (r .entry) (r .fact .area);
   ends = λ y n.
@@ -157,8 +163,8 @@ abbrev pub cutWord : ℕ → ℕ → (List ℕ → ℕ) → List ℕ → Bool
 cutWord t i F [] = false
 cutWord t i F (j ∷ q) = eqb t (F q) && eqb i j
 
-abbrev pub cutNames : ℕ → (List ℕ → ℕ) → List ℕ → Bool
-cutNames g G q = eqb g (G q)
+abbrev pub cutNames : ℕ → (List ℕ → Lead) → List ℕ → Bool
+cutNames g G q = leadsTo g (G q)
 
 abbrev pub cutPrefix : List ℕ → List ℕ → Bool
 cutPrefix z q = same q z
@@ -169,24 +175,48 @@ swap true false u = refl
 swap false true u = refl
 swap false false u = refl
 
-word-from : (t i : ℕ) (F : List ℕ → ℕ) (is q : List ℕ)
-    → (any (λ r. eqb t (r .0) && eqb i (r .1)) (readsFrom F q is) || under (cutWord t i F) q) ≡ under (cutWord t i F) (onto q is)
-unfolding onto
-word-from t i F [] q = refl
-word-from t i F (j ∷ is) q =
-    swap (eqb t (F q) && eqb i j) (any (λ r. eqb t (r .0) && eqb i (r .1)) (readsFrom F (j ∷ q) is)) (under (cutWord t i F) q) ∙ word-from t i F is (j ∷ q)
+-- a test of the words that one level reads, if it fails on a span; and of the mappings that it uses
+pub level-any : (c : Config) (f : ℕ × ℕ → Bool) (t i : ℕ) → (isSpan c t ≡ true → f (t, i) ≡ false) → any f (levelReads c t i) ≡ f (t, i)
+level-any c f t i s = go (isSpan c t) refl
+  where
+    go : (b : Bool) → isSpan c t ≡ b → any f (cond b [] ((t, i) ∷ [])) ≡ f (t, i)
+    go true e = sym (s e)
+    go false e = or-false (f (t, i))
 
-names-from : (g : ℕ) (G : List ℕ → ℕ) (is q : List ℕ) → (any (eqb g) (usesFrom G q is) || under (cutNames g G) q) ≡ under (cutNames g G) (onto q is)
+lead-any : (g : ℕ) (x : Lead) → any (eqb g) (leadUses x) ≡ leadsTo g x
+lead-any g (to h) = or-false (eqb g h)
+lead-any g (into h) = refl
+
+-- a host frame is no span
+pub no-span : (c : Config) (t u : ℕ) → isSpan c t ≡ false → isSpan c u ≡ true → eqb t u ≡ false
+no-span c t u a b = ne-eqb t u (λ e. differ (sym b ∙ ap (isSpan c) (sym e) ∙ a))
+
+-- t is a host frame
+module _ (c : Config) (t i : ℕ) (real : isSpan c t ≡ false) (F : List ℕ → ℕ) where
+  abbrev is-word : ℕ × ℕ → Bool
+  is-word r = eqb t (r .0) && eqb i (r .1)
+
+  word-level : (u j : ℕ) → any is-word (levelReads c u j) ≡ (eqb t u && eqb i j)
+  word-level u j = level-any c is-word u j (λ e. ap (λ b. b && eqb i j) (no-span c t u real e))
+
+  word-from : (is q : List ℕ) → (any is-word (readsFrom c F q is) || under (cutWord t i F) q) ≡ under (cutWord t i F) (onto q is)
+  unfolding onto
+  word-from [] q = refl
+  word-from (j ∷ is) q =
+      ap (λ b. b || under (cutWord t i F) q) (any-append is-word (levelReads c (F q) j) (readsFrom c F (j ∷ q) is) ∙ ap (λ b. b || any is-word (readsFrom c F (j ∷ q) is)) (word-level (F q) j))
+      ∙ swap (eqb t (F q) && eqb i j) (any is-word (readsFrom c F (j ∷ q) is)) (under (cutWord t i F) q) ∙ word-from is (j ∷ q)
+
+  pub word-cut : (h : Held) → h .reads ≡ readsFrom c F [] (h .path) → readsWord t i h ≡ under (cutWord t i F) (onto [] (h .path))
+  word-cut h e = ap (any is-word) e ∙ sym (or-false (any is-word (readsFrom c F [] (h .path)))) ∙ word-from (h .path) []
+
+names-from : (g : ℕ) (G : List ℕ → Lead) (is q : List ℕ) → (any (eqb g) (usesFrom G q is) || under (cutNames g G) q) ≡ under (cutNames g G) (onto q is)
 unfolding onto
 names-from g G [] q = refl
-names-from g G (j ∷ is) q = swap (eqb g (G (j ∷ q))) (any (eqb g) (usesFrom G (j ∷ q) is)) (under (cutNames g G) q) ∙ names-from g G is (j ∷ q)
+names-from g G (j ∷ is) q =
+    ap (λ b. b || under (cutNames g G) q) (any-append (eqb g) (leadUses (G (j ∷ q))) (usesFrom G (j ∷ q) is) ∙ ap (λ b. b || any (eqb g) (usesFrom G (j ∷ q) is)) (lead-any g (G (j ∷ q))))
+    ∙ swap (leadsTo g (G (j ∷ q))) (any (eqb g) (usesFrom G (j ∷ q) is)) (under (cutNames g G) q) ∙ names-from g G is (j ∷ q)
 
-pub word-cut : (t i : ℕ) (F : List ℕ → ℕ) (h : Held) → h .reads ≡ readsFrom F [] (h .path) → readsWord t i h ≡ under (cutWord t i F) (onto [] (h .path))
-word-cut t i F h e =
-    ap (any (λ r. eqb t (r .0) && eqb i (r .1))) e
-    ∙ sym (or-false (any (λ r. eqb t (r .0) && eqb i (r .1)) (readsFrom F [] (h .path)))) ∙ word-from t i F (h .path) []
-
-pub names-cut : (g root : ℕ) (G : List ℕ → ℕ) (h : Held) → h .uses ≡ root ∷ usesFrom G [] (h .path) → eqb g root ≡ false
+pub names-cut : (g root : ℕ) (G : List ℕ → Lead) (h : Held) → h .uses ≡ root ∷ usesFrom G [] (h .path) → eqb g root ≡ false
     → usesMapping g h ≡ under (cutNames g G) (onto [] (h .path))
 names-cut g root G h e n =
     ap (any (eqb g)) e ∙ ap (λ b. b || any (eqb g) (usesFrom G [] (h .path))) n
@@ -231,10 +261,11 @@ prefix-cut is h n = both-tests _ _ there free-words
 
 -- ---- the three drops of the book
 module _ (w : Held → ℕ) (hs : List Held) (q : List ℕ) where
-  pub word-drop : (t i : ℕ) (F : List ℕ → ℕ) → All (λ h. h .reads ≡ readsFrom F [] (h .path)) hs → leafAt w (dropWord t i hs) q ≡ cond (under (cutWord t i F) q) 0 (leafAt w hs q)
-  word-drop t i F a = keep-leaf w (cutWord t i F) (readsWord t i) hs q (all-map _ _ hs (λ h e. word-cut t i F h e) a)
+  pub word-drop : (c : Config) (t i : ℕ) → isSpan c t ≡ false → (F : List ℕ → ℕ) → All (λ h. h .reads ≡ readsFrom c F [] (h .path)) hs
+      → leafAt w (dropWord t i hs) q ≡ cond (under (cutWord t i F) q) 0 (leafAt w hs q)
+  word-drop c t i real F a = keep-leaf w (cutWord t i F) (readsWord t i) hs q (all-map _ _ hs (λ h e. word-cut c t i real F h e) a)
 
-  pub names-drop : (g root : ℕ) (G : List ℕ → ℕ) → All (λ h. h .uses ≡ root ∷ usesFrom G [] (h .path)) hs → eqb g root ≡ false
+  pub names-drop : (g root : ℕ) (G : List ℕ → Lead) → All (λ h. h .uses ≡ root ∷ usesFrom G [] (h .path)) hs → eqb g root ≡ false
       → leafAt w (dropMapping g hs) q ≡ cond (under (cutNames g G) q) 0 (leafAt w hs q)
   names-drop g root G a n = keep-leaf w (cutNames g G) (usesMapping g) hs q (all-map _ _ hs (λ h e. names-cut g root G h e n) a)
 

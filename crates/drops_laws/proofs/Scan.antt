@@ -114,23 +114,24 @@ record Range (m : List ℕ) (x : Cut) (f j : ℕ) : Type 0 where
   pub from : lowOf x ≤ j
   pub to : j < endOf x
 
-cut-range : (m : List ℕ) (x : Cut) (f j : ℕ) → j < 512 → cutOf m x f j ≡ true → Range m x f j
-cut-range m (Names g) f j l e = record { touched = refl; from = omega arith; to = l }
-cut-range m (Word t i) f j l e = go (eqb j (i % 512)) refl e
+cut-range : (c : Config) (m : List ℕ) (x : Cut) (f j : ℕ) → j < 512 → cutOf c m x f j ≡ true → Range m x f j
+cut-range c m (Names g) f j l e = record { touched = refl; from = omega arith; to = l }
+cut-range c m (Word t i) f j l e = go (eqb j (i % 512)) refl e
   where
     go : (b : Bool) → eqb j (i % 512) ≡ b → cond b (eqb (guestOf m f) (t .0)) false ≡ true → Range m (Word t i) f j
     go true q h = let s = eqb-true j (i % 512) q in record { touched = h; from = omega arith; to = omega arith }
     go false q h = differ (sym h)
-cut-range m (Slot t i) f j l e = go (eqb j (i % 512)) refl e
+cut-range c m (Slot t i) f j l e = go (eqb j (i % 512)) refl e
   where
     go : (b : Bool) → eqb j (i % 512) ≡ b → cond b (eqb f (t .0)) false ≡ true → Range m (Slot t i) f j
     go true q h = let s = eqb-true j (i % 512) q in record { touched = h; from = omega arith; to = omega arith }
     go false q h = differ (sym h)
 
--- the cut x is C at each entry of the tables ts, also in a memory that differs in the area of shadow tables
+-- the cut x is C at each entry of the tables ts, also in a memory that differs in the area of shadow tables; there the headers are right
 abbrev pub Cuts : Config → Cut → (List ℕ → Bool) → (List ℕ → Option ℕ) → (List ℕ → ℕ) → List ℕ → Type 0
 Cuts c x C ts guest m =
-    (n : List ℕ) → Beside (shadowArea c) m n → (y : List ℕ) (f i : ℕ) → ts y ≡ some f → guestOf n f ≡ guest y → i < 512 → cutOf n x f i ≡ C (i ∷ y)
+    (n : List ℕ) → Beside (shadowArea c) m n → (y : List ℕ) (f i : ℕ) → ts y ≡ some f → guestOf n f ≡ guest y → levelOf n f + length y ≡ c .levels → i < 512
+    → cutOf c n x f i ≡ C (i ∷ y)
 
 -- `first`, `before`, `start` and `fresh`: the tables, the leaves, the memory and the frames handed out as the scan begins
 module _ (c : Config) (x : Cut) (C : List ℕ → Bool) (guest : List ℕ → ℕ) (first : List ℕ → Option ℕ) (before : List ℕ → ℕ) (start : List ℕ) (fresh : ℕ)
@@ -147,8 +148,8 @@ module _ (c : Config) (x : Cut) (C : List ℕ → Bool) (guest : List ℕ → �
     pub each : (f : ℕ) → c .hosts ≤ f → f < c .hosts + fresh → (levelOf m f ≡ 0) ⊎ ((y : List ℕ) × (ts y ≡ some f))
 
   module _ {p : Pool} {ts : List ℕ → Option ℕ} {lv : List ℕ → ℕ} {fl : List ℕ} {ps : List (List ℕ)} {m : List ℕ} (s : Now p ts lv fl ps m) where
-    cut-now : (y : List ℕ) (f i : ℕ) → ts y ≡ some f → i < 512 → cutOf m x f i ≡ C (i ∷ y)
-    cut-now y f i t l = cuts m (s .beside) y f i (s .fewer y f t) (s .tables .guests y f t) l
+    cut-now : (y : List ℕ) (f i : ℕ) → ts y ≡ some f → i < 512 → cutOf c m x f i ≡ C (i ∷ y)
+    cut-now y f i t l = cuts m (s .beside) y f i (s .fewer y f t) (s .tables .guests y f t) (s .tables .level y f t .0) l
 
     leaves-now : Leaves c lv
     leaves-now = record {
@@ -165,7 +166,7 @@ module _ (c : Config) (x : Cut) (C : List ℕ → Bool) (guest : List ℕ → �
     up-is [] f t = ap (λ o. To (frameOr o)) (sym t)
     up-is (i ∷ y) f t =
         let k = s .tables .link i y f t in
-        let e : cutOf m x (parentOf m f) (slotOf m f) ≡ C (i ∷ y) = ap (cutOf m x (parentOf m f)) (k .1) ∙ cut-now y (parentOf m f) i (k .0) (above (s .tables) i y f t .index) in
+        let e : cutOf c m x (parentOf m f) (slotOf m f) ≡ C (i ∷ y) = ap (cutOf c m x (parentOf m f)) (k .1) ∙ cut-now y (parentOf m f) i (k .0) (above (s .tables) i y f t .index) in
         rw (inside-is (c .hosts) (c .shadows) (parentOf m f) (s .tables .inside y (parentOf m f) (k .0) .0) (frame-small (s .tables) y (parentOf m f) (k .0) .0), e)
         (go (C (i ∷ y)) (up-is y (parentOf m f) (k .0)))
       where
@@ -240,7 +241,7 @@ module _ (c : Config) (x : Cut) (C : List ℕ → Bool) (guest : List ℕ → �
         leaf bare false true q k = clear bare (under-here C i y k)
         leaf bare false false q k = stay (inr (q, k))
 
-        go : (o : Option ℕ) → ts (i ∷ y) ≡ o → (v : ℕ) → lv (i ∷ y) ≡ v → Swept p ts lv fl ps y all i (i + 1) (clearBy (kindAt o v) m (goesOf m x all f i) f i)
+        go : (o : Option ℕ) → ts (i ∷ y) ≡ o → (v : ℕ) → lv (i ∷ y) ≡ v → Swept p ts lv fl ps y all i (i + 1) (clearBy (kindAt o v) m (goesOf c m x all f i) f i)
         go none q zero k = stay (inl k)
         go none q (suc v) k = rw (cut-now s y f i t l) (leaf q all (C (i ∷ y)) refl refl)
         go (some d) q v k = stay (inl (s .tables .plain (i ∷ y) d q))
@@ -385,7 +386,7 @@ module _ (c : Config) (x : Cut) (C : List ℕ → Bool) (guest : List ℕ → �
                     go false h = differ (sym h ∙ e)
 
                 range : (j : ℕ) → j < 512 → under C (j ∷ y) ≡ true → Range m x f j
-                range j l z = cut-range m x f j l (cut-now s y f j t l ∙ here j z)
+                range j l z = cut-range c m x f j l (cut-now s y f j t l ∙ here j z)
 
                 touch : (b : Bool) → touchesOf m x f ≡ b → Visited p ts lv f (cond b (sweepOf c x false (levelOf m f) f (endOf x - lowOf x) (lowOf x) p m) (outcome p true m))
                 touch true q =

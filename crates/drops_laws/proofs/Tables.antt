@@ -7,6 +7,7 @@ use mathlib.Core.List.{List, [], _∷_}
 use lib.ListN.{length}
 use Rattle.spec.specs.Config.{Config}
 use Rattle.spec.specs.Entry.{present, bitSet}
+use Rattle.spec.specs.Plain.{Lead}
 use Rattle.spec.specs.Book.{Held, paths}
 use Rattle.spec.specs.Prefix.{tablesOf}
 use Rattle.spec_laws.proofs.Lists.{all-map}
@@ -24,7 +25,7 @@ use Rattle.shadow.specs.Held.{shadowArea}
 use Rattle.drops_laws.proofs.Held.{entries, leafAt, HeldEntries}
 use Rattle.drops_laws.proofs.Fill.{entries-paths, entries-solid}
 
-module _ {c : Config} {p : Pool} {m : List ℕ} {guest G : List ℕ → ℕ} {root : ℕ} {w : Held → ℕ} {hs : List Held} (h : Holds (shadowArea c) false p m (leafAt w hs) guest)
+module _ {c : Config} {p : Pool} {m : List ℕ} {guest : List ℕ → ℕ} {G : List ℕ → Lead} {root : ℕ} {w : Held → ℕ} {hs : List Held} (h : Holds (shadowArea c) false p m (leafAt w hs) guest)
     (a : HeldEntries c guest G root w hs) where
   solid : Solid (entries w hs)
   solid = entries-solid w hs (all-map _ _ hs (λ h s. s .set) (a .all))

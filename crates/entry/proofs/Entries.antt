@@ -1,15 +1,15 @@
 -- Laws of entries: what makes one malformed, that only the levels of a configuration are read, ranges.
 -- Assumes nothing.
-use mathlib.Core.Path.{_≡_, refl, sym, ap, _∙_}
+use mathlib.Core.Path.{_≡_, refl, sym, ap, ap₂, _∙_}
 use mathlib.Core.Bool.{Bool, true, false, not, _&&_, _||_}
 use Prim.Native.Nat.{ℕ, suc, _+_, _-_, _*_, _/_, _%_, _^_, _<_, _≤_}
 use native.Mathlib.Nat.{zero-add, zero-mul, suc-mul, mul-le-mul-right, mod-lt}
 use native.Mathlib.Omega.{arith}
-use borrow.Author.Tests.{eqb-true, eqb-false, ne-eqb, lt-ltb, le-ltb}
+use borrow.Author.Tests.{eqb-true, eqb-false, ne-eqb, lt-ltb, le-ltb, ltb-false}
 use lib.Dec.{eqb, ltb}
 use lib.Pow.{pow-pos, pow-add, shr-lt, shr-shr, mod-pow-add, field, split}
 use Rattle.spec.specs.Config.{Config, frameBits}
-use Rattle.spec.specs.Entry.{bitSet, frameOf, malformed, index, wordOf}
+use Rattle.spec.specs.Entry.{bitSet, frameOf, large, framesBelow, malformed, index, wordOf}
 use Rattle.entry.specs.Levels.{ofLevels}
 
 pub malformed-levels : (c : Config) (level e : ℕ) → malformed c level e ≡ malformed (ofLevels (c .levels)) level e
@@ -22,17 +22,53 @@ high-bits b e l = let all : 40 - b + (12 + b) ≡ 52 = omega arith in rw all at 
 
 -- an entry is malformed by its frame number, or else by bit 7
 module _ (c : Config) (level e : ℕ) where
-  pub malformed-clear : e % 2 ^ 52 / 2 ^ (12 + frameBits c) ≡ 0 → malformed c level e ≡ (ltb 1 level && bitSet 7 e)
+  -- what bit 7 makes of it
+  abbrev misplaced : Bool
+  misplaced = (ltb 3 level && bitSet 7 e) || (large level e && not (eqb (frameOf e % framesBelow level) 0))
+
+  malformed-clear : e % 2 ^ 52 / 2 ^ (12 + frameBits c) ≡ 0 → malformed c level e ≡ misplaced
   unfolding malformed
   malformed-clear z =
       let none = sym (high-bits (frameBits c) e (omega arith)) ∙ z in
-      ap (λ (x : ℕ). not (eqb x 0) || (ltb 1 level && bitSet 7 e)) none
+      ap (λ (x : ℕ). not (eqb x 0) || misplaced) none
 
   pub malformed-high : (e % 2 ^ 52 / 2 ^ (12 + frameBits c) ≡ 0 → ⊥) → malformed c level e ≡ true
   unfolding malformed
   malformed-high n =
       let some = ne-eqb (e / 2 ^ (12 + frameBits c) % 2 ^ (40 - frameBits c)) 0 (λ z. n (high-bits (frameBits c) e (omega arith) ∙ z)) in
-      ap (λ (x : Bool). not x || (ltb 1 level && bitSet 7 e)) some
+      ap (λ (x : Bool). not x || misplaced) some
+
+  -- at level 1 it means nothing
+  pub malformed-low : e % 2 ^ 52 / 2 ^ (12 + frameBits c) ≡ 0 → level ≤ 1 → malformed c level e ≡ false
+  unfolding large
+  malformed-low z l =
+      malformed-clear z
+      ∙ ap₂ (λ x y. (x && bitSet 7 e) || ((y && (ltb level 4 && bitSet 7 e)) && not (eqb (frameOf e % framesBelow level) 0))) (le-ltb 3 level (omega arith)) (le-ltb 1 level l)
+
+  pub malformed-off : e % 2 ^ 52 / 2 ^ (12 + frameBits c) ≡ 0 → bitSet 7 e ≡ false → malformed c level e ≡ false
+  unfolding large
+  malformed-off z b =
+      malformed-clear z
+      ∙ ap (λ x. (ltb 3 level && x) || ((ltb 1 level && (ltb level 4 && x)) && not (eqb (frameOf e % framesBelow level) 0))) b ∙ go (ltb 3 level) (ltb 1 level) (ltb level 4)
+    where
+      go : (x y z : Bool) → ((x && false) || ((y && (z && false)) && not (eqb (frameOf e % framesBelow level) 0))) ≡ false
+      go true true true = refl
+      go true true false = refl
+      go true false z = refl
+      go false true true = refl
+      go false true false = refl
+      go false false z = refl
+
+  pub malformed-on : e % 2 ^ 52 / 2 ^ (12 + frameBits c) ≡ 0 → 1 < level → bitSet 7 e ≡ true
+      → malformed c level e ≡ (ltb 3 level || not (eqb (frameOf e % framesBelow level) 0))
+  unfolding large
+  malformed-on z l b =
+      malformed-clear z
+      ∙ ap₂ (λ x y. (ltb 3 level && x) || ((y && (ltb level 4 && x)) && not (eqb (frameOf e % framesBelow level) 0))) b (lt-ltb 1 level l) ∙ go (ltb 3 level) refl
+    where
+      go : (x : Bool) → ltb 3 level ≡ x → ((x && true) || ((ltb level 4 && true) && not (eqb (frameOf e % framesBelow level) 0))) ≡ (x || not (eqb (frameOf e % framesBelow level) 0))
+      go true k = refl
+      go false k = ap (λ y. (y && true) && not (eqb (frameOf e % framesBelow level) 0)) (lt-ltb level 4 (omega (arith, ltb-false 3 level k)))
 
 -- the room for a bit that is not set: what lies below it does not reach it, and above it the words end at an even number
 pub bit-room : (k e : ℕ) → k < 64 → e < 2 ^ 64 → e / 2 ^ k % 2 ≡ 0 → e + 2 ^ k < 2 ^ 64

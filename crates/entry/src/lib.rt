@@ -1,13 +1,13 @@
 // The three address sorts, the widths of an access and the bits of an entry. What each function yields is what the specification's definition gives.
 ghost use mathlib.Core.Path.{_≡_};
-ghost use mathlib.Core.Bool.{_&&_};
-ghost use Prim.Native.Nat.{_+_, _*_, _<_};
+ghost use mathlib.Core.Bool.{not, _&&_, _||_};
+ghost use Prim.Native.Nat.{_+_, _*_, _%_, _<_, _≤_};
 ghost use Rattle.spec.specs.Config.{frameBits};
-ghost use lib.Dec.{T};
+ghost use lib.Dec.{T, eqb, ltb};
 ghost use Rattle.spec.specs.Bytes.{widthFits, aligned};
 ghost use Rattle.spec.specs.Refusal.{addressFits};
 ghost use Rattle.entry.specs.Levels.{ofLevels};
-ghost use Rattle.spec.specs.Entry.{present, writable, switch, accessed, dirty, withBit, frameOf, malformed, index, pageOf};
+ghost use Rattle.spec.specs.Entry.{present, writable, switch, accessed, dirty, withBit, frameOf, large, framesBelow, malformed, index, pageOf};
 ghost use Rattle.spec.specs.Bits.{hasBits, withBits};
 
 // How many frames an entry can name, and the values of the bits that an entry's rules read.
@@ -115,6 +115,41 @@ pub fn frame_bits(levels: u64) -> u64
     if levels < 5 { 9 * levels } else { 40 }
 }
 
+// Does a guest entry of that level map a large page?
+pub fn large(level: u64, e: u64) -> bool
+    ensures { λ r. ⌜ r ≡ large level e ⌝ }
+{
+    if level <= 1 {
+        return false;
+    }
+    if level > 3 {
+        return false;
+    }
+    e / 128 % 2 == 1
+}
+
+// How many frames there are below an entry of that level.
+pub fn frames_below(level: u64) -> u64
+    requires { ⌜ level ≤ 7 ⌝ }
+    ensures { λ r. ⌜ r ≡ framesBelow level ⌝ }
+{
+    if level == 0 {
+        return 1;
+    }
+    1u64 << (9 * (level - 1))
+}
+
+// Is an entry of level 2 or more malformed by bit 7? It is above level 3 and, where it maps a large page, unless its frame is the first
+// of such a page.
+fn misplaced(level: u64, e: u64) -> bool
+    ensures { λ r. ⌜ r ≡ (ltb 3 level || not (eqb (frameOf e % framesBelow level) 0)) ⌝ }
+{
+    if level > 3 {
+        return true;
+    }
+    !(frame_of(e) % frames_below(level) == 0)
+}
+
 // Is a present guest entry of that level malformed?
 pub fn malformed(levels: u64, level: u64, e: u64) -> bool
     ensures { λ r. ⌜ r ≡ malformed (ofLevels levels) level e ⌝ }
@@ -124,7 +159,10 @@ pub fn malformed(levels: u64, level: u64, e: u64) -> bool
         if level <= 1 {
             return false;
         }
-        return e / 128 % 2 == 1;
+        if e / 128 % 2 == 0 {
+            return false;
+        }
+        return misplaced(level, e);
     }
     true
 }

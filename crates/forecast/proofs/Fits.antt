@@ -13,12 +13,13 @@ use lib.ListN.{length, set}
 use Rattle.spec.specs.Config.{Config}
 use Rattle.spec.specs.Entry.{indexes, pageOf}
 use Rattle.spec.specs.Prefix.{any}
-use Rattle.spec.specs.Plain.{walk}
+use Rattle.spec.specs.Plain.{isSpan, walk}
 use Rattle.spec.specs.Count.{one}
 use Rattle.spec.specs.Bytes.{aligned}
 use Rattle.spec.specs.Refusal.{addressFits}
 use Rattle.spec_laws.proofs.Indexes.{indexes-length}
 use Rattle.words.specs.After.{After, yields}
+use Rattle.entry.specs.declared.HostPhysical.{HostPhysical}
 use Rattle.layout.specs.declared.HostWalk.{HostWalk}
 use Rattle.layout.specs.declared.HostWalk.the-variants as host
 use Rattle.walk.specs.declared.Walked.{Walked}
@@ -27,7 +28,7 @@ use Rattle.walk.specs.Memory.{walkedOf}
 use Rattle.marks.specs.Key.{lowPage, keyAt, searchOf}
 use Rattle.translate.specs.declared.Held.{Held}
 use Rattle.translate.specs.declared.Translated.{Translated}
-use Rattle.translate.specs.Translate.{ReadsMost, pathOf, pathIndexes, directOf, servedOf, plainOf}
+use Rattle.translate.specs.Translate.{ReadsMost, pathOf, pathIndexes, directOf, servedOf, plainOf, turnedDepth}
 use Rattle.translate.proofs.Fits.{exit-small, levels-most, walk-most, FoundIs, found-is}
 use Rattle.forecast.specs.declared.Sum.{Sum}
 use Rattle.forecast.specs.declared.Paths.{Paths}
@@ -84,7 +85,7 @@ NextFits i (Go o) = OutlookFits i o
 NextFits i Damaged = Unit {0}
 
 pay-fits : (i : ℕ) (s : Sum) (p : Paths) (e : ℕ) (r : Walked) → SumFits i s → PathsFit (suc i) p → e ≤ 2 → ReadsMost 35 r → NextFits (suc i) (paidBy s p e r)
-pay-fits i s p e (walked.Arrived t w n) f q x l = ((omega (arith, f .0, l), omega (arith, f .1, x)), q)
+pay-fits i s p e (walked.Arrived w t n) f q x l = ((omega (arith, f .0, l), omega (arith, f .1, x)), q)
 pay-fits i s p e (walked.Faulted y n) f q x l = ((omega (arith, f .0, l), omega (arith, f .1, x)), q)
 pay-fits i s p e walked.Damaged f q x l = tt
 
@@ -117,9 +118,14 @@ module _ (c : Config) (ht : ℕ) (m : List ℕ) (h : Held) (root : ℕ) (five : 
       b : Bool
       b = any (eqb (keyAt (c .levels) d a)) (newest ks (o .paths .count))
 
-      go : (r : Walked) → ReadsMost 35 r → NextFits (suc i) (missedBy c ht m h ks o b n a d r .result)
-      go (walked.Arrived t w k) l =
+      arrived : (z : Bool) (t : HostPhysical) (w : Bool)
+          → NextFits (suc i) (cond {A = After Next} z (yields Damaged ks) (yields (paid (o .sum) (heldAfter c ks (o .paths) b n a d .result) (servedOf c ht m h false a d (t .0) w (one (not b)))) (heldAfter c ks (o .paths) b n a d .memory)) .result)
+      arrived true t w = tt
+      arrived false t w =
           paid-fits i (o .sum) _ _ (fits .0) (held-fits b n a d) (served-exits c ht m five h false a d (t .0) w (one (not b)) (one-most (not b))) (served-most c ht m five h false a d (t .0) w (one (not b)) low)
+
+      go : (r : Walked) → ReadsMost 35 r → NextFits (suc i) (missedBy c ht m h ks o b n a d r .result)
+      go (walked.Arrived w t k) l = arrived (isSpan c (t .0)) t w
       go (walked.Faulted x k) l = ((omega (arith, fits .0 .0, l), omega (arith, fits .0 .1, one-most (not b))), more)
       go walked.Damaged l = tt
 
@@ -142,6 +148,9 @@ module _ (c : Config) (ht : ℕ) (m : List ℕ) (h : Held) (root : ℕ) (five : 
   unfolding addressOf
   address-fits marks a = go (addressFits c a && aligned a 8)
     where
-      go : (b : Bool) → NextFits (suc i) (cond {A = After Next} b (loadOf c ht m h root ks o a (searchOf (c .levels) (lowPage (c .levels) a) marks .depth)) (yields (Go o) ks) .result)
-      go true = load-fits a (searchOf (c .levels) (lowPage (c .levels) a) marks .depth)
+      d : ℕ
+      d = turnedDepth c ht m root a (searchOf (c .levels) (lowPage (c .levels) a) marks .depth)
+
+      go : (b : Bool) → NextFits (suc i) (cond {A = After Next} b (loadOf c ht m h root ks o a d) (yields (Go o) ks) .result)
+      go true = load-fits a d
       go false = ((omega (arith, fits .0 .0), omega (arith, fits .0 .1)), more)

@@ -12,7 +12,7 @@ use Rattle.spec.specs.declared.Answer.{Answer}
 use Rattle.spec.specs.declared.Answer.the-variants as answer
 use Rattle.spec.specs.Config.{Config}
 use Rattle.spec.specs.Prefix.{any}
-use Rattle.spec.specs.Plain.{walk}
+use Rattle.spec.specs.Plain.{isSpan, walk}
 use Rattle.spec.specs.Count.{one}
 use Rattle.spec.specs.Bytes.{aligned}
 use Rattle.spec.specs.Refusal.{addressFits, forecastRoom}
@@ -25,7 +25,7 @@ use Rattle.walk.specs.Memory.{walkedOf}
 use Rattle.marks.specs.Key.{lowPage, keyAt, searchOf}
 use Rattle.translate.specs.declared.Held.{Held}
 use Rattle.translate.specs.declared.Translated.{Translated}
-use Rattle.translate.specs.Translate.{pathIndexes, servedOf, foundOf, plainOf}
+use Rattle.translate.specs.Translate.{pathIndexes, servedOf, foundOf, plainOf, turnedDepth}
 use Rattle.forecast.specs.declared.Sum.{Sum}
 use Rattle.forecast.specs.declared.Paths.{Paths}
 use Rattle.forecast.specs.declared.Outlook.{Outlook}
@@ -67,7 +67,7 @@ added s n e t = record { references = s .references + n; exits = s .exits + e; t
 
 -- a load that came to a word or a fault is paid for; p: the paths held after it
 abbrev pub paidBy : Sum → Paths → ℕ → Walked → Next
-paidBy s p e (walked.Arrived t w n) = Go (record { sum = added s n e (p .used); paths = p })
+paidBy s p e (walked.Arrived w t n) = Go (record { sum = added s n e (p .used); paths = p })
 paidBy s p e (walked.Faulted x n) = Go (record { sum = added s n e (p .used); paths = p })
 paidBy s p e walked.Damaged = Damaged
 
@@ -81,9 +81,9 @@ heldAfter c ks p b n a d =
     (filledOf c ks p (tablesWith c (p .used) (newest ks (p .count)) n a d) (keyAt (c .levels) d a) (c .levels - d))
 
 abbrev pub missedBy : Config → ℕ → List ℕ → Held → List ℕ → Outlook → Bool → ℕ → ℕ → ℕ → Walked → After Next
-missedBy c ht m h ks o b n a d (walked.Arrived t w k) =
+missedBy c ht m h ks o b n a d (walked.Arrived w t k) =
     let f : After Paths = heldAfter c ks (o .paths) b n a d in
-    yields (paid (o .sum) (f .result) (servedOf c ht m h false a d (t .0) w (one (not b)))) (f .memory)
+    cond (isSpan c (t .0)) (yields Damaged ks) (yields (paid (o .sum) (f .result) (servedOf c ht m h false a d (t .0) w (one (not b)))) (f .memory))
 missedBy c ht m h ks o b n a d (walked.Faulted x k) =
     yields (Go (record { sum = added (o .sum) k (one (not b)) (o .paths .used); paths = o .paths })) ks
 missedBy c ht m h ks o b n a d walked.Damaged = yields Damaged ks
@@ -114,7 +114,7 @@ loadOf c ht m h root ks o a d =
 -- an address that would meet 4 costs nothing; marks: the keys of those that are set
 unfoldable pub addressOf : Config → ℕ → List ℕ → Held → ℕ → List ℕ → List ℕ → Outlook → ℕ → After Next
 addressOf c ht m h root marks ks o a =
-    cond (addressFits c a && aligned a 8) (loadOf c ht m h root ks o a (searchOf (c .levels) (lowPage (c .levels) a) marks .depth)) (yields (Go o) ks)
+    cond (addressFits c a && aligned a 8) (loadOf c ht m h root ks o a (turnedDepth c ht m root a (searchOf (c .levels) (lowPage (c .levels) a) marks .depth))) (yields (Go o) ks)
 
 -- on with the list, or 11
 abbrev pub onward : Next → (Outlook → Answer) → Answer

@@ -12,7 +12,7 @@ ghost use Rattle.spec.specs.Refusal.{forecastRoom};
 ghost use Rattle.words.specs.After.{yields};
 ghost use Rattle.layout.specs.Layout.{LayoutFits, config};
 ghost use Rattle.marks.specs.Table.{keys};
-ghost use Rattle.translate.specs.Translate.{HeldFits, ReadsMost};
+ghost use Rattle.translate.specs.Translate.{HeldFits, ReadsMost, turnedDepth};
 ghost use Rattle.forecast.specs.Forecast.{newest, passes, metFrom, filledOf, paid, added, heldAfter, missedOf, keptOf, loadOf, addressOf, start, forecastOf};
 ghost use Rattle.forecast.specs.Fits.{SumFits, OutlookFits};
 use entry::GuestPhysical;
@@ -249,6 +249,9 @@ fn missed(
             writable,
             reads,
         } => {
+            if page.0 >= space.layout.frames {
+                return Next::Damaged;
+            }
             let after = held_after(room, space.layout, paths, known, stand, address, depth);
             let t = translate::serve(
                 mem,
@@ -338,6 +341,24 @@ fn one_load(
 
 // ---- the list
 
+// The depth of a load whose marks give that: 0 where its walk comes into a large page before.
+fn depth_at(
+    mem: &[u64],
+    space: Space,
+    root: GuestPhysical,
+    address: GuestVirtual,
+    depth: u64,
+) -> u64
+    requires { ⌜ LayoutFits (space .layout) ⌝ }
+    ensures { λ r. ⌜ r ≡ turnedDepth (config (space .layout)) (space .top) (now (mem .entry)) (root .0) (address .0) depth ⌝ }
+{
+    if translate::may_turn(depth) {
+        translate::walked_depth(mem, space, root, address, depth)
+    } else {
+        depth
+    }
+}
+
 // The next address of the list, by the marks at the set places.
 fn one_address(
     mem: &[u64],
@@ -357,7 +378,8 @@ fn one_address(
     if !address.names_bytes(levels, 8) {
         return Next::Go(before);
     }
-    let d = depth::depth(place, set, levels, address);
+    let marked = depth::depth(place, set, levels, address);
+    let d = depth_at(mem, space, root, address, marked);
     one_load(mem, space, root, held, room, before, address, d)
 }
 

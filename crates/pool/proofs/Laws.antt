@@ -1,19 +1,21 @@
 -- Headers in range, and the frames that an entry or a pool hands out, which lie in the area.
 -- Assumes nothing.
 use mathlib.Core.Path.{_≡_, refl}
-use Prim.Native.Nat.{ℕ, zero, suc, _+_, _*_, _-_, _≤_, _<_}
+use mathlib.Core.Logic.{_≢_}
+use Prim.Native.Nat.{ℕ, zero, suc, _+_, _*_, _-_, _/_, _%_, _≤_, _<_}
 use native.Mathlib.Omega.{arith}
+use native.Mathlib.Decide.{ℕ-discrete}
 use mathlib.Core.Bool.{Bool, true, false, cond}
 use mathlib.Core.List.{List}
-use lib.Dec.{ltb}
-use borrow.Author.Tests.{ltb-true, ltb-false}
+use lib.Dec.{eqb, ltb}
+use borrow.Author.Tests.{eq-eqb, ne-eqb, ltb-true, ltb-false}
 use Rattle.spec.specs.Entry.{present, frameOf, frameLimit}
 use Rattle.words.specs.Words.{zeroed}
 use Rattle.pool.specs.declared.Area.{Area}
 use Rattle.pool.specs.declared.Pool.{Pool}
 use Rattle.pool.specs.declared.Way.{Way}
 use Rattle.pool.specs.declared.Way.the-variants.{To, Not, Damaged}
-use Rattle.pool.specs.Header.{entryAtOf, guestOf, parentOf, slotOf, insideOf, bareOf}
+use Rattle.pool.specs.Header.{entryAtOf, parentOf, slotOf, insideOf, bareOf}
 use Rattle.pool.specs.Pool.{followOf, onWay, end, poolOf, freshOf, freedOf, takeOf}
 
 -- ---- headers
@@ -21,9 +23,16 @@ pub parent-small : (m : List ℕ) (f : ℕ) → parentOf m f < 65536
 unfolding parentOf
 parent-small m f = omega arith
 
-pub guest-small : (m : List ℕ) (f : ℕ) → guestOf m f < 65536
-unfolding guestOf
-guest-small m f = omega arith
+-- two numbers by their low 16 bits and the rest
+pub low-same : (l u g : ℕ) → l ≡ g % 65536 → eqb u (g / 65536) ≡ eqb (l + 65536 * u) g
+low-same l u g e = go (ℕ-discrete u (g / 65536))
+  where
+    go : Dec (u ≡ g / 65536) → eqb u (g / 65536) ≡ eqb (l + 65536 * u) g
+    go (yes q) = rw (eq-eqb u (g / 65536) q, eq-eqb (l + 65536 * u) g (omega arith))
+    go (no q) = rw (ne-eqb u (g / 65536) q, ne-eqb (l + 65536 * u) g (λ r. q (omega arith)))
+
+pub low-other : (l u g : ℕ) → l < 65536 → l ≢ g % 65536 → eqb (l + 65536 * u) g ≡ false
+low-other l u g s n = ne-eqb (l + 65536 * u) g (λ r. n (omega arith))
 
 pub slot-small : (m : List ℕ) (f : ℕ) → slotOf m f < 512
 unfolding slotOf

@@ -2,14 +2,14 @@
 -- Assumes nothing.
 use mathlib.Core.Path.{_≡_, refl, _∙_}
 use mathlib.Core.Logic.{_≢_, _⊎_, inl, inr}
-use Prim.Native.Nat.{ℕ, _+_, _*_, _<_, _≤_}
+use Prim.Native.Nat.{ℕ, suc, _+_, _*_, _<_, _≤_}
 use native.Mathlib.Omega.{arith}
-use mathlib.Core.List.{List}
-use lib.ListN.{getD, length-set}
+use mathlib.Core.List.{List, [], _∷_}
+use lib.ListN.{getD, length, length-set}
 use lib.Seq.{getD-set-other}
 use Rattle.words.specs.Words.{at, setIn, zeroed}
 use Rattle.words.proofs.Laws.{zeroed-length, zeroed-below, zeroed-above}
-use Rattle.pool.specs.Header.{putEntryOf, headerOf}
+use Rattle.pool.specs.Header.{putEntryOf, written, headerOf}
 use Rattle.pool.specs.Pool.{freeWords}
 use Rattle.pool.specs.Outside.{SameOutside}
 
@@ -39,13 +39,14 @@ pub put-out : (b s : ℕ) (m : List ℕ) (f i e : ℕ) → b ≤ f → f < b + s
 unfolding putEntryOf
 put-out b s m f i e l h k = set-out b s m f i _ l h k
 
+written-out : (b s : ℕ) (m : List ℕ) (f k : ℕ) (vs : List ℕ) → b ≤ f → f < b + s → k + length vs ≤ 512 → SameOutside b s m (written m f k vs)
+unfolding written
+written-out b s m f k [] l h e = out-refl b s m
+written-out b s m f k (v ∷ vs) l h e = out-trans b s _ _ _ (written-out b s _ f (suc k) vs l h (omega arith)) (set-out b s m f k _ l h (omega arith))
+
 pub head-out : (b s : ℕ) (m : List ℕ) (f guest level parent slot : ℕ) → b ≤ f → f < b + s → SameOutside b s m (headerOf m f guest level parent slot)
 unfolding headerOf
-head-out b s m f guest level parent slot l h =
-    out-trans b s _ _ _ (set-out b s _ f 4 _ l h (omega arith))
-    (out-trans b s _ _ _ (set-out b s _ f 3 _ l h (omega arith))
-    (out-trans b s _ _ _ (set-out b s _ f 2 _ l h (omega arith))
-    (out-trans b s _ _ _ (set-out b s _ f 1 _ l h (omega arith)) (set-out b s m f 0 _ l h (omega arith)))))
+head-out b s m f guest level parent slot l h = written-out b s m f 0 _ l h (omega arith)
 
 pub free-words-out : (b s : ℕ) (m : List ℕ) (f next : ℕ) → b ≤ f → f < b + s → SameOutside b s m (freeWords m f next)
 unfolding freeWords

@@ -1,9 +1,9 @@
--- The words of a table. An entry is the low 52 bits of a word; the high 12 bits of words 0 to 4 hold the table's header:
--- its level, the frame of the table above it, its slot there, and the host frame of the guest table that it stands for.
+-- The words of a table. An entry is the low 52 bits of a word; the high 12 bits of words 0 to 8 hold the table's header:
+-- its level, the frame of the table above it, its slot there, and the guest number, which says what it stands for.
 -- No rule of document 01 reads those bits: an entry's rules end at bit 51.
 -- Assumes nothing.
 use Prim.Native.Nat.{ℕ, zero, suc, _+_, _-_, _*_, _/_, _%_}
-use mathlib.Core.List.{List}
+use mathlib.Core.List.{List, [], _∷_}
 use mathlib.Core.Bool.{Bool, true, false, cond}
 use lib.Dec.{ltb}
 use Rattle.spec.specs.Entry.{present, entryLimit}
@@ -25,9 +25,16 @@ putEntryOf m f i e = setIn m f i (wordIn m f i / entryLimit * entryLimit + e % e
 abbrev pub frameAt : List ℕ → ℕ → ℕ → ℕ
 frameAt m f i = highOf m f i % 4096 + highOf m f (i + 1) % 16 * 4096
 
--- the host frame of the guest table
+-- a guest number has 64 bits; one below 65536 is the host frame of a guest table
+abbrev pub guestRoom : ℕ
+guestRoom = 18446744073709551616
+
+-- its upper 48 bits, in words 5 to 8
+abbrev pub upperOf : List ℕ → ℕ → ℕ
+upperOf m f = highOf m f 5 % 4096 + 4096 * (highOf m f 6 % 4096 + 4096 * (highOf m f 7 % 4096 + 4096 * (highOf m f 8 % 4096)))
+
 unfoldable pub guestOf : List ℕ → ℕ → ℕ
-guestOf m f = frameAt m f 0
+guestOf m f = frameAt m f 0 + 65536 * upperOf m f
 
 -- the level of the table; 0 says that the frame is no table
 unfoldable pub levelOf : List ℕ → ℕ → ℕ
@@ -41,15 +48,22 @@ parentOf m f = frameAt m f 2
 unfoldable pub slotOf : List ℕ → ℕ → ℕ
 slotOf m f = highOf m f 4 % 512
 
+-- the words of frame f from word k on are written, with these header bits and no entry
+unfoldable pub written : List ℕ → ℕ → ℕ → List ℕ → List ℕ
+written m f k [] = m
+written m f k (v ∷ vs) = written (setIn m f k (v * entryLimit)) f (suc k) vs
+
+-- the header bits of words 5 to 8, and of words 0 to 8
+abbrev pub upperBits : ℕ → List ℕ
+upperBits upper = (upper % 4096) ∷ (upper / 4096 % 4096) ∷ (upper / 4096 / 4096 % 4096) ∷ (upper / 4096 / 4096 / 4096 % 4096) ∷ []
+
+abbrev pub headerBits : ℕ → ℕ → ℕ → ℕ → List ℕ
+headerBits guest level parent slot =
+    (guest % 4096) ∷ (guest / 4096 % 16 + level % 8 * 16) ∷ (parent % 4096) ∷ (parent / 4096 % 16) ∷ (slot % 512) ∷ upperBits (guest / 65536)
+
 -- a header is written into a frame of zeros
 unfoldable pub headerOf : List ℕ → ℕ → ℕ → ℕ → ℕ → ℕ → List ℕ
-headerOf m f guest level parent slot =
-    setIn (setIn (setIn (setIn (setIn m
-    f 0 (guest % 4096 * entryLimit))
-    f 1 ((guest / 4096 % 16 + level % 8 * 16) * entryLimit))
-    f 2 (parent % 4096 * entryLimit))
-    f 3 (parent / 4096 % 16 * entryLimit))
-    f 4 (slot % 512 * entryLimit)
+headerOf m f guest level parent slot = written m f 0 (headerBits guest level parent slot)
 
 -- is f one of the s frames from b on?
 unfoldable pub insideOf : ℕ → ℕ → ℕ → Bool

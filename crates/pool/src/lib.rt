@@ -1,8 +1,9 @@
 // Frames of an area of the lent memory handed out and given back, and the words of the tables in them.
 ghost use mathlib.Core.Path.{_≡_};
 ghost use Prim.Native.Nat.{_+_, _<_};
+ghost use lib.Dec.{eqb};
 ghost use Rattle.spec.specs.Entry.{frameLimit};
-ghost use Rattle.pool.specs.Header.{frameAt, entryAtOf, highOf, putEntryOf, guestOf, levelOf, parentOf, slotOf, headerOf, insideOf, bareOf};
+ghost use Rattle.pool.specs.Header.{frameAt, upperOf, entryAtOf, highOf, putEntryOf, guestOf, levelOf, parentOf, slotOf, written, upperBits, headerOf, insideOf, bareOf};
 ghost use Rattle.pool.specs.Pool.{followOf, noneOf, withTop, freshOf, freedOf, takeOf, withFreed, freeWords};
 ghost use Rattle.words.specs.After.{yields};
 
@@ -77,12 +78,37 @@ fn frame_at(mem: &[u64], frame: u64, index: u64) -> u64
     a % 4096 + b % 16 * 4096
 }
 
-// The host frame of the guest table that a table stands for.
+// The upper 48 bits of the guest number.
+fn upper(mem: &[u64], frame: u64) -> u64
+    requires { ⌜ frame < frameLimit ⌝ }
+    ensures { λ r. ⌜ r ≡ upperOf (now (mem .entry)) frame ⌝ }
+{
+    let a = high(mem, frame, 5);
+    let b = high(mem, frame, 6);
+    let c = high(mem, frame, 7);
+    let d = high(mem, frame, 8);
+    a % 4096 + 4096 * (b % 4096 + 4096 * (c % 4096 + 4096 * (d % 4096)))
+}
+
+// The guest number of a table: what it stands for.
 pub fn guest(mem: &[u64], frame: u64) -> u64
     requires { ⌜ frame < frameLimit ⌝ }
     ensures { λ r. ⌜ r ≡ guestOf (now (mem .entry)) frame ⌝ }
 {
-    frame_at(mem, frame, 0)
+    let low = frame_at(mem, frame, 0);
+    low + 65536 * upper(mem, frame)
+}
+
+// Whether a table stands for that guest number; the upper bits are read only where the low ones agree.
+pub fn stands_for(mem: &[u64], frame: u64, guest: u64) -> bool
+    requires { ⌜ frame < frameLimit ⌝ }
+    ensures { λ r. ⌜ r ≡ eqb (guestOf (now (mem .entry)) frame) guest ⌝ }
+{
+    if frame_at(mem, frame, 0) == guest % 65536 {
+        upper(mem, frame) == guest / 65536
+    } else {
+        false
+    }
 }
 
 // The level of a table; 0 for a frame that is no table.
@@ -109,6 +135,27 @@ pub fn slot(mem: &[u64], frame: u64) -> u64
     high(mem, frame, 4) % 512
 }
 
+// The upper bits of a guest number are written.
+fn write_upper(mem: &mut [u64], frame: u64, upper: u64)
+    requires { ⌜ frame < frameLimit ⌝ }
+    ensures { λ r. ⌜ now (mem .exit) ≡ written (now (mem .entry)) frame 5 (upperBits upper) ⌝ }
+{
+    words::set_in(mem, frame, 5, upper % 4096 * entry::ENTRY_LIMIT);
+    words::set_in(mem, frame, 6, upper / 4096 % 4096 * entry::ENTRY_LIMIT);
+    words::set_in(
+        mem,
+        frame,
+        7,
+        upper / 4096 / 4096 % 4096 * entry::ENTRY_LIMIT,
+    );
+    words::set_in(
+        mem,
+        frame,
+        8,
+        upper / 4096 / 4096 / 4096 % 4096 * entry::ENTRY_LIMIT,
+    );
+}
+
 // A header is written into a frame of zeros.
 pub fn write_header(mem: &mut [u64], frame: u64, guest: u64, level: u64, parent: u64, slot: u64)
     requires { ⌜ frame < frameLimit ⌝ }
@@ -124,6 +171,7 @@ pub fn write_header(mem: &mut [u64], frame: u64, guest: u64, level: u64, parent:
     words::set_in(mem, frame, 2, parent % 4096 * entry::ENTRY_LIMIT);
     words::set_in(mem, frame, 3, parent / 4096 % 16 * entry::ENTRY_LIMIT);
     words::set_in(mem, frame, 4, slot % 512 * entry::ENTRY_LIMIT);
+    write_upper(mem, frame, guest / 65536);
 }
 
 // Whether a frame lies in an area of frames base to base + size.

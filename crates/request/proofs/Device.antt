@@ -30,6 +30,6 @@ pub device-in : (c : Config) (ht : ℕ) (m : List ℕ) (g : ℕ) → ArrivedIn c
 device-in c ht m g = go (walkedOf c ht m 0 (next true true g true)) (page-fits c ht m 0 true g true)
   where
     go : (r : Walked) → TurnFits c 0 r → ArrivedIn c r
-    go (walked.Arrived p w n) f = f .0
+    go (walked.Arrived w p n) f = f .0
     go (walked.Faulted x n) f = tt
     go walked.Damaged f = tt

@@ -34,7 +34,7 @@ use Rattle.request.specs.Access.{ReachesFrame, serving, setBy, settledOf
 
 -- in the guest area, so below the limit
 reaches : (c : Config) (r : Walked) → c .frames ≤ 65536 → ArrivedIn c r → ReachesFrame r
-reaches c (walked.Arrived t w n) few g = omega (arith, g .1)
+reaches c (walked.Arrived w t n) few g = omega (arith, g .1)
 reaches c (walked.Faulted x n) few g = tt
 reaches c walked.Damaged few g = tt
 
@@ -144,10 +144,10 @@ module _ (c : Config) (ht : ℕ) (m : List ℕ) (h : Held) (root : ℕ) (st : Bo
               let f : host.Absent 0 ≡ host.Found t w = sym (ap (λ b. cond b (host.Found u v) (host.Absent 0)) q) ∙ e in
               let z : _≡_ {A = ℕ} 0 1 = cc in absurd (omega arith)
 
-  module _ (f : HeldFits c h) where
+  module _ (f : HeldFits c h) (five : c .levels ≤ 5) where
     -- what a translation leaves, told of an equal one
     pub leaves-as : (o : After Translated) → translateOf c ht m h root st a d ≡ o → Leaves c m o
-    leaves-as o e = subst (Leaves c m) e (translate-leaves c ht m st h f root a d)
+    leaves-as o e = subst (Leaves c m) e (translate-leaves c ht m st h f root a d five)
 
     pub reaches-as : (o : After Translated) → c .frames ≤ 65536 → translateOf c ht m h root st a d ≡ o → ReachesFrame (o .result .walked)
     reaches-as o few e = reaches c (o .result .walked) few (leaves-as o e .arrived)
@@ -158,25 +158,25 @@ module _ (c : Config) (ht root : ℕ) (h k : Held) (a w : ℕ) where
   -- a load whose bits, if any, are set is as one with none to set, in the memory that they leave
   pub load-said : (e : ℕ) (r : Walked) (sets : Bool) (m : List ℕ)
       → loadBy h a w (λ x. x) (yields (translation k e r false) (setBy r (settledOf c ht root false a sets m) m)) r ≡ loadFrom c ht root h a w (yields (translation k e r sets) m)
-  load-said e (walked.Arrived t y n) sets m = refl
+  load-said e (walked.Arrived y t n) sets m = refl
   load-said e (walked.Faulted x n) sets m = refl
   load-said e walked.Damaged sets m = refl
 
   pub load-plainly : (e : ℕ) (r : Walked) (m : List ℕ) → loadBy h a w (λ x. x) (yields (translation k e r false) m) r ≡ loadFrom c ht root h a w (yields (translation k e r false) m)
   unfolding settledOf
-  load-plainly e (walked.Arrived t y n) m = refl
+  load-plainly e (walked.Arrived y t n) m = refl
   load-plainly e (walked.Faulted x n) m = refl
   load-plainly e walked.Damaged m = refl
 
   pub store-plainly : (v e : ℕ) (r : Walked) (m : List ℕ) → storeBy c h a w v (λ x. x) (yields (translation k e r false) m) r ≡ storeFrom c ht root h a w v (yields (translation k e r false) m)
   unfolding settledOf
-  store-plainly v e (walked.Arrived t y n) m = refl
+  store-plainly v e (walked.Arrived y t n) m = refl
   store-plainly v e (walked.Faulted x n) m = refl
   store-plainly v e walked.Damaged m = refl
 
 -- at depth 0 the path held for a request leads to its page, and no bit is looked at
 pub page-reached : (c : Config) (ht : ℕ) (m : List ℕ) (h : Held) (root : ℕ) (st : Bool) (a d : ℕ) (t : HostPhysical) (y : Bool) → d ≡ 0 → pathHeldOf c m h st a d ≡ host.Found t y
-    → translateOf c ht m h root st a d ≡ yields (translation h 0 (walked.Arrived t y (c .levels)) false) m
+    → translateOf c ht m h root st a d ≡ yields (translation h 0 (walked.Arrived y t (c .levels)) false) m
 unfolding bitlessOf
 page-reached c ht m h root st a d t y e found =
     let none = bitless-none c ht m st a d (t .0) y (ap (λ b. cond b true (not (c .bits))) (eq-eqb d 0 e)) in
@@ -252,6 +252,6 @@ plainly-stores c ht m h root a w d v n k =
     ∙ ap (storeFrom c ht root h a w v) (sym (page-reached c ht m h root true a d t (p .writable) (p .none) (p .found)))
 
 pub set-none : (r : Walked) (m : List ℕ) → setBy r m m ≡ m
-set-none (walked.Arrived t y n) m = refl
+set-none (walked.Arrived y t n) m = refl
 set-none (walked.Faulted x n) m = refl
 set-none walked.Damaged m = refl

@@ -1,3 +1,4 @@
+pub mod Depths
 pub mod Device
 pub mod Held
 pub mod Leaves

@@ -43,7 +43,7 @@ refused h n m = serving h (answer.Refused n) m
 -- ---- the bits of a request
 
 abbrev pub setBy : Walked → List ℕ → List ℕ → List ℕ
-setBy (walked.Arrived t w n) set m = set
+setBy (walked.Arrived w t n) set m = set
 setBy (walked.Faulted x n) set m = m
 setBy walked.Damaged set m = m
 
@@ -79,7 +79,7 @@ bytesIn m t a w v = setIn m t (wordOf a) (withBytes a w v (wordIn m t (wordOf a)
 
 -- a walk that arrives does so at a frame that an entry can name
 abbrev pub ReachesFrame : Walked → Type 0
-ReachesFrame (walked.Arrived t y n) = t .0 < frameLimit
+ReachesFrame (walked.Arrived y t n) = t .0 < frameLimit
 ReachesFrame (walked.Faulted x n) = Unit {0}
 ReachesFrame walked.Damaged = Unit {0}
 
@@ -102,7 +102,7 @@ Unserved c ht m h root st a d = translateOf c ht m h root st a d ≡ unservedOf 
 
 -- of w bytes, with what its bits leave (set); h: what was held when the load came
 abbrev pub loadBy : Held → ℕ → ℕ → (List ℕ → List ℕ) → After Translated → Walked → After Served
-loadBy h a w set o (walked.Arrived t y n) =
+loadBy h a w set o (walked.Arrived y t n) =
     let m : List ℕ = set (o .memory) in
     serving (o .result .held) (answer.Value (bytesAt a w (wordIn m (t .0) (wordOf a))) n (o .result .exits)) m
 loadBy h a w set o (walked.Faulted x n) = serving (o .result .held) (answer.Faulted x n (o .result .exits)) (o .memory)
@@ -125,7 +125,7 @@ abbrev pub writtenBy : Held → Held → ℕ → ℕ → ℕ → ℕ → ℕ →
 writtenBy h held n e t a w v set s = cond (s .result .ok) (finishBy held n e t a w v (s .result) (set (s .memory))) (refused h 11 (s .memory))
 
 abbrev pub storeBy : Config → Held → ℕ → ℕ → ℕ → (List ℕ → List ℕ) → After Translated → Walked → After Served
-storeBy c h a w v set o (walked.Arrived t y n) =
+storeBy c h a w v set o (walked.Arrived y t n) =
     writtenBy h (o .result .held) n (o .result .exits) (t .0) a w v set (droppedOf c (o .memory) (o .result .held .pool) (t .0) (wordOf a))
 storeBy c h a w v set o (walked.Faulted x n) = serving (o .result .held) (answer.Faulted x n (o .result .exits)) (o .memory)
 storeBy c h a w v set o walked.Damaged = refused h 11 (o .memory)
@@ -148,7 +148,7 @@ plainlyOf c m h a w d v = cond (eqb d 0) (plainlyBy c m h a w v (pathHeldOf c m 
 
 -- a device store counts the words of its host walk; H or W is an exit, and so is a granted store into a watched frame. It sets no bits
 abbrev pub deviceBy : Config → List ℕ → Held → ℕ → ℕ → ℕ → Walked → After Served
-deviceBy c m h a w v (walked.Arrived t y n) = writtenBy h h n 0 (t .0) a w v (λ x. x) (droppedOf c m (h .pool) (t .0) (wordOf a))
+deviceBy c m h a w v (walked.Arrived y t n) = writtenBy h h n 0 (t .0) a w v (λ x. x) (droppedOf c m (h .pool) (t .0) (wordOf a))
 deviceBy c m h a w v (walked.Faulted x n) = serving h (answer.Faulted x n (exitBy (walked.Faulted x n))) m
 deviceBy c m h a w v walked.Damaged = refused h 11 m
 

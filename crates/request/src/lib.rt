@@ -1,6 +1,7 @@
 // Load, store and device store: from an address and its depth to the bytes read or written, and the held paths that a store drops.
 ghost use mathlib.Core.Path.{_≡_};
-ghost use mathlib.Core.Bool.{true, false};
+ghost use mathlib.Core.Bool.{true, false, not};
+ghost use lib.Dec.{eqb};
 ghost use Prim.Native.Nat.{_<_, _≤_};
 ghost use Rattle.spec.specs.Bytes.{bytesAt, withBytes};
 ghost use Rattle.spec.specs.Entry.{wordOf, frameLimit};
@@ -9,8 +10,8 @@ ghost use Rattle.words.specs.Words.{wordIn};
 ghost use Rattle.layout.specs.Layout.{LayoutFits, config};
 ghost use Rattle.layout.specs.declared.HostWalk.the-variants as host;
 ghost use Rattle.shadow.specs.Watch.{watchedOf};
-ghost use Rattle.translate.specs.Translate.{HeldFits, translation, translateOf};
-ghost use Rattle.request.specs.Access.{Inside, ReachesFrame, setBy, bitsOf, settledOf, droppedOf, bytesIn, pathHeldOf, Unserved, loadBy, loadOf, finishBy, writtenBy, storeBy, storeFrom, storeOf, plainlyOf, deviceOf};
+ghost use Rattle.translate.specs.Translate.{HeldFits, translation, translateOf, turnedDepth, depthOf};
+ghost use Rattle.request.specs.Access.{Inside, ReachesFrame, setBy, bitsOf, settledOf, droppedOf, bytesIn, pathHeldOf, Unserved, loadBy, loadFrom, loadOf, finishBy, writtenBy, storeBy, storeFrom, storeOf, plainlyOf, deviceOf};
 use entry::GuestPhysical;
 use entry::GuestVirtual;
 use entry::HostPhysical;
@@ -141,8 +142,13 @@ fn set_own(mem: &mut [u64], space: Space, root: GuestPhysical, store: bool, addr
             writable,
             reads,
         } => {
-            let number = address.page();
-            accessed::set_bits(mem, store, number, space.layout.levels, &trail.tables);
+            let read = accessed::read_by(
+                space.layout,
+                address.page(),
+                space.layout.levels,
+                &trail.tables,
+            );
+            accessed::set_bits(mem, store, read.path, read.steps, &trail.tables);
         }
         Walked::Faulted { fault, reads } => {}
         Walked::Damaged => {}
@@ -234,6 +240,90 @@ fn path_held(
     }
 }
 
+// Does the walk of a request, whose marks give that depth, come into a large page above the marked levels?
+fn is_turned(
+    mem: &[u64],
+    space: Space,
+    root: GuestPhysical,
+    address: GuestVirtual,
+    depth: u64,
+) -> bool
+    requires { ⌜ LayoutFits (space .layout) ⌝ }
+    ensures { λ r. ⌜ r ≡ not (eqb (turnedDepth (config (space .layout)) (space .top) (now (mem .entry)) (root .0) (address .0) depth) depth) ⌝ }
+{
+    if translate::may_turn(depth) {
+        return translate::walked_depth(mem, space, root, address, depth) != depth;
+    }
+    false
+}
+
+// A load's or a store's translation at depth 0, of a large page that lies above the marked levels.
+fn reached_large(
+    mem: &mut [u64],
+    space: Space,
+    root: GuestPhysical,
+    held: Held,
+    store: bool,
+    address: GuestVirtual,
+) -> Translated
+    requires { ⌜ (LayoutFits (space .layout)) × (HeldFits (config (space .layout)) held) ⌝ }
+    ensures { λ r. ⌜ yields r (now (mem .exit)) ≡ translateOf (config (space .layout)) (space .top) (now (mem .entry)) held (root .0) store (address .0) 0 ⌝ }
+{
+    let request = Request {
+        store: store,
+        address: address,
+        depth: 0,
+    };
+    match path_held(mem, space.layout, held, store, address, 0) {
+        HostWalk::Found { page, writable } => translate::through(
+            mem,
+            space,
+            root,
+            held,
+            request,
+            page,
+            writable,
+        ),
+        HostWalk::Absent { reads } => translate::unserved(mem, space, root, held, request),
+        HostWalk::Damaged => translate::damaged(held),
+    }
+}
+
+// A load's or a store's translation, by the path held for it or without one; the request's depth is the one that its marks give.
+pub fn reached(
+    mem: &mut [u64],
+    space: Space,
+    root: GuestPhysical,
+    held: Held,
+    request: Request,
+) -> Translated
+    requires { ⌜ (LayoutFits (space .layout)) × (HeldFits (config (space .layout)) held) × (2 ≤ space .layout .levels) ⌝ }
+    ensures { λ r. ⌜ yields r (now (mem .exit)) ≡ translateOf (config (space .layout)) (space .top) (now (mem .entry)) held (root .0) (request .store) (request .address .0) (depthOf (config (space .layout)) (space .top) (now (mem .entry)) held (root .0) (request .address .0) (request .depth)) ⌝ }
+{
+    let store = request.store;
+    let address = request.address;
+    let depth = request.depth;
+    if depth <= space.layout.levels {
+        match path_held(mem, space.layout, held, store, address, depth) {
+            HostWalk::Found { page, writable } => {
+                return translate::through(mem, space, root, held, request, page, writable);
+            }
+            HostWalk::Absent { reads } => {
+                if is_turned(mem, space, root, address, depth) {
+                    return reached_large(mem, space, root, held, store, address);
+                }
+            }
+            HostWalk::Damaged => {
+                if translate::may_turn(depth) {
+                    return reached_large(mem, space, root, held, store, address);
+                }
+                return translate::damaged(held);
+            }
+        }
+    }
+    translate::unserved(mem, space, root, held, request)
+}
+
 // What a load says that came so far, its bits set; before: what was held when it came.
 fn loaded(
     mem: &[u64],
@@ -272,6 +362,25 @@ fn loaded(
     }
 }
 
+// The same of one that may have bits to set, by its translation.
+fn load_by(
+    mem: &mut [u64],
+    space: Space,
+    root: GuestPhysical,
+    before: Held,
+    t: Translated,
+    address: GuestVirtual,
+    width: u64,
+) -> Served
+    requires { ⌜ (LayoutFits (space .layout)) × (ReachesFrame (t .walked)) × (Inside (address .0) width) ⌝ }
+    ensures { λ r. ⌜ yields r (now (mem .exit)) ≡ loadFrom (config (space .layout)) (space .top) (root .0) before (address .0) width (yields t (now (mem .entry))) ⌝ }
+{
+    let walked = t.walked;
+    let held = t.held;
+    settle(mem, space, root, false, address, walked, t.sets);
+    loaded(mem, before, held, walked, t.exits, address.0, width)
+}
+
 // A load that no held path serves.
 fn load_unserved(
     mem: &mut [u64],
@@ -291,10 +400,7 @@ fn load_unserved(
         depth: depth,
     };
     let t = translate::unserved(mem, space, root, held, request);
-    let end = t.walked;
-    let after = t.held;
-    settle(mem, space, root, false, address, end, t.sets);
-    loaded(mem, held, after, end, t.exits, address.0, width)
+    load_by(mem, space, root, held, t, address, width)
 }
 
 // A load whose held path leads to a page, or to a guest table in that frame.
@@ -325,18 +431,70 @@ fn load_through(
     // As translate::through, but that nothing is handed on by way of memory: most loads with bits lack none.
     let trail = translate::direct_trail(mem, space, request, page, writable);
     let walked = trail.walked;
-    if !translate::lacking(mem, space.layout, request, walked, &trail.tables) {
+    if !translate::lacking(
+        mem,
+        space.layout,
+        false,
+        address,
+        depth,
+        walked,
+        &trail.tables,
+    ) {
         let exits = translate::exit_of(walked);
         return loaded(mem, held, held, walked, exits, address.0, width);
     }
     let t = translate::judged(mem, space, root, held, request, walked);
-    let end = t.walked;
-    let after = t.held;
-    settle(mem, space, root, false, address, end, t.sets);
-    loaded(mem, held, after, end, t.exits, address.0, width)
+    load_by(mem, space, root, held, t, address, width)
 }
 
-// A load: 11. Most are of depth 0 and held: they are told here, with nothing handed on.
+// A load of depth 0 whose held path leads to that page.
+fn load_page(
+    mem: &mut [u64],
+    space: Space,
+    root: GuestPhysical,
+    held: Held,
+    address: GuestVirtual,
+    width: u64,
+    page: HostPhysical,
+    writable: bool,
+) -> Served
+    requires { ⌜ (LayoutFits (space .layout)) × (HeldFits (config (space .layout)) held) × (Inside (address .0) width) × (pathHeldOf (config (space .layout)) (now mem) held false (address .0) 0 ≡ host.Found page writable) ⌝ }
+    ensures { λ r. ⌜ yields r (now (mem .exit)) ≡ loadOf (config (space .layout)) (space .top) (now (mem .entry)) held (root .0) (address .0) width 0 ⌝ }
+{
+    Served {
+        held: held,
+        answer: Answer::Value {
+            word: read_bytes(mem, page, address.0, width),
+            references: space.layout.levels,
+            exits: 0,
+        },
+    }
+}
+
+// Any load, by its translation; the marks give the depth.
+fn load_translated(
+    mem: &mut [u64],
+    space: Space,
+    root: GuestPhysical,
+    held: Held,
+    address: GuestVirtual,
+    width: u64,
+    depth: u64,
+) -> Served
+    requires { ⌜ (LayoutFits (space .layout)) × (HeldFits (config (space .layout)) held) × (Inside (address .0) width) × (2 ≤ space .layout .levels) ⌝ }
+    ensures { λ r. ⌜ yields r (now (mem .exit)) ≡ loadOf (config (space .layout)) (space .top) (now (mem .entry)) held (root .0) (address .0) width (depthOf (config (space .layout)) (space .top) (now (mem .entry)) held (root .0) (address .0) depth) ⌝ }
+{
+    let request = Request {
+        store: false,
+        address: address,
+        depth: depth,
+    };
+    let t = reached(mem, space, root, held, request);
+    load_by(mem, space, root, held, t, address, width)
+}
+
+// A load whose marks give that depth: 11. Most are held, and what is held at the marks' depth says that no large page lies above it: they are
+// told here. Where one may, and for damage, the translation is asked in full.
 pub fn load(
     mem: &mut [u64],
     space: Space,
@@ -346,41 +504,37 @@ pub fn load(
     width: u64,
     depth: u64,
 ) -> Served
-    requires { ⌜ (LayoutFits (space .layout)) × (HeldFits (config (space .layout)) held) × (Inside (address .0) width) ⌝ }
-    ensures { λ r. ⌜ yields r (now (mem .exit)) ≡ loadOf (config (space .layout)) (space .top) (now (mem .entry)) held (root .0) (address .0) width depth ⌝ }
+    requires { ⌜ (LayoutFits (space .layout)) × (HeldFits (config (space .layout)) held) × (Inside (address .0) width) × (2 ≤ space .layout .levels) ⌝ }
+    ensures { λ r. ⌜ yields r (now (mem .exit)) ≡ loadOf (config (space .layout)) (space .top) (now (mem .entry)) held (root .0) (address .0) width (depthOf (config (space .layout)) (space .top) (now (mem .entry)) held (root .0) (address .0) depth) ⌝ }
 {
-    if depth <= space.layout.levels {
-        match path_held(mem, space.layout, held, false, address, depth) {
-            HostWalk::Found { page, writable } => {
-                if depth == 0 {
-                    return Served {
-                        held: held,
-                        answer: Answer::Value {
-                            word: read_bytes(mem, page, address.0, width),
-                            references: space.layout.levels,
-                            exits: 0,
-                        },
-                    };
-                }
-                return load_through(
-                    mem,
-                    space,
-                    root,
-                    held,
-                    address,
-                    width,
-                    depth,
-                    page,
-                    writable,
-                );
+    if space.layout.levels < depth {
+        return load_unserved(mem, space, root, held, address, width, depth);
+    }
+    match path_held(mem, space.layout, held, false, address, depth) {
+        HostWalk::Found { page, writable } => {
+            if depth == 0 {
+                return load_page(mem, space, root, held, address, width, page, writable);
             }
-            HostWalk::Absent { reads } => {}
-            HostWalk::Damaged => {
-                return refused(held, 11);
+            return load_through(
+                mem,
+                space,
+                root,
+                held,
+                address,
+                width,
+                depth,
+                page,
+                writable,
+            );
+        }
+        HostWalk::Absent { reads } => {
+            if !translate::may_turn(depth) {
+                return load_unserved(mem, space, root, held, address, width, depth);
             }
         }
+        HostWalk::Damaged => {}
     }
-    load_unserved(mem, space, root, held, address, width, depth)
+    load_translated(mem, space, root, held, address, width, depth)
 }
 
 // The bytes of a granted store are written, and what it says; put: what its drops left.
@@ -569,6 +723,45 @@ pub fn store_plainly(
     }
 }
 
+// A store whose held path leads to a page, or to a guest table in that frame.
+fn store_through(
+    mem: &mut [u64],
+    space: Space,
+    root: GuestPhysical,
+    held: Held,
+    address: GuestVirtual,
+    width: u64,
+    depth: u64,
+    value: u64,
+    page: HostPhysical,
+    writable: bool,
+) -> Served
+    requires { ⌜ (LayoutFits (space .layout)) × (HeldFits (config (space .layout)) held) × (Inside (address .0) width) × (depth ≤ space .layout .levels) × (pathHeldOf (config (space .layout)) (now mem) held true (address .0) depth ≡ host.Found page writable) ⌝ }
+    ensures { λ r. ⌜ yields r (now (mem .exit)) ≡ storeOf (config (space .layout)) (space .top) (now (mem .entry)) held (root .0) (address .0) width depth value ⌝ }
+{
+    let request = Request {
+        store: true,
+        address: address,
+        depth: depth,
+    };
+    if translate::bitless(space.layout, depth) {
+        let walked = translate::direct(mem, space, request, page, writable);
+        let exits = translate::exit_of(walked);
+        return stored(
+            mem,
+            space.layout,
+            held,
+            walked,
+            exits,
+            address.0,
+            width,
+            value,
+        );
+    }
+    let t = translate::through(mem, space, root, held, request, page, writable);
+    stored_by_bits(mem, space, root, held, t, address, width, value)
+}
+
 // Any store, by its translation; the paths whose shadow part read the word around its bytes are dropped: 11.
 fn store_translated(
     mem: &mut [u64],
@@ -580,45 +773,39 @@ fn store_translated(
     depth: u64,
     value: u64,
 ) -> Served
-    requires { ⌜ (LayoutFits (space .layout)) × (HeldFits (config (space .layout)) held) × (Inside (address .0) width) ⌝ }
-    ensures { λ r. ⌜ yields r (now (mem .exit)) ≡ storeOf (config (space .layout)) (space .top) (now (mem .entry)) held (root .0) (address .0) width depth value ⌝ }
+    requires { ⌜ (LayoutFits (space .layout)) × (HeldFits (config (space .layout)) held) × (Inside (address .0) width) × (2 ≤ space .layout .levels) ⌝ }
+    ensures { λ r. ⌜ yields r (now (mem .exit)) ≡ storeOf (config (space .layout)) (space .top) (now (mem .entry)) held (root .0) (address .0) width (depthOf (config (space .layout)) (space .top) (now (mem .entry)) held (root .0) (address .0) depth) value ⌝ }
 {
+    if depth <= space.layout.levels {
+        match path_held(mem, space.layout, held, true, address, depth) {
+            HostWalk::Found { page, writable } => {
+                return store_through(
+                    mem,
+                    space,
+                    root,
+                    held,
+                    address,
+                    width,
+                    depth,
+                    value,
+                    page,
+                    writable,
+                );
+            }
+            HostWalk::Absent { reads } => {}
+            HostWalk::Damaged => {}
+        }
+    }
     let request = Request {
         store: true,
         address: address,
         depth: depth,
     };
-    if depth <= space.layout.levels {
-        match path_held(mem, space.layout, held, true, address, depth) {
-            HostWalk::Found { page, writable } => {
-                if translate::bitless(space.layout, depth) {
-                    let walked = translate::direct(mem, space, request, page, writable);
-                    let exits = translate::exit_of(walked);
-                    return stored(
-                        mem,
-                        space.layout,
-                        held,
-                        walked,
-                        exits,
-                        address.0,
-                        width,
-                        value,
-                    );
-                }
-                let t = translate::through(mem, space, root, held, request, page, writable);
-                return stored_by_bits(mem, space, root, held, t, address, width, value);
-            }
-            HostWalk::Absent { reads } => {}
-            HostWalk::Damaged => {
-                return refused(held, 11);
-            }
-        }
-    }
-    let t = translate::unserved(mem, space, root, held, request);
+    let t = reached(mem, space, root, held, request);
     stored_by_bits(mem, space, root, held, t, address, width, value)
 }
 
-// A store, the common case first: 11.
+// A store whose marks give that depth, the common case first: 11.
 pub fn store(
     mem: &mut [u64],
     space: Space,
@@ -629,8 +816,8 @@ pub fn store(
     depth: u64,
     value: u64,
 ) -> Served
-    requires { ⌜ (LayoutFits (space .layout)) × (HeldFits (config (space .layout)) held) × (Inside (address .0) width) ⌝ }
-    ensures { λ r. ⌜ yields r (now (mem .exit)) ≡ storeOf (config (space .layout)) (space .top) (now (mem .entry)) held (root .0) (address .0) width depth value ⌝ }
+    requires { ⌜ (LayoutFits (space .layout)) × (HeldFits (config (space .layout)) held) × (Inside (address .0) width) × (2 ≤ space .layout .levels) ⌝ }
+    ensures { λ r. ⌜ yields r (now (mem .exit)) ≡ storeOf (config (space .layout)) (space .top) (now (mem .entry)) held (root .0) (address .0) width (depthOf (config (space .layout)) (space .top) (now (mem .entry)) held (root .0) (address .0) depth) value ⌝ }
 {
     if store_plainly(mem, space.layout, held, address, width, depth, value) {
         return Served {
@@ -642,38 +829,6 @@ pub fn store(
         };
     }
     store_translated(mem, space, root, held, address, width, depth, value)
-}
-
-// A load's or a store's translation, by the path held for it or without one.
-pub fn reached(
-    mem: &mut [u64],
-    space: Space,
-    root: GuestPhysical,
-    held: Held,
-    request: Request,
-) -> Translated
-    requires { ⌜ (LayoutFits (space .layout)) × (HeldFits (config (space .layout)) held) ⌝ }
-    ensures { λ r. ⌜ yields r (now (mem .exit)) ≡ translateOf (config (space .layout)) (space .top) (now (mem .entry)) held (root .0) (request .store) (request .address .0) (request .depth) ⌝ }
-{
-    if request.depth <= space.layout.levels {
-        match path_held(
-            mem,
-            space.layout,
-            held,
-            request.store,
-            request.address,
-            request.depth,
-        ) {
-            HostWalk::Found { page, writable } => {
-                return translate::through(mem, space, root, held, request, page, writable);
-            }
-            HostWalk::Absent { reads } => {}
-            HostWalk::Damaged => {
-                return translate::damaged(held);
-            }
-        }
-    }
-    translate::unserved(mem, space, root, held, request)
 }
 
 // A device's store at a guest-physical address: its host walk, then the bytes as for a store; no bits: 11.

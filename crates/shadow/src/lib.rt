@@ -88,7 +88,7 @@ fn watches(mem: &[u64], frame: u64, table: u64) -> bool
     if pool::level(mem, frame) == 0 {
         false
     } else {
-        pool::guest(mem, frame) == table
+        pool::stands_for(mem, frame, table)
     }
 }
 

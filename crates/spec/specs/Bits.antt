@@ -2,11 +2,10 @@
 -- shows the entries that it read, the top one first, and the guest frames whose mappings it used: the k-th entry lies in the table of the
 -- k-th frame. The walk itself reads neither bit.
 -- Assumes nothing.
-use Prim.Native.Nat.{ℕ, suc}
+use Prim.Native.Nat.{ℕ, pred}
 use mathlib.Core.Bool.{Bool, true, false, not, _&&_, _||_, cond}
 use mathlib.Core.List.{List, [], _∷_}
 use mathlib.Core.Option.{Option, none, some}
-use lib.ListN.{length}
 use Rattle.spec.specs.declared.Fault.{Fault}
 use Rattle.spec.specs.declared.Fault.the-variants.{HostReadOnly}
 use Rattle.spec.specs.Config.{Config}
@@ -42,17 +41,17 @@ abbrev pub mayWrite : Option Place → Bool
 mayWrite none = false
 mayWrite (some r) = r .1
 
--- the first entry, from the top level down, that lacks a bit and lies in a table that is mapped read-only: its level, and the guest frame
--- of the table
-unfoldable pub owed : World → Bool → List (ℕ × ℕ) → List ℕ → Option (ℕ × ℕ)
-owed w st [] gs = none
-owed w st (x ∷ xs) [] = none
-owed w st (x ∷ xs) (g ∷ gs) =
-    cond (hasBits (st && isLast xs) (w .wordAt (x .0) (x .1)) || mayWrite (w .hostAt g)) (owed w st xs gs) (some (suc (length xs), g))
+-- the first entry, from level n down, that lacks a bit and lies in a table that is mapped read-only: its level, and the guest frame of the
+-- table
+unfoldable pub owed : World → Bool → ℕ → List (ℕ × ℕ) → List ℕ → Option (ℕ × ℕ)
+owed w st n [] gs = none
+owed w st n (x ∷ xs) [] = none
+owed w st n (x ∷ xs) (g ∷ gs) =
+    cond (hasBits (st && isLast xs) (w .wordAt (x .0) (x .1)) || mayWrite (w .hostAt g)) (owed w st (pred n) xs gs) (some (n, g))
 
 -- what the walk r of a load or a store owes; nothing where bits are off
 unfoldable pub owes : Config → World → Bool → Trace Fault Place → Option (ℕ × ℕ)
-owes c w st r = cond (c .bits) (owed w st (r .reads) (r .uses)) none
+owes c w st r = cond (c .bits) (owed w st (c .levels) (r .reads) (r .uses)) none
 
 -- a request that owes a bit meets W with the table's guest frame, after all other checks: a fault of its walk stays
 abbrev pub judged : Option (ℕ × ℕ) → Result Fault Place → Result Fault Place

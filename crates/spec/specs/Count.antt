@@ -1,7 +1,7 @@
 -- What a call changes in the book, and what it costs. Document 01, "Marks and held paths" and "Counts";
--- document 02, 6) and 7).
+-- document 02, 6) to 8).
 -- Assumes nothing.
-use Prim.Native.Nat.{ℕ, zero, suc, _+_, _-_}
+use Prim.Native.Nat.{ℕ, zero, suc, _+_, _-_, _*_}
 use mathlib.Core.Bool.{Bool, true, false, not, _&&_, _||_, cond}
 use mathlib.Core.List.{List, _∷_}
 use mathlib.Core.Option.{Option, none, some}
@@ -12,7 +12,7 @@ use Rattle.spec.specs.Config.{Config}
 use Rattle.spec.specs.Entry.{wordOf}
 use Rattle.spec.specs.Prefix.{same, keep}
 use Rattle.spec.specs.Walk.{World, Trace, Result, granted, failed, trace}
-use Rattle.spec.specs.Plain.{Place, upper, shadowPart, directPart}
+use Rattle.spec.specs.Plain.{Place, isSpan, upper, shadowPart, directPart}
 use Rattle.spec.specs.Machine.{Machine, world}
 use Rattle.spec.specs.Bits.{owes, judged, dirtyAt}
 use Rattle.spec.specs.Book.{Held, Book, markAt, depth, find, holding, unmarking, fill, dropWord, dropMapping, dropAll, watched}
@@ -90,7 +90,20 @@ shadowed c w b st d is p held o s (granted r) = arrived c w b st d p held s r (t
 abbrev pub unshadowed : Book → ℕ → Result Fault Place → Counted
 unshadowed b n x = record { references = n; exits = hostExit x; book = b }
 
--- a load, or a store before its word is stored
+-- the depth where the walk down to level d came to this: 0 in a large page
+abbrev pub depthBy : Config → ℕ → Result Fault Place → ℕ
+depthBy c d (granted r) = cond (isSpan c (r .0)) 0 d
+depthBy c d (failed x) = d
+
+-- The depth of a request of an address whose marks give d: where its walk comes into a large page above the marked levels, 1 to d, the depth is
+-- 0, and its path has all N indexes (document 02, 8). It rests on guest words, then; a fault above those levels leaves it at d
+unfoldable pub depthIn : Config → Machine → ℕ → ℕ → ℕ
+depthIn c m a d = depthBy c d ((trace (world c m) (shadowPart c false d (m .root) (addressIndexes c a))) .result)
+
+abbrev pub requestDepth : Config → Machine → Book → ℕ → ℕ
+requestDepth c m b a = depthIn c m a (depth (b .marks) (addressIndexes c a))
+
+-- a load, or a store before its word is stored; d: the depth of the request
 unfoldable pub request : Config → Machine → Book → Bool → ℕ → ℕ → Counted
 request c m b st a d =
     let is : List ℕ = addressIndexes c a in
@@ -99,6 +112,11 @@ request c m b st a d =
     cond (leb d (c .levels))
     (shadowed c w b st d is (upper c d is) (serves st d (find (upper c d is) (b .held))) (owes c w st (plain c m st a)) s (s .result))
     (unshadowed b ((plain c m st a) .count) (verdict c m st a))
+
+-- what a granted request at depth d reads whose walk has k guest entries, N without large pages: N − d shadow entries, then the entries of its
+-- direct part, each with a host walk; at depth N + 1 the root's host walk and all the entries
+abbrev pub grantedReads : Config → ℕ → ℕ → ℕ
+grantedReads c d k = cond (leb d (c .levels)) ((c .levels - d) + (k - (c .levels - d)) * suc (c .levels)) (c .levels + k * suc (c .levels))
 
 -- a store that is granted, after its path is filled: one exit more if its frame is watched, then the paths that read the word are
 -- dropped. i: the word of the frame around the bytes that the store came to
@@ -123,10 +141,10 @@ bookStep c (map g f w) m b = free (holding b (dropMapping g (b .held)))
 bookStep c (unmap g) m b = free (holding b (dropMapping g (b .held)))
 bookStep c (setMark a n) m b = free (operated c (markAt c n (addressIndexes c a)) b)
 bookStep c (clearMark a n) m b = free (unmarking (markAt c n (addressIndexes c a)) b)
-bookStep c (load a w) m b = windowed c none (request c m b false a (depth (b .marks) (addressIndexes c a)))
+bookStep c (load a w) m b = windowed c none (request c m b false a (requestDepth c m b a))
 bookStep c (store a w v) m b =
     let r : Result Fault Place = verdict c m true a in
-    let k : Counted = request c m b true a (depth (b .marks) (addressIndexes c a)) in
+    let k : Counted = request c m b true a (requestDepth c m b a) in
     windowed c (chargeOf c (wordOf a) r (k .book .held)) (storing (wordOf a) r k)
 bookStep c (device a w v) m b =
     let r : Trace Fault Place = deviceWalk c m a in

@@ -22,3 +22,4 @@ pub mod Computing
 pub mod Guest
 pub mod GuestBits
 pub mod GuestChoice
+pub mod GuestLarge

@@ -10,9 +10,9 @@ use Rattle.spec.specs.Config.{Config}
 use Rattle.spec.specs.Prefix.{same, any, keep, distinct, tablesOf}
 use Rattle.spec.specs.Walk.{Result, granted, failed}
 use Rattle.spec.specs.Plain.{Place, upper}
-use Rattle.spec.specs.Book.{Mark, Held, depth, paths, watched}
+use Rattle.spec.specs.Book.{Held, paths, watched}
 use Rattle.spec.specs.Call.{Call, root, map, unmap, setMark, clearMark, load, store, device, forecast, addressIndexes, plain}
-use Rattle.spec.specs.Count.{isGranted, request}
+use Rattle.spec.specs.Count.{isGranted, requestDepth, request}
 use Rattle.spec.specs.Refusal.{allOf, refusal}
 use Rattle.spec.specs.Run.{State, step}
 
@@ -58,7 +58,7 @@ onlyGranted xs s = allOf grantedAt (met xs s)
 -- the paths that are held once a request is translated: those before it, and its own
 abbrev pub translated : State → Bool → ℕ → List Held
 translated s st a =
-    (request (s .config) (s .machine) (s .book) st a (depth (s .book .marks) (addressIndexes (s .config) a))) .book .held
+    (request (s .config) (s .machine) (s .book) st a (requestDepth (s .config) (s .machine) (s .book) a)) .book .held
 
 abbrev pub comesToWatched : List Held → Result Fault Place → Bool
 comesToWatched hs (granted p) = watched (p .0) hs
@@ -74,15 +74,12 @@ unwatchedAt (ends, s) = true
 unfoldable pub noneWatched : List Call → State → Bool
 noneWatched xs s = allOf unwatchedAt (met xs s)
 
--- the path of an address; at depth N + 1 it has none
-abbrev pub pathOf : Config → List Mark → ℕ → Option (List ℕ)
-pathOf c ms a =
-    let is : List ℕ = addressIndexes c a in
-    let d : ℕ = depth ms is in
-    cond (leb d (c .levels)) (some (upper c d is)) none
+-- the path of a request at depth d; at depth N + 1 it has none
+abbrev pub pathOf : Config → ℕ → ℕ → Option (List ℕ)
+pathOf c a d = cond (leb d (c .levels)) (some (upper c d (addressIndexes c a))) none
 
 abbrev pub pathAt : Role × State → Option (List ℕ)
-pathAt (asks st a, s) = pathOf (s .config) (s .book .marks) a
+pathAt (asks st a, s) = pathOf (s .config) a (requestDepth (s .config) (s .machine) (s .book) a)
 pathAt (rests, s) = none
 pathAt (ends, s) = none
 

@@ -19,7 +19,7 @@ use Rattle.spec.specs.Bits.{owed, owes, judged, dirtyAt, setBits, bitsSet}
 use Rattle.spec.specs.Book.{Book, depth, find, holding, fill}
 use Rattle.spec.specs.Choice.{chargeOf}
 use Rattle.spec.specs.Call.{Call, root, map, unmap, setMark, clearMark, load, store, device, forecast, Outcome, done, value, fault, addressIndexes, plain, verdict, deviceWalk, access, machineStep}
-use Rattle.spec.specs.Count.{Counted, one, hostExit, isGranted, serves, heldBy, lateExit, arrived, shadowed, unshadowed, request, storing, windowed, bookStep}
+use Rattle.spec.specs.Count.{Counted, one, hostExit, isGranted, serves, heldBy, lateExit, arrived, shadowed, unshadowed, requestDepth, request, storing, windowed, bookStep}
 
 -- ---- the rules without bits
 
@@ -50,10 +50,10 @@ bookBefore c (map g f w) m b = bookStep c (map g f w) m b
 bookBefore c (unmap g) m b = bookStep c (unmap g) m b
 bookBefore c (setMark a n) m b = bookStep c (setMark a n) m b
 bookBefore c (clearMark a n) m b = bookStep c (clearMark a n) m b
-bookBefore c (load a w) m b = windowed c none (requestBefore c m b false a (depth (b .marks) (addressIndexes c a)))
+bookBefore c (load a w) m b = windowed c none (requestBefore c m b false a (requestDepth c m b a))
 bookBefore c (store a w v) m b =
     let r : Result Fault Place = (plain c m true a) .result in
-    let k : Counted = requestBefore c m b true a (depth (b .marks) (addressIndexes c a)) in
+    let k : Counted = requestBefore c m b true a (requestDepth c m b a) in
     windowed c (chargeOf c (wordOf a) r (k .book .held)) (storing (wordOf a) r k)
 bookBefore c (device a w v) m b =
     let r : Trace Fault Place = deviceWalk c m a in
@@ -80,7 +80,7 @@ machineBefore c (forecast xs) m = machineStep c (forecast xs) m
 
 pub off-owes : (c : Config) (w : World) (st : Bool) (r : Trace Fault Place) → c .bits ≡ false → owes c w st r ≡ none
 unfolding owes
-off-owes c w st r off = ap (λ b. cond b (owed w st (r .reads) (r .uses)) none) off
+off-owes c w st r off = ap (λ b. cond b (owed w st (c .levels) (r .reads) (r .uses)) none) off
 
 -- who owes nothing gets what the walk came to
 pub judged-none : (x : Result Fault Place) → judged none x ≡ x
@@ -170,9 +170,9 @@ off-book c (map g f w) m b off = refl
 off-book c (unmap g) m b off = refl
 off-book c (setMark a n) m b off = refl
 off-book c (clearMark a n) m b off = refl
-off-book c (load a w) m b off = ap (windowed c none) (off-request c m b false a (depth (b .marks) (addressIndexes c a)) off)
+off-book c (load a w) m b off = ap (windowed c none) (off-request c m b false a (requestDepth c m b a) off)
 off-book c (store a w v) m b off =
     ap₂ (λ r k. windowed c (chargeOf c (wordOf a) r (k .book .held)) (storing (wordOf a) r k)) (off-verdict c m true a off)
-    (off-request c m b true a (depth (b .marks) (addressIndexes c a)) off)
+    (off-request c m b true a (requestDepth c m b a) off)
 off-book c (device a w v) m b off = refl
 off-book c (forecast xs) m b off = refl

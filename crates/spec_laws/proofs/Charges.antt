@@ -1,9 +1,10 @@
 -- What a store is charged to: a prefix of N − 1 indexes that carries no mark.
 -- Assumes nothing.
 use mathlib.Core.Path.{_≡_, refl, sym, ap, subst}
-use Prim.Native.Nat.{ℕ, zero, suc, _-_, max, _≤_}
+use Prim.Native.Nat.{ℕ, zero, suc, _-_, max, _<_, _≤_}
 use native.Mathlib.Omega.{arith}
 use mathlib.Core.Bool.{Bool, true, false, not, _&&_, _||_, cond}
+use mathlib.Core.Logic.{inl, inr}
 use mathlib.Core.List.{List, [], _∷_}
 use mathlib.Core.Option.{Option, none, some}
 use lib.Dec.{T, eqb, eqb→eq}
@@ -41,34 +42,43 @@ pub leaf-all : (c : Config) (P : List ℕ → Type 0) (hs : List Held) → All (
 leaf-all c P [] a = tt
 leaf-all c P (h ∷ hs) a = (a .0, leaf-all c P hs (a .1))
 
--- what every prefix of a held path of N indexes has, the charge has
+-- what is left of a list past k members has one only if the list is longer
+past-long : {A : Type 0} (f : A → Bool) (k : ℕ) (xs : List A) → T (any f (drop k xs)) → k < length xs
+past-long f zero [] h = absurd h
+past-long f zero (x ∷ xs) h = omega arith
+past-long f (suc k) [] h = absurd h
+past-long f (suc k) (x ∷ xs) h = let l = past-long f k xs h in omega (arith, l)
+
+-- what every prefix of a held path of N indexes has whose walk read N entries, the charge has
 pub charge-has : (c : Config) (P : List ℕ → Type 0) (Q : Held → Type 0) (i : ℕ) (r : Result Fault Place) (hs : List Held)
-    → ((h : Held) → Q h → length (h .path) ≡ c .levels → P (take (c .levels - 1) (h .path))) → All Q hs → IfSome P (chargeOf c i r hs)
+    → ((h : Held) → Q h → length (h .path) ≡ c .levels → c .levels - 1 < length (h .reads) → P (take (c .levels - 1) (h .path)))
+    → All Q hs → IfSome P (chargeOf c i r hs)
 unfolding chargeOf
 charge-has c P Q i (failed x) hs f a = tt
 charge-has c P Q i (granted p) hs f a =
     first-has P lower (leafPrefixes c (keep (readsLeaf c (p .0) i) hs)) (leaf-all c P (keep (readsLeaf c (p .0) i) hs)
     (all-map (λ h. Q h × T (readsLeaf c (p .0) i h)) (λ (h : Held). P (take (c .levels - 1) (h .path))) (keep (readsLeaf c (p .0) i) hs)
-    (λ h k. f h (k .0) (eqb→eq (length (h .path)) (c .levels) (and-left (eqb (length (h .path)) (c .levels)) _ (k .1))))
+    (λ h k. f h (k .0) (eqb→eq (length (h .path)) (c .levels) (and-left (eqb (length (h .path)) (c .levels)) _ (k .1)))
+    (past-long _ (c .levels - 1) (h .reads) (and-right (eqb (length (h .path)) (c .levels)) _ (k .1))))
     (all-keep Q (readsLeaf c (p .0) i) hs a)))
 
 pub charge-long : (c : Config) (i : ℕ) (r : Result Fault Place) (hs : List Held) → IfSome (λ p. length p ≡ c .levels - 1) (chargeOf c i r hs)
 charge-long c i r hs =
-    charge-has c (λ p. length p ≡ c .levels - 1) (λ h. Unit {0}) i r hs (λ h q l. length-take-le (c .levels - 1) (h .path) (omega arith)) (all-any (λ h. Unit {0}) hs (λ h. tt))
+    charge-has c (λ p. length p ≡ c .levels - 1) (λ h. Unit {0}) i r hs (λ h q l z. length-take-le (c .levels - 1) (h .path) (omega arith)) (all-any (λ h. Unit {0}) hs (λ h. tt))
 
 -- every address under a charged prefix has depth 0: it carries no mark of any level
 abbrev pub Bare : List Mark → List ℕ → Type 0
 Bare ms p = (is : List ℕ) → T (begins p is) → depth ms is ≡ 0
 
 pub charge-bare : (c : Config) (ms : List Mark) (i : ℕ) (r : Result Fault Place) (hs : List Held) → All (MarkFits (c .levels)) ms
-    → All (λ (h : Held). PathFits (c .levels) ms (h .path)) hs → IfSome (Bare ms) (chargeOf c i r hs)
-charge-bare c ms i r hs ok a = charge-has c (Bare ms) (λ h. PathFits (c .levels) ms (h .path)) i r hs bare a
+    → All (λ (h : Held). PathFits (c .levels) ms (h .path) (length (h .reads))) hs → IfSome (Bare ms) (chargeOf c i r hs)
+charge-bare c ms i r hs ok a = charge-has c (Bare ms) (λ h. PathFits (c .levels) ms (h .path) (length (h .reads))) i r hs bare a
   where
-    bare : (h : Held) → PathFits (c .levels) ms (h .path) → length (h .path) ≡ c .levels → Bare ms (take (c .levels - 1) (h .path))
-    bare h f l is t =
+    bare : (h : Held) → PathFits (c .levels) ms (h .path) (length (h .reads)) → length (h .path) ≡ c .levels → c .levels - 1 < length (h .reads) → Bare ms (take (c .levels - 1) (h .path))
+    bare h f l z is t =
         let n = c .levels in
         let p = h .path in
-        let at : f .at ≡ 0 = omega (arith, f .low, f .long) in
+        let at : f .at ≡ 0 = elim (f .long) [ inl x ↦ omega (arith, l, x .0, x .1) | inr x ↦ omega (arith, z, x .1) ] in
         let d = f .deep p (begins-refl p) in
         let k : length (take (n - 1) p) ≡ n - 1 = length-take-le (n - 1) p (omega arith) in
         let e : take (n - 1) is ≡ take (n - 1) p = rw k at (begins-is (take (n - 1) p) is t) in

@@ -16,12 +16,12 @@ use Rattle.spec.specs.Config.{Config, guestBase, frameBits}
 use Rattle.spec.specs.Entry.{accessed, pageOf, wordOf}
 use Rattle.spec.specs.Prefix.{All, begins}
 use Rattle.spec.specs.Walk.{done, _>>_, World, Trace, Result, granted, failed, trace}
-use Rattle.spec.specs.Plain.{Place, must, hosted, upper, walk}
+use Rattle.spec.specs.Plain.{Place, isSpan, must, hosted, upper, walk}
 use Rattle.spec.specs.Machine.{Machine, Mapping, world, place, wordIn, stored, remapped, lookup, with, without}
 use Rattle.spec.specs.Bits.{lacks, dirtyAt, bitsSet}
 use Rattle.spec.specs.Book.{Held, Book, markAt, depth, readsWord, usesMapping, dropMapping, dropWord}
 use Rattle.spec.specs.Call.{Call, root, map, unmap, setMark, clearMark, load, store, device, forecast, addressIndexes, plain, verdict, deviceWalk, access, machineStep}
-use Rattle.spec.specs.Count.{Counted, isGranted, heldBy, rightOf, others, request, storing, bookStep, unshadowed}
+use Rattle.spec.specs.Count.{Counted, isGranted, heldBy, rightOf, others, requestDepth, request, storing, bookStep, unshadowed}
 use Rattle.spec.specs.Refusal.{refusal}
 use Rattle.spec.specs.Run.{State, answered, step}
 use Rattle.spec_laws.proofs.Lists.{all-map, all-any, all-both, all-keep, all-kept, all-left, none-passes, and-second}
@@ -35,7 +35,7 @@ use Rattle.spec_laws.proofs.Choice.{observed-held, operated-held}
 use Rattle.spec_laws.proofs.Counts.{shadowOf, directOf, verdict-granted}
 use Rattle.spec_laws.proofs.Refill.{others-all}
 use Rattle.spec_laws.proofs.Runs.{fill-all, request-book}
-use Rattle.spec_laws.proofs.Keeps.{again, Valid, InGuestArea, MappedIn, shadow-asked, plain-in, places, differ, store-keeps, lookup-without, lookup-with, mapping-keeps, upper-small, upper-long, fill-valid}
+use Rattle.spec_laws.proofs.Keeps.{again, Valid, InGuestArea, MappedIn, shadow-asked, plain-in, depth-real, places, differ, store-keeps, lookup-without, lookup-with, mapping-keeps, upper-small, upper-long, fill-valid}
 use Rattle.spec_laws.proofs.SetBits.{MoreBits, bits-more, more-keep, Placed, bits-lacks, lacks-five, lacks-six}
 
 pub record Covered (c : Config) (m : Machine) (h : Held) : Type 0 where
@@ -122,7 +122,7 @@ store-stands c m t i v h f bt bi s nr =
 
 -- whose shadow part came to r
 module _ (c : Config) (m : Machine) (st : Bool) (a d : ℕ) (r : Place) (f : MachineFits c m) (low : d ≤ c .levels)
-    (comes : (shadowOf c m st a d) .result ≡ granted r) where
+    (comes : (shadowOf c m st a d) .result ≡ granted r) (real : isSpan c (r .0) ≡ false) where
   abbrev part : Trace Fault Place
   part = shadowOf c m st a d
 
@@ -134,7 +134,7 @@ module _ (c : Config) (m : Machine) (st : Bool) (a d : ℕ) (r : Place) (f : Mac
   new = heldBy (upper c d (addressIndexes c a)) part (rightOf c (world c m) st d part (r .1))
 
   new-valid : Valid c m new
-  new-valid = fill-valid c m st d (upper c d (addressIndexes c a)) r (upper-small c d a) (upper-long c d a) comes
+  new-valid = fill-valid c m st d (upper c d (addressIndexes c a)) r (upper-small c d a) (upper-long c d a) comes real
 
   read-in : All (Placed c m) ((plain c m st a) .reads)
   unfolding plain
@@ -178,9 +178,10 @@ abbrev pub left : Machine → Machine → Result Fault Place → Machine
 left m n (failed x) = m
 left m n (granted p) = n
 
-pub request-stands : (c : Config) (m : Machine) (b : Book) (st : Bool) (a d : ℕ) → MachineFits c m → All (Stands c m) (b .held)
+pub request-stands : (c : Config) (m : Machine) (b : Book) (st : Bool) (a d : ℕ) → MachineFits c m
+    → ((r : Place) → (shadowOf c m st a d) .result ≡ granted r → isSpan c (r .0) ≡ false) → All (Stands c m) (b .held)
     → All (Stands c (left m (bitsSet c st m (plain c m st a)) (verdict c m st a))) ((request c m b st a d) .book .held)
-request-stands c m b st a d f old = go (verdict c m st a) refl
+request-stands c m b st a d f real old = go (verdict c m st a) refl
   where
     p : List ℕ
     p = upper c d (addressIndexes c a)
@@ -194,13 +195,13 @@ request-stands c m b st a d f old = go (verdict c m st a) refl
         let kept = all-map (Stands c m) (Stands c k) (b .held) (λ h z. more-stands c m k h more z) old in
         request-book (λ y. All (Stands c k) (y .held)) c m b st a d kept
         (λ r l z g. fill-all (Stands c k) c _ (others c p (b .held))
-        (more-keep c m k _ more (new-valid c m st a d r f l z), new-covered c m st a d r f l z) (others-all (Stands c k) c p (b .held) kept))
+        (more-keep c m k _ more (new-valid c m st a d r f l z (real r z)), new-covered c m st a d r f l z (real r z)) (others-all (Stands c k) c p (b .held) kept))
     go (failed x) e =
         request-book (λ y. All (Stands c m) (y .held)) c m b st a d old
         (λ r l z g.
         let off : c .bits ≡ true → ⊥ = λ on. false≢true (sym (ap isGranted e) ∙ g on) in
         fill-all (Stands c m) c _ (others c p (b .held))
-        (new-valid c m st a d r f l z, record { five = λ on. absurd (off on); six = λ on. absurd (off on) }) (others-all (Stands c m) c p (b .held) old))
+        (new-valid c m st a d r f l z (real r z), record { five = λ on. absurd (off on); six = λ on. absurd (off on) }) (others-all (Stands c m) c p (b .held) old))
 
 -- ---- a granted store, the device's too: the word, then the drops
 
@@ -237,7 +238,7 @@ call-stands c m b x f old = by x
 
     -- the request of a load or a store
     asks : Bool → ℕ → Counted
-    asks st a = request c m b st a (depth (b .marks) (addressIndexes c a))
+    asks st a = request c m b st a (requestDepth c m b a)
 
     noted : Bool → ℕ → Machine
     noted st a = bitsSet c st m (plain c m st a)
@@ -265,8 +266,8 @@ call-stands c m b x f old = by x
     by (unmap g) = remaps (without g (m .mappings)) g (λ j n. lookup-without g j (m .mappings) n)
     by (setMark a n) = operated-held (Stands c m) c (markAt c n (addressIndexes c a)) b old
     by (clearMark a n) = all-kept (Stands c m) (λ h. not (begins (markAt c n (addressIndexes c a) .prefix) (h .path))) (b .held) old
-    by (load a w) = observed-held _ c none _ (loads a w (verdict c m false a) (request-stands c m b false a (depth (b .marks) (addressIndexes c a)) f old))
-    by (store a w v) = observed-held _ c _ _ (stores a w v (verdict c m true a) refl (request-stands c m b true a (depth (b .marks) (addressIndexes c a)) f old))
+    by (load a w) = observed-held _ c none _ (loads a w (verdict c m false a) (request-stands c m b false a (requestDepth c m b a) f (depth-real c m a _ (f .mapped) (f .root) false) old))
+    by (store a w v) = observed-held _ c _ _ (stores a w v (verdict c m true a) refl (request-stands c m b true a (requestDepth c m b a) f (depth-real c m a _ (f .mapped) (f .root) true) old))
     by (device a w v) = devices a w v (unshadowed b ((deviceWalk c m a) .count) ((deviceWalk c m a) .result)) ((deviceWalk c m a) .result) refl old
     by (forecast xs) = old
 

@@ -5,6 +5,7 @@ use Prim.Native.Nat.{ℕ, zero, suc, _-_, max, _<_, _≤_}
 use native.Mathlib.Nat.{le-of-suc-le-suc, not-suc-le-zero}
 use native.Mathlib.Omega.{arith}
 use mathlib.Core.Bool.{Bool, true, false, not, _&&_, cond}
+use mathlib.Core.Logic.{_⊎_, inl, inr}
 use mathlib.Core.List.{List, [], _∷_}
 use lib.Dec.{T, eqb, eqb→eq, leb, leb→le, nleb→lt}
 use lib.ListN.{length, take}
@@ -97,30 +98,63 @@ depth-same n ms is js ok h = go (depth ms is) refl
         let a = depth-above n d is js (subst (λ x. take (n - x) is ≡ take (n - x) js) e h) ms ok in
         omega arith
 
--- a path of depth d: every address that begins with it has that depth
-pub record PathFits (n : ℕ) (ms : List Mark) (p : List ℕ) : Type 0 where
+-- a held path whose walk read k guest entries: every address that begins with it has one depth by the marks. It keeps the indexes above that
+-- depth; or it has all n, and its walk, into a large page, read no entry of a marked level
+pub record PathFits (n : ℕ) (ms : List Mark) (p : List ℕ) (k : ℕ) : Type 0 where
   pub at : ℕ
-  pub low : at ≤ n
-  pub long : length p ≡ n - at
+  pub long : ((at ≤ n) × (length p ≡ n - at)) ⊎ ((length p ≡ n) × (k ≤ n - at))
   pub deep : (is : List ℕ) → T (begins p is) → depth ms is ≡ at
 
--- no such path is a proper prefix of another
-pub no-proper-prefix : (n : ℕ) (ms : List Mark) (p q : List ℕ) → PathFits n ms p → PathFits n ms q → T (begins p q) → p ≡ q
-no-proper-prefix n ms p q f g h =
-    let a = f .deep q h in
-    let b = g .deep q (begins-refl q) in
-    let l : length p ≡ length q = f .long ∙ ap (λ x. n - x) (sym a ∙ b) ∙ sym (g .long) in
-    sym (begins-is p q h) ∙ ap (λ k. take k q) l ∙ begins-is q q (begins-refl q)
+begins-long : (p q : List ℕ) → T (begins p q) → length p ≤ length q
+begins-long [] q h = omega arith
+begins-long (x ∷ p) [] h = absurd h
+begins-long (x ∷ p) (y ∷ q) h = let l = begins-long p q (and-right (eqb x y) (begins p q) h) in omega (arith, l)
+
+-- no such path is a proper prefix of another, if the walk of that would read an entry more
+pub no-proper-prefix : (n : ℕ) (ms : List Mark) (p q : List ℕ) (j k : ℕ) → PathFits n ms p j → PathFits n ms q k
+    → (T (begins p q) → length p < length q → length p < k) → T (begins p q) → p ≡ q
+no-proper-prefix n ms p q j k f g beyond h = sym (begins-is p q h) ∙ ap (λ x. take x q) (same (f .long) (g .long)) ∙ begins-is q q (begins-refl q)
+  where
+    alike : f .at ≡ g .at
+    alike = sym (f .deep q h) ∙ g .deep q (begins-refl q)
+
+    most : length p ≤ length q
+    most = begins-long p q h
+
+    same : ((f .at ≤ n) × (length p ≡ n - f .at)) ⊎ ((length p ≡ n) × (j ≤ n - f .at))
+        → ((g .at ≤ n) × (length q ≡ n - g .at)) ⊎ ((length q ≡ n) × (k ≤ n - g .at)) → length p ≡ length q
+    same (inl x) (inl y) = omega (arith, x .1, y .1, alike)
+    same (inr x) (inl y) = omega (arith, x .0, y .1, most)
+    same (inr x) (inr y) = x .0 ∙ sym (y .0)
+    same (inl x) (inr y) = go (leb (length q) (length p)) refl
+      where
+        go : (b : Bool) → leb (length q) (length p) ≡ b → length p ≡ length q
+        go true e = let l = leb→le (length q) (length p) (subst T (sym e) tt) in omega (arith, l, most)
+        go false e =
+            let l = nleb→lt (length q) (length p) (subst (λ b. T (not b)) (sym e) tt) in
+            let z = beyond h l in
+            absurd (omega (arith, z, x .1, y .1, alike))
 
 -- a path that is filled is one
-pub fill-fits : (n : ℕ) (ms : List Mark) (is : List ℕ) → All (MarkFits n) ms → length is ≡ n → depth ms is ≤ n → PathFits n ms (take (n - depth ms is) is)
-fill-fits n ms is ok l b =
+pub fill-fits : (n : ℕ) (ms : List Mark) (is : List ℕ) (k : ℕ) → All (MarkFits n) ms → length is ≡ n → depth ms is ≤ n → PathFits n ms (take (n - depth ms is) is) k
+fill-fits n ms is k ok l b =
     let e : length (take (n - depth ms is) is) ≡ n - depth ms is = length-take-le (n - depth ms is) is (omega arith) in
-    record { at = depth ms is; low = b; long = e; deep = λ js h. depth-same n ms is js ok (sym (rw e at (begins-is (take (n - depth ms is) is) js h))) }
+    record { at = depth ms is; long = inl (b, e); deep = λ js h. depth-same n ms is js ok (sym (rw e at (begins-is (take (n - depth ms is) is) js h))) }
+
+-- and so is one of a large page above the marked levels
+pub large-fits : (n : ℕ) (ms : List Mark) (is : List ℕ) (k : ℕ) → All (MarkFits n) ms → length is ≡ n → k ≤ n - depth ms is → PathFits n ms is k
+large-fits n ms is k ok l b = record {
+  at = depth ms is;
+  long = inr (l, b);
+  deep = λ js h.
+      let e : take n js ≡ is = subst (λ x. take x js ≡ is) l (begins-is is js h) in
+      let a : take n is ≡ is = subst (λ x. take x is ≡ is) l (begins-is is is (begins-refl is)) in
+      depth-same n ms is js ok (take-less n (n - depth ms is) is js (omega arith) (a ∙ sym e));
+}
 
 -- ---- a mark is set or cleared: a path that does not begin with its prefix is as deep as it was
 
-module _ (n : ℕ) (ms : List Mark) (p : List ℕ) (f : PathFits n ms p) where
+module _ (n : ℕ) (ms : List Mark) (p : List ℕ) (k : ℕ) (f : PathFits n ms p k) where
   -- a mark whose prefix the path does not begin with has a lower level wherever it counts
   lower-mark : (m : Mark) (is : List ℕ) → MarkFits n m → (T (begins (m .prefix) p) → ⊥) → T (begins p is) → T (begins (m .prefix) is) → m .level < f .at
   lower-mark m is ok off hp hm = go (leb (length (m .prefix)) (length p)) refl
@@ -129,7 +163,7 @@ module _ (n : ℕ) (ms : List Mark) (p : List ℕ) (f : PathFits n ms p) where
       go true e = absurd (off (begins-both (m .prefix) p is hm hp (leb→le (length (m .prefix)) (length p) (subst T (sym e) tt))))
       go false e =
           let l = nleb→lt (length (m .prefix)) (length p) (subst (λ b. T (not b)) (sym e) tt) in
-          omega (arith, ok .kept, f .long, f .low)
+          elim (f .long) [ inl x ↦ omega (arith, l, ok .kept, x .0, x .1) | inr x ↦ absurd (omega (arith, l, ok .kept, x .0)) ]
 
   level-low : (m : Mark) (is : List ℕ) → MarkFits n m → (T (begins (m .prefix) p) → ⊥) → T (begins p is) → levelFor m is ≤ f .at - 1
   level-low m is ok off hp = go (begins (m .prefix) is) refl
@@ -138,10 +172,9 @@ module _ (n : ℕ) (ms : List Mark) (p : List ℕ) (f : PathFits n ms p) where
       go true e = let l = lower-mark m is ok off hp (subst T (sym e) tt) in omega arith
       go false e = omega arith
 
-  pub set-fits : (m : Mark) → MarkFits n m → (T (begins (m .prefix) p) → ⊥) → PathFits n (m ∷ ms) p
+  pub set-fits : (m : Mark) → MarkFits n m → (T (begins (m .prefix) p) → ⊥) → PathFits n (m ∷ ms) p k
   set-fits m ok off = record {
     at = f .at;
-    low = f .low;
     long = f .long;
     deep = λ is h. let a = f .deep is h in let b = level-low m is ok off h in omega arith;
   }
@@ -162,13 +195,12 @@ module _ (n : ℕ) (ms : List Mark) (p : List ℕ) (f : PathFits n ms p) where
           let l = level-low m is (ok .0) (off .0 (subst (λ b. T (not b)) (sym e) tt)) hp in
           (omega (arith, ih .0), omega (arith, ih .1))
 
-  pub clear-fits : (q : Mark → Bool) → All (MarkFits n) ms → All (λ m. T (not (q m)) → T (begins (m .prefix) p) → ⊥) ms → PathFits n (keep q ms) p
+  pub clear-fits : (q : Mark → Bool) → All (MarkFits n) ms → All (λ m. T (not (q m)) → T (begins (m .prefix) p) → ⊥) ms → PathFits n (keep q ms) p k
   clear-fits q ok off = record {
     at = f .at;
-    low = f .low;
     long = f .long;
     deep = λ is h.
         let a = f .deep is h in
-        let k = kept-depth q ms is ok off h in
-        omega (arith, k .0, k .1);
+        let z = kept-depth q ms is ok off h in
+        omega (arith, z .0, z .1);
   }

@@ -8,7 +8,7 @@ use borrow.Author.Tests.{eq-eqb, eqb-true, eqb-false}
 use lib.Dec.{eqb, ltb}
 use lib.Pow.{shr-shr}
 use Rattle.spec.specs.Config.{Config, frameBits}
-use Rattle.spec.specs.Entry.{bitSet, present, writable, frameOf, malformed, accessed, dirty, withBit}
+use Rattle.spec.specs.Entry.{bitSet, present, writable, frameOf, large, framesBelow, malformed, accessed, dirty, withBit}
 use Rattle.spec.specs.Bits.{hasBits, withBits}
 use Rattle.spec_laws.proofs.Lists.{and-first, and-second}
 
@@ -40,12 +40,18 @@ pub frame-alike : (e f : ℕ) → AlikeWord e f → frameOf f ≡ frameOf e
 unfolding frameOf
 frame-alike e f h = ap (λ (x : ℕ). x % 2 ^ 40) (above-alike e f h)
 
+pub large-alike : (n e f : ℕ) → AlikeWord e f → large n f ≡ large n e
+unfolding large bitSet
+large-alike n e f h = ap (λ (x : ℕ). ltb 1 n && (ltb n 4 && eqb (x % 2) 1)) (h .high)
+
 pub malformed-alike : (c : Config) (n e f : ℕ) → AlikeWord e f → malformed c n f ≡ malformed c n e
 unfolding malformed bitSet
 malformed-alike c n e f h =
     let b = frameBits c in
     let top : f / 2 ^ (12 + b) ≡ e / 2 ^ (12 + b) = sym (shr-shr f 12 b) ∙ ap (λ (x : ℕ). x / 2 ^ b) (above-alike e f h) ∙ shr-shr e 12 b in
-    ap₂ (λ (x y : ℕ). not (eqb (x % 2 ^ (40 - b)) 0) || (ltb 1 n && eqb (y % 2) 1)) top (h .high)
+    ap₂ (λ (x y : ℕ). not (eqb (x % 2 ^ (40 - b)) 0) || ((ltb 3 n && eqb (y % 2) 1) || (large n f && not (eqb (frameOf f % framesBelow n) 0)))) top (h .high)
+    ∙ ap₂ (λ x (y : ℕ). not (eqb (e / 2 ^ (12 + b) % 2 ^ (40 - b)) 0) || ((ltb 3 n && eqb (e / 128 % 2) 1) || (x && not (eqb (y % framesBelow n) 0))))
+    (large-alike n e f h) (frame-alike e f h)
 
 -- ---- setting a bit
 

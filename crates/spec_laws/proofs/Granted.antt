@@ -1,10 +1,10 @@
 -- What a granted walk did, level by level; and that a granted store walks as a load does.
 -- Assumes nothing.
-use mathlib.Core.Path.{_≡_, refl, sym, ap, ap₂, _∙_}
-use Prim.Native.Nat.{ℕ, pred}
-use native.Mathlib.Nat.{add-zero}
+use mathlib.Core.Path.{_≡_, refl, sym, ap, ap₂, _∙_, subst}
+use Prim.Native.Nat.{ℕ, pred, _+_, _*_}
+use native.Mathlib.Nat.{add-zero, zero-add}
 use native.Mathlib.Omega.{arith}
-use mathlib.Core.Bool.{Bool, true, false, not, _&&_, _||_}
+use mathlib.Core.Bool.{Bool, true, false, not, _&&_, _||_, cond}
 use mathlib.Core.List.{List, [], _∷_}
 use mathlib.Core.Option.{Option, none, some}
 use borrow.Author.Tests.{eq-eqb, not-true}
@@ -13,9 +13,9 @@ use lib.ListN.{length}
 use Rattle.spec.specs.declared.Fault.{Fault}
 use Rattle.spec.specs.declared.Fault.the-variants.{Protected, HostReadOnly}
 use Rattle.spec.specs.Config.{Config}
-use Rattle.spec.specs.Entry.{present, writable, frameOf, malformed}
+use Rattle.spec.specs.Entry.{present, writable, frameOf, large, framesBelow, malformed}
 use Rattle.spec.specs.Walk.{Walk, done, _>>=_, _>>_, World, Trace, Result, granted, failed, trace}
-use Rattle.spec.specs.Plain.{Place, must, mapped, hosted, entry, next, levels, walk}
+use Rattle.spec.specs.Plain.{Place, Lead, to, into, span, isSpan, firstFrame, must, mapped, hosted, entry, next, entryLead, spanLead, onward, turn, levels, walk}
 use Rattle.spec_laws.proofs.Lists.{and-first, and-second}
 use Rattle.spec_laws.proofs.Bind.{andThen, onto, more, trace-bind}
 
@@ -75,15 +75,14 @@ hosted-granted w g r h =
     let s = mapped-granted w g (w .hostAt g) r h in
     (s .0, ap (more (w .hostCost g) [] (g ∷ [])) (s .1) ∙ ap (λ n. ran n [] (g ∷ []) r) (add-zero (w .hostCost g)))
 
-pub entry-granted : (w : World) (c : Config) (n t i : ℕ) (e : ℕ × Bool) → (trace w (entry c n t i)) .result ≡ granted e
-    → (trace w (entry c n t i) ≡ ran 1 ((t, i) ∷ []) [] e) × (e ≡ (frameOf (w .wordAt t i), writable (w .wordAt t i)))
-    × (malformed c n (w .wordAt t i) ≡ false)
+pub entry-granted : (w : World) (c : Config) (n t i e : ℕ) → (trace w (entry c n t i)) .result ≡ granted e
+    → (trace w (entry c n t i) ≡ ran 1 ((t, i) ∷ []) [] e) × (e ≡ w .wordAt t i) × (malformed c n (w .wordAt t i) ≡ false)
 unfolding entry trace
 entry-granted w c n t i e h =
     let x = w .wordAt t i in
     let a = must-granted w (present x) _ _ e h in
     let b = must-granted w (not (malformed c n x)) _ _ e (a .1) in
-    let q : (frameOf x, writable x) ≡ e = granted-is (frameOf x, writable x) e (b .1) in
+    let q : x ≡ e = granted-is x e (b .1) in
     (ap (more 1 ((t, i) ∷ []) []) (a .2 ∙ b .2) ∙ ap (ran 1 ((t, i) ∷ []) []) q, sym q, not-true (malformed c n x) (b .0))
 
 -- past the host walk of an entry's frame
@@ -120,40 +119,91 @@ next-granted w st true g v r h =
     (ap (λ x. x .0) y, z .2 ∙ ap (ran 0 [] []) y)) (m .1) in
     record { right = a .0; found = a .1; whole = m .2 ∙ a .2 }
 
+-- ---- one level
+
+-- the words that one level reads, from the table or span t by index i, and where it leads
+abbrev pub levelReads : Config → ℕ → ℕ → List (ℕ × ℕ)
+levelReads c t i = cond (isSpan c t) [] ((t, i) ∷ [])
+
+abbrev pub leadAt : World → Config → ℕ → ℕ → ℕ → Lead
+leadAt w c n t i = cond (isSpan c t) (spanLead c n t i) (entryLead n (w .wordAt t i))
+
+-- the mappings that a lead uses, and what they cost
+abbrev pub leadUses : Lead → List ℕ
+leadUses (to g) = g ∷ []
+leadUses (into g) = []
+
+abbrev pub leadCost : World → Lead → ℕ
+leadCost w (to g) = w .hostCost g
+leadCost w (into g) = 0
+
+-- a place that a lead comes to
+abbrev pub Reaches : World → Config → Lead → Place → Type 0
+Reaches w c (to g) r = (right : Bool) × (w .hostAt g ≡ some (r .0, right))
+Reaches w c (into g) r = r .0 ≡ span c g
+
+onward-granted : (w : World) (c : Config) (st : Bool) (n : ℕ) (x : Lead) (v : Bool) (r : Place) → (trace w (onward c st n x v)) .result ≡ granted r
+    → (Reaches w c x r) × (trace w (onward c st n x v) ≡ ran (leadCost w x) [] (leadUses x) r)
+unfolding onward trace
+onward-granted w c st n (to g) v r h =
+    let a = next-granted w st (eqb n 1) g v r h in
+    ((a .right, a .found), a .whole)
+onward-granted w c st n (into g) v r h =
+    let m = must-granted w (not st || v) _ (done (span c g, v)) r h in
+    let e : (span c g, v) ≡ r = granted-is (span c g, v) r (m .1) in
+    (sym (ap (λ (x : Place). x .0) e), m .2 ∙ ap (ran 0 [] []) e)
+
+pub record Turned (w : World) (c : Config) (st : Bool) (n t i : ℕ) (v : Bool) (r : Place) : Type 0 where
+  pub reaches : Reaches w c (leadAt w c n t i) r
+  pub whole : trace w (turn c st n t i v)
+      ≡ ran (length (levelReads c t i) + leadCost w (leadAt w c n t i)) (levelReads c t i) (leadUses (leadAt w c n t i)) r
+
+pub turn-granted : (w : World) (c : Config) (st : Bool) (n t i : ℕ) (v : Bool) (r : Place)
+    → (trace w (turn c st n t i v)) .result ≡ granted r → Turned w c st n t i v r
+unfolding turn
+turn-granted w c st n t i v r h =
+    let z = go (isSpan c t) h in
+    record { reaches = z .0; whole = z .1 }
+  where
+    on : ℕ → Walk Fault Place
+    on e = onward c st n (entryLead n e) (v && writable e)
+
+    go : (b : Bool)
+        → (trace w (cond b (onward c st n (spanLead c n t i) v) (entry c n t i >>= on))) .result ≡ granted r
+        → let x = cond b (spanLead c n t i) (entryLead n (w .wordAt t i)) in let rs : List (ℕ × ℕ) = cond b [] ((t, i) ∷ []) in
+        (Reaches w c x r) × (trace w (cond b (onward c st n (spanLead c n t i) v) (entry c n t i >>= on)) ≡ ran (length rs + leadCost w x) rs (leadUses x) r)
+    go true k =
+        let o = onward-granted w c st n (spanLead c n t i) v r k in
+        (o .0, o .1 ∙ ap (λ x. ran x [] (leadUses (spanLead c n t i)) r) (sym (zero-add (leadCost w (spanLead c n t i)))))
+    go false k =
+        let a = through w (entry c n t i) on r k in
+        let e = entry-granted w c n t i (a .mid) (a .first) in
+        let o = onward-granted w c st n (entryLead n (a .mid)) (v && writable (a .mid)) r (a .next) in
+        let y = then-trace w (entry c n t i) on 1 ((t, i) ∷ []) [] (a .mid) (e .0) ∙ ap (more 1 ((t, i) ∷ []) []) (o .1) in
+        subst
+        (λ x. (Reaches w c (entryLead n x) r) × (trace w (entry c n t i >>= on) ≡ ran (1 + leadCost w (entryLead n x)) ((t, i) ∷ []) (leadUses (entryLead n x)) r))
+        (e .1) (o .0, y)
+
 -- one level of a granted walk
 pub record Level (w : World) (c : Config) (st : Bool) (n t i : ℕ) (is : List ℕ) (v : Bool) (r : Place) : Type 0 where
   pub at : Place
-  pub right : Bool
-  pub found : w .hostAt (frameOf (w .wordAt t i)) ≡ some (at .0, right)
+  pub reaches : Reaches w c (leadAt w c n t i) at
   pub next : (trace w (levels c st (pred n) (at .0) (at .1) is)) .result ≡ granted r
   pub whole : trace w (levels c st n t v (i ∷ is))
-      ≡ more 1 ((t, i) ∷ []) [] (more (w .hostCost (frameOf (w .wordAt t i))) [] (frameOf (w .wordAt t i) ∷ []) (trace w (levels c st (pred n) (at .0) (at .1) is)))
+      ≡ more (length (levelReads c t i) + leadCost w (leadAt w c n t i)) (levelReads c t i) (leadUses (leadAt w c n t i)) (trace w (levels c st (pred n) (at .0) (at .1) is))
 
 pub level-granted : (w : World) (c : Config) (st : Bool) (n t : ℕ) (v : Bool) (i : ℕ) (is : List ℕ) (r : Place)
     → (trace w (levels c st n t v (i ∷ is))) .result ≡ granted r → Level w c st n t i is v r
 unfolding levels
 level-granted w c st n t v i is r h =
-    let last = eqb n 1 in
-    let f : ℕ × Bool → Walk Fault Place = λ e. next st last (e .0) (v && e .1) >>= λ q. levels c st (pred n) (q .0) (q .1) is in
-    let a = through w (entry c n t i) f r h in
-    let e = entry-granted w c n t i (a .mid) (a .first) in
-    let b = through w (next st last (a .mid .0) (v && a .mid .1)) (λ q. levels c st (pred n) (q .0) (q .1) is) r (a .next) in
-    let d = next-granted w st last (a .mid .0) (v && a .mid .1) (b .mid) (b .first) in
-    let z : a .mid .0 ≡ frameOf (w .wordAt t i) = ap (λ x. x .0) (e .1) in
-    record {
-      at = b .mid;
-      right = d .right;
-      found = ap (w .hostAt) (sym z) ∙ d .found;
-      next = b .next;
-      whole =
-          then-trace w (entry c n t i) f 1 ((t, i) ∷ []) [] (a .mid) (e .0)
-          ∙ ap (more 1 ((t, i) ∷ []) []) (then-trace w (next st last (a .mid .0) (v && a .mid .1)) (λ q. levels c st (pred n) (q .0) (q .1) is) _ [] _ (b .mid) (d .whole)
-          ∙ ap (λ g. more (w .hostCost g) [] (g ∷ []) (trace w (levels c st (pred n) (b .mid .0) (b .mid .1) is))) z);
-    }
+    let f : Place → Walk Fault Place = λ q. levels c st (pred n) (q .0) (q .1) is in
+    let a = through w (turn c st n t i v) f r h in
+    let z = turn-granted w c st n t i v (a .mid) (a .first) in
+    record { at = a .mid; reaches = z .reaches; next = a .next; whole = then-trace w (turn c st n t i v) f _ _ _ (a .mid) (z .whole) }
 
 -- ---- a granted store walks as a load does
 
-same-bind : {X A B : Type 0} (w : World) (p q : Walk X A) (f g : A → Walk X B) (r : B)
+pub same-bind : {X A B : Type 0} (w : World) (p q : Walk X A) (f g : A → Walk X B) (r : B)
     → ((a : A) → (trace w p) .result ≡ granted a → trace w q ≡ trace w p)
     → ((a : A) → (trace w (f a)) .result ≡ granted r → trace w (g a) ≡ trace w (f a))
     → (trace w (p >>= f)) .result ≡ granted r → trace w (q >>= g) ≡ trace w (p >>= f)
@@ -179,14 +229,31 @@ next-same w true g v r h =
     must-same w v _ _ _ r (λ e. same-bind w (hosted g) (hosted g) _ _ r (λ _ _. refl)
     (λ q e. must-same w (q .1) _ (done (q .0, (v && q .1))) (done (q .0, (v && q .1))) r (λ _. refl) e) e) h
 
+onward-same : (w : World) (c : Config) (n : ℕ) (x : Lead) (v : Bool) (r : Place)
+    → (trace w (onward c true n x v)) .result ≡ granted r → trace w (onward c false n x v) ≡ trace w (onward c true n x v)
+unfolding onward
+onward-same w c n (to g) v r h = next-same w (eqb n 1) g v r h
+onward-same w c n (into g) v r h = must-same w v _ (done (span c g, v)) (done (span c g, v)) r (λ _. refl) h
+
+turn-same : (w : World) (c : Config) (n t i : ℕ) (v : Bool) (r : Place)
+    → (trace w (turn c true n t i v)) .result ≡ granted r → trace w (turn c false n t i v) ≡ trace w (turn c true n t i v)
+unfolding turn
+turn-same w c n t i v r h = go (isSpan c t) h
+  where
+    by : Bool → Bool → Walk Fault Place
+    by b st = cond b (onward c st n (spanLead c n t i) v) (entry c n t i >>= λ e. onward c st n (entryLead n e) (v && writable e))
+
+    go : (b : Bool) → (trace w (by b true)) .result ≡ granted r → trace w (by b false) ≡ trace w (by b true)
+    go true k = onward-same w c n (spanLead c n t i) v r k
+    go false k = same-bind w (entry c n t i) (entry c n t i) _ _ r (λ _ _. refl) (λ e z. onward-same w c n (entryLead n e) (v && writable e) r z) k
+
 pub levels-same : (w : World) (c : Config) (n t : ℕ) (v : Bool) (is : List ℕ) (r : Place)
     → (trace w (levels c true n t v is)) .result ≡ granted r → trace w (levels c false n t v is) ≡ trace w (levels c true n t v is)
 unfolding levels
 levels-same w c n t v [] r h = refl
 levels-same w c n t v (i ∷ is) r h =
-    same-bind w (entry c n t i) (entry c n t i) _ _ r (λ _ _. refl)
-    (λ e k. same-bind w (next true (eqb n 1) (e .0) (v && e .1)) (next false (eqb n 1) (e .0) (v && e .1)) _ _ r
-    (λ a j. next-same w (eqb n 1) (e .0) (v && e .1) a j) (λ a j. levels-same w c (pred n) (a .0) (a .1) is r j) k) h
+    same-bind w (turn c true n t i v) (turn c false n t i v) _ _ r (λ a k. turn-same w c n t i v a k)
+    (λ a k. levels-same w c (pred n) (a .0) (a .1) is r k) h
 
 pub walk-same : (w : World) (c : Config) (root : ℕ) (is : List ℕ) (r : Place)
     → (trace w (walk c true root is)) .result ≡ granted r → trace w (walk c false root is) ≡ trace w (walk c true root is)
@@ -208,15 +275,31 @@ unfolding next trace
 next-right w false g v f h = on-right w g (λ q. done (q .0, v)) v f (λ q e. right-of (q .0) v f e) h
 next-right w true g v f h = on-right w g (λ q. done (q .0, (v && q .1))) v f (λ q e. and-first v (q .1) (right-of (q .0) (v && q .1) f e)) h
 
+onward-right : (w : World) (c : Config) (n : ℕ) (x : Lead) (v : Bool) (f : ℕ) → (trace w (onward c false n x v)) .result ≡ granted (f, true) → v ≡ true
+unfolding onward trace
+onward-right w c n (to g) v f h = next-right w (eqb n 1) g v f h
+onward-right w c n (into g) v f h = right-of (span c g) v f h
+
+turn-right : (w : World) (c : Config) (n t i : ℕ) (v : Bool) (f : ℕ) → (trace w (turn c false n t i v)) .result ≡ granted (f, true) → v ≡ true
+unfolding turn
+turn-right w c n t i v f h = go (isSpan c t) h
+  where
+    on : ℕ → Walk Fault Place
+    on e = onward c false n (entryLead n e) (v && writable e)
+
+    go : (b : Bool) → (trace w (cond b (onward c false n (spanLead c n t i) v) (entry c n t i >>= on))) .result ≡ granted (f, true) → v ≡ true
+    go true k = onward-right w c n (spanLead c n t i) v f k
+    go false k =
+        let a = through w (entry c n t i) on (f, true) k in
+        and-first v (writable (a .mid)) (onward-right w c n (entryLead n (a .mid)) (v && writable (a .mid)) f (a .next))
+
 levels-right : (w : World) (c : Config) (n t : ℕ) (v : Bool) (is : List ℕ) (f : ℕ) → (trace w (levels c false n t v is)) .result ≡ granted (f, true) → v ≡ true
 unfolding levels trace
 levels-right w c n t v [] f h = right-of t v f h
 levels-right w c n t v (i ∷ is) f h =
-    let last = eqb n 1 in
-    let a = through w (entry c n t i) (λ e. next false last (e .0) (v && e .1) >>= λ q. levels c false (pred n) (q .0) (q .1) is) (f, true) h in
-    let b = through w (next false last (a .mid .0) (v && a .mid .1)) (λ q. levels c false (pred n) (q .0) (q .1) is) (f, true) (a .next) in
-    let r = levels-right w c (pred n) (b .mid .0) (b .mid .1) is f (b .next) in
-    and-first v (a .mid .1) (next-right w last (a .mid .0) (v && a .mid .1) (b .mid .0) (b .first ∙ ap (λ x. granted (b .mid .0, x)) r))
+    let a = through w (turn c false n t i v) (λ q. levels c false (pred n) (q .0) (q .1) is) (f, true) h in
+    let r = levels-right w c (pred n) (a .mid .0) (a .mid .1) is f (a .next) in
+    turn-right w c n t i v (a .mid .0) (a .first ∙ ap (λ x. granted (a .mid .0, x)) r)
 
 must-on : {B : Type 0} (w : World) (b : Bool) (x : Fault) (p : Walk Fault B) → b ≡ true → trace w (must b x >> p) ≡ trace w p
 must-on w b x p h = ap (λ y. trace w (must y x >> p)) h
@@ -230,19 +313,34 @@ next-serves w true g v f h =
     ∙ same-bind w (hosted g) (hosted g) (λ q. done (q .0, (v && q .1))) _ (f, true) (λ _ _. refl)
     (λ q e. must-on w (q .1) _ _ (and-second v (q .1) (right-of (q .0) (v && q .1) f e))) h
 
+onward-serves : (w : World) (c : Config) (n : ℕ) (x : Lead) (v : Bool) (f : ℕ)
+    → (trace w (onward c false n x v)) .result ≡ granted (f, true) → trace w (onward c true n x v) ≡ trace w (onward c false n x v)
+unfolding onward trace
+onward-serves w c n (to g) v f h = next-serves w (eqb n 1) g v f h
+onward-serves w c n (into g) v f h = must-on w v _ (done (span c g, v)) (right-of (span c g) v f h)
+
+turn-serves : (w : World) (c : Config) (n t i : ℕ) (v : Bool) (f : ℕ)
+    → (trace w (turn c false n t i v)) .result ≡ granted (f, true) → trace w (turn c true n t i v) ≡ trace w (turn c false n t i v)
+unfolding turn
+turn-serves w c n t i v f h = go (isSpan c t) h
+  where
+    by : Bool → Bool → Walk Fault Place
+    by b st = cond b (onward c st n (spanLead c n t i) v) (entry c n t i >>= λ e. onward c st n (entryLead n e) (v && writable e))
+
+    go : (b : Bool) → (trace w (by b false)) .result ≡ granted (f, true) → trace w (by b true) ≡ trace w (by b false)
+    go true k = onward-serves w c n (spanLead c n t i) v f k
+    go false k = same-bind w (entry c n t i) (entry c n t i) _ _ (f, true) (λ _ _. refl) (λ e z. onward-serves w c n (entryLead n e) (v && writable e) f z) k
+
 pub levels-serve : (w : World) (c : Config) (n t : ℕ) (v : Bool) (is : List ℕ) (f : ℕ)
     → (trace w (levels c false n t v is)) .result ≡ granted (f, true) → trace w (levels c true n t v is) ≡ trace w (levels c false n t v is)
 unfolding levels
 levels-serve w c n t v [] f h = refl
 levels-serve w c n t v (i ∷ is) f h =
-    same-bind w (entry c n t i) (entry c n t i) _ _ (f, true) (λ _ _. refl)
-    (λ e k.
-    same-bind w (next false (eqb n 1) (e .0) (v && e .1)) (next true (eqb n 1) (e .0) (v && e .1)) _ _ (f, true)
-    (λ _ _.
-    let b = through w (next false (eqb n 1) (e .0) (v && e .1)) (λ q. levels c false (pred n) (q .0) (q .1) is) (f, true) k in
+    let b = through w (turn c false n t i v) (λ q. levels c false (pred n) (q .0) (q .1) is) (f, true) h in
     let r = levels-right w c (pred n) (b .mid .0) (b .mid .1) is f (b .next) in
-    next-serves w (eqb n 1) (e .0) (v && e .1) (b .mid .0) (b .first ∙ ap (λ x. granted (b .mid .0, x)) r))
-    (λ a j. levels-serve w c (pred n) (a .0) (a .1) is f j) k) h
+    same-bind w (turn c false n t i v) (turn c true n t i v) _ _ (f, true)
+    (λ _ _. turn-serves w c n t i v (b .mid .0) (b .first ∙ ap (λ x. granted (b .mid .0, x)) r))
+    (λ a j. levels-serve w c (pred n) (a .0) (a .1) is f j) h
 
 pub walk-serves : (w : World) (c : Config) (root : ℕ) (is : List ℕ) (f : ℕ)
     → (trace w (walk c false root is)) .result ≡ granted (f, true) → trace w (walk c true root is) ≡ trace w (walk c false root is)
@@ -261,20 +359,32 @@ page-right w g v q h =
     let e : (t .mid .0, (v && t .mid .1)) ≡ q = granted-is (t .mid .0, (v && t .mid .1)) q (b .1) in
     sym (ap (λ (x : Place). x .1) e) ∙ ap₂ (λ x y. x && y) (a .0) (b .0)
 
+-- the last level leads to the page, from a table and from a span
+last-right : (w : World) (c : Config) (t i : ℕ) (v : Bool) (q : Place) → (trace w (turn c true 1 t i v)) .result ≡ granted q → q .1 ≡ true
+unfolding turn onward entryLead spanLead large
+last-right w c t i v q h = go (isSpan c t) h
+  where
+    on : ℕ → Walk Fault Place
+    on e = next true true (frameOf e) (v && writable e)
+
+    go : (b : Bool) → (trace w (cond b (next true true (firstFrame c t + i * framesBelow 1) v) (entry c 1 t i >>= on))) .result ≡ granted q → q .1 ≡ true
+    go true k = page-right w (firstFrame c t + i * framesBelow 1) v q k
+    go false k =
+        let a = through w (entry c 1 t i) on q k in
+        page-right w (frameOf (a .mid)) (v && writable (a .mid)) q (a .next)
+
 levels-store : (w : World) (c : Config) (n t : ℕ) (v : Bool) (is : List ℕ) (r : Place) → length is ≡ n → (n ≡ 0 → v ≡ true)
     → (trace w (levels c true n t v is)) .result ≡ granted r → r .1 ≡ true
 unfolding levels trace
 levels-store w c n t v [] r l ok h = sym (ap (λ (x : Place). x .1) (granted-is (t, v) r h)) ∙ ok (sym l)
 levels-store w c n t v (i ∷ is) r l ok h =
-    let a = through w (entry c n t i) (λ e. next true (eqb n 1) (e .0) (v && e .1) >>= λ q. levels c true (pred n) (q .0) (q .1) is) r h in
-    let b = through w (next true (eqb n 1) (a .mid .0) (v && a .mid .1)) (λ q. levels c true (pred n) (q .0) (q .1) is) r (a .next) in
+    let a = through w (turn c true n t i v) (λ q. levels c true (pred n) (q .0) (q .1) is) r h in
     let k : length is ≡ pred n = omega arith in
-    levels-store w c (pred n) (b .mid .0) (b .mid .1) is r k
+    levels-store w c (pred n) (a .mid .0) (a .mid .1) is r k
     (λ z.
     let o : n ≡ 1 = omega arith in
-    page-right w (a .mid .0) (v && a .mid .1) (b .mid)
-    (sym (ap (λ x. (trace w (next true x (a .mid .0) (v && a .mid .1))) .result) (eq-eqb n 1 o)) ∙ b .first))
-    (b .next)
+    last-right w c t i v (a .mid) (ap (λ x. (trace w (turn c true x t i v)) .result) (sym o) ∙ a .first))
+    (a .next)
 
 pub walk-store : (w : World) (c : Config) (root : ℕ) (is : List ℕ) (r : Place) → length is ≡ c .levels
     → (trace w (walk c true root is)) .result ≡ granted r → r .1 ≡ true

@@ -7,29 +7,31 @@ use native.Mathlib.Omega.{arith}
 use mathlib.Core.Bool.{Bool, true, false, not, _&&_, _||_, cond, and-true, and-false, false≢true}
 use mathlib.Core.List.{List, [], _∷_}
 use mathlib.Core.Option.{some}
-use borrow.Author.Tests.{eqb-true, not-false}
-use lib.Dec.{T, eqb, eqb→eq, eqb-refl}
+use borrow.Author.Tests.{eqb-true, lt-leb, leb-true, leb-false, not-false}
+use lib.Dec.{T, eqb, eqb→eq, eqb-refl, leb}
 use lib.ListN.{length}
-use lib.Seq.{getD-set-other, length-take-le}
+use lib.Seq.{getD-set-other, length-take-le, take-all}
 use lib.Arith.{digits-mod}
 use Rattle.spec.specs.declared.Fault.{Fault}
 use Rattle.spec.specs.Config.{Config, guestBase, frameBits}
 use Rattle.spec.specs.Entry.{pageOf}
-use Rattle.spec.specs.Walk.{World, Trace, Result, granted, trace}
-use Rattle.spec.specs.Plain.{Place, walk, upper}
+use Rattle.spec.specs.Walk.{Trace, Result, granted, failed, trace}
+use Rattle.spec.specs.Plain.{Place, isSpan, walk, upper, shadowPart}
 use Rattle.spec.specs.Machine.{Machine, Mapping, hostCost, world, place, wordIn, stored, remapped, lookup, with, without}
 use Rattle.spec.specs.Bits.{dirtyAt}
 use Rattle.spec.specs.Book.{Held, readsWord, readsFrame, dropWord, watched, usesMapping}
 use Rattle.spec.specs.Call.{addressIndexes, plain}
-use Rattle.spec.specs.Count.{heldBy, rightOf}
+use Rattle.spec.specs.Count.{depthBy, depthIn, heldBy, rightOf}
 use Rattle.spec.specs.Prefix.{All, any}
 use Rattle.spec_laws.proofs.Lists.{all-map, all-take, all-any, all-both, keep-all, none-passes, is-true, both, not-both, and-first, and-second, or-first, not-eqb}
 use Rattle.spec_laws.proofs.Indexes.{indexes-length, indexes-all}
 use Rattle.spec_laws.proofs.Local.{Seen, seen, local-seen, SameMapping, SameWord}
 use Rattle.spec_laws.proofs.EntryBits.{AlikeWord}
 use Rattle.spec_laws.proofs.Ignored.{AlikeWorld, walk-alike}
-use Rattle.spec_laws.proofs.Granted.{granted-is, walk-same}
-use Rattle.spec_laws.proofs.Asks.{Asked, asks-trace, AnswerIn, FaultFits, walk-asks}
+use Rattle.spec_laws.proofs.Granted.{no-grant, granted-is, walk-same}
+use Rattle.spec_laws.proofs.Asks.{Asked, asks-trace, AnswerIn, FaultFits, Placed, placed-page, walk-asks}
+use Rattle.spec_laws.proofs.Parts.{lower, lower-is}
+use Rattle.spec_laws.proofs.Large.{walk-loads, walk-high}
 
 -- what the shadow part of a path comes to on the machine, as a load walks it; and what the book has of a held path
 unfoldable pub again : Config → Machine → List ℕ → Seen Fault Place
@@ -54,6 +56,7 @@ pub record Valid (c : Config) (m : Machine) (h : Held) : Type 0 where
   pub small : All (λ i. i < 512) (h .path)
   pub frame : ℕ
   pub wide : Bool  -- the write right that its shadow part comes to
+  pub real : isSpan c frame ≡ false  -- it comes to a table or to the page
   pub comes : again c m (h .path) ≡ booked frame wide h
   pub right : (h .right ≡ wide) ⊎ ((h .right ≡ false) × (length (h .path) ≡ c .levels) × (c .bits ≡ true))  -- with bits on one of depth 0 may forbid more
 
@@ -75,7 +78,7 @@ right-deep c m h v deep = elim (v .right) [ inl k ↦ k | inr k ↦ absurd (deep
 
 -- and it stays valid on each machine on which its shadow part comes to the same
 pub valid-again : (c : Config) (m n : Machine) (h : Held) → Valid c m h → again c n (h .path) ≡ again c m (h .path) → Valid c n h
-valid-again c m n h v e = record { small = v .small; frame = v .frame; wide = v .wide; right = v .right; comes = e ∙ v .comes }
+valid-again c m n h v e = record { small = v .small; frame = v .frame; wide = v .wide; real = v .real; right = v .right; comes = e ∙ v .comes }
 
 -- ---- the words that a shadow part reads are in the guest area
 
@@ -86,17 +89,94 @@ InGuestArea c f = (guestBase c ≤ f) × (f < c .frames)
 abbrev pub MappedIn : Config → Machine → Type 0
 MappedIn c m = (g : ℕ) → AnswerIn (InGuestArea c) (lookup g (m .mappings))
 
+pub area-real : (c : Config) (t : ℕ) → InGuestArea c t → isSpan c t ≡ false
+unfolding isSpan
+area-real c t h = lt-leb (c .frames) t (h .1)
+
+-- what a place is at that level: a frame of the guest area, or a span
+abbrev pub PlaceIn : Config → ℕ → ℕ → Type 0
+PlaceIn c n t = Placed c (InGuestArea c) (area-real c) n t
+
 pub shadow-asked : (c : Config) (m : Machine) (st : Bool) (p : List ℕ) → MappedIn c m → m .root < 2 ^ frameBits c → All (λ i. i < 512) p
-    → Asked (AnswerIn (InGuestArea c)) (λ g. g < 2 ^ frameBits c) (λ t i. InGuestArea c t × (i < 512)) (FaultFits c) (λ r. InGuestArea c (r .0)) (trace (world c m) (walk c st (m .root) p))
+    → Asked (AnswerIn (InGuestArea c)) (λ g. g < 2 ^ frameBits c) (λ t i. InGuestArea c t × (i < 512)) (FaultFits c) (λ r. PlaceIn c (lower (c .levels) p) (r .0)) (trace (world c m) (walk c st (m .root) p))
 unfolding world
 shadow-asked c m st p mi b s =
-    asks-trace (AnswerIn (InGuestArea c)) (λ g. g < 2 ^ frameBits c) (λ t i. InGuestArea c t × (i < 512)) (FaultFits c) (world c m) (walk c st (m .root) p) (λ r. InGuestArea c (r .0)) mi
-    (walk-asks c (InGuestArea c) st (m .root) p b s)
+    asks-trace (AnswerIn (InGuestArea c)) (λ g. g < 2 ^ frameBits c) (λ t i. InGuestArea c t × (i < 512)) (FaultFits c) (world c m) (walk c st (m .root) p)
+    (λ r. PlaceIn c (lower (c .levels) p) (r .0)) mi
+    (walk-asks c (InGuestArea c) (area-real c) st (m .root) p b s)
+
+-- a walk of all indexes comes to the page
+pub page-in : (c : Config) (t : ℕ) (is : List ℕ) → length is ≡ c .levels → PlaceIn c (lower (c .levels) is) t → InGuestArea c t
+page-in c t is l p =
+    placed-page c (InGuestArea c) (area-real c) t (subst (λ n. PlaceIn c n t) (lower-is (c .levels) is ∙ omega (arith, l)) p)
 
 -- and a granted walk comes to a page there
 pub plain-in : (c : Config) (m : Machine) (st : Bool) (a : ℕ) (r : Place) → MappedIn c m → m .root < 2 ^ frameBits c → (plain c m st a) .result ≡ granted r → InGuestArea c (r .0)
 unfolding plain
-plain-in c m st a r mi b h = shadow-asked c m st (addressIndexes c a) mi b (indexes-all (c .levels) (pageOf a)) .grants r h
+plain-in c m st a r mi b h =
+    page-in c (r .0) (addressIndexes c a) (indexes-length (c .levels) (pageOf a))
+    (shadow-asked c m st (addressIndexes c a) mi b (indexes-all (c .levels) (pageOf a)) .grants r h)
+
+-- a held path comes to a frame there
+pub held-in : (c : Config) (m : Machine) (h : Held) → MappedIn c m → m .root < 2 ^ frameBits c → (v : Valid c m h) → InGuestArea c (v .frame)
+unfolding again seen
+held-in c m h mi b v =
+    (shadow-asked c m false (h .path) mi b (v .small)) .grants (v .frame, v .wide) (ap (λ (s : Seen Fault Place). s .result) (v .comes)) .frame (v .real)
+
+-- ---- the depth of a request
+
+-- its shadow part comes to no span
+pub depth-real : (c : Config) (m : Machine) (a e : ℕ) → MappedIn c m → m .root < 2 ^ frameBits c → (st : Bool) (r : Place)
+    → (trace (world c m) (shadowPart c st (depthIn c m a e) (m .root) (addressIndexes c a))) .result ≡ granted r → isSpan c (r .0) ≡ false
+unfolding depthIn plain
+depth-real c m a e mi b st r = go ((part false e) .result) refl
+  where
+    is : List ℕ
+    is = addressIndexes c a
+
+    part : Bool → ℕ → Trace Fault Place
+    part x d = trace (world c m) (shadowPart c x d (m .root) is)
+
+    loads : (d : ℕ) → (part st d) .result ≡ granted r → (part false d) .result ≡ granted r
+    loads d h = ap (λ (x : Trace Fault Place). x .result) (walk-loads (world c m) c st (m .root) (upper c d is) r h) ∙ h
+
+    whole : (part st 0) .result ≡ granted r → (plain c m st a) .result ≡ granted r
+    whole h = ap (λ x. (trace (world c m) (walk c st (m .root) x)) .result) (sym (take-all (c .levels - 0) is (omega (arith, indexes-length (c .levels) (pageOf a))))) ∙ h
+
+    by : (q : Place) → (part false e) .result ≡ granted q → (x : Bool) → isSpan c (q .0) ≡ x → (part st (cond x 0 e)) .result ≡ granted r → isSpan c (r .0) ≡ false
+    by q k true s h = area-real c (r .0) (plain-in c m st a r mi b (whole h))
+    by q k false s h = ap (λ (x : Place). isSpan c (x .0)) (granted-is r q (sym (loads e h) ∙ k)) ∙ s
+
+    go : (x : Result Fault Place) → (part false e) .result ≡ x → (part st (depthBy c e x)) .result ≡ granted r → isSpan c (r .0) ≡ false
+    go (failed x) k h = absurd (no-grant (sym k ∙ loads e h))
+    go (granted q) k h = by q k (isSpan c (q .0)) refl h
+
+-- marks of a level above 2 are never below a large page
+pub depth-deep : (c : Config) (m : Machine) (a d : ℕ) → MappedIn c m → (d ≡ 0) ⊎ (3 ≤ d) → depthIn c m a d ≡ d
+unfolding depthIn world
+depth-deep c m a d mi b = go ((trace (world c m) (shadowPart c false d (m .root) is)) .result) refl b
+  where
+    is : List ℕ
+    is = addressIndexes c a
+
+    long : length (upper c d is) ≡ c .levels - d
+    long = length-take-le (c .levels - d) is (omega (arith, indexes-length (c .levels) (pageOf a)))
+
+    real : (g : ℕ) (r : Place) → (world c m) .hostAt g ≡ some r → isSpan c (r .0) ≡ false
+    real g r e = area-real c (r .0) (subst (AnswerIn (InGuestArea c)) e (mi g))
+
+    go : (x : Result Fault Place) → (trace (world c m) (shadowPart c false d (m .root) is)) .result ≡ x → (d ≡ 0) ⊎ (3 ≤ d) → depthBy c d x ≡ d
+    go (failed x) e k = refl
+    go (granted r) e (inl z) = by (isSpan c (r .0))
+      where
+        by : (b : Bool) → cond b 0 d ≡ d
+        by true = sym z
+        by false = refl
+    go (granted r) e (inr l) = ap (λ b. cond b 0 d) (walk-high (world c m) c real (m .root) (upper c d is) r (few (leb (c .levels) d) refl) e)
+      where
+        few : (b : Bool) → leb (c .levels) d ≡ b → (3 + length (upper c d is) ≤ c .levels) ⊎ (length (upper c d is) ≡ 0)
+        few true k = inr (omega (arith, long, leb-true (c .levels) d k))
+        few false k = inl (omega (arith, long, l, leb-false (c .levels) d k))
 
 -- ---- a store
 
@@ -111,30 +191,33 @@ places b t i u j bt bu hi hj h e =
     let r : j ≡ i = sym (digits-mod (u - b) hj) ∙ ap (λ x. x % 512) e ∙ digits-mod (t - b) hi in
     h (omega arith) (sym r)
 
--- a store leaves every held path valid whose shadow part did not read the word
-pub store-keeps : (c : Config) (m : Machine) (t i v : ℕ) (h : Held) → MappedIn c m → m .root < 2 ^ frameBits c → guestBase c ≤ t → i < 512
-    → Valid c m h → T (not (readsWord t i h)) → Valid c (stored c m t i v) h
+-- a store leaves every word of a shadow part that did not read the word stored to
+pub store-words : (c : Config) (m : Machine) (t i v : ℕ) (h : Held) → MappedIn c m → m .root < 2 ^ frameBits c → guestBase c ≤ t → i < 512
+    → Valid c m h → T (not (readsWord t i h)) → All (SameWord (world c m) (world c (stored c m t i v))) (h .reads)
 unfolding again world seen
-store-keeps c m t i v h mi rb bt bi va nr =
-    valid-again c m (stored c m t i v) h va
-    (local-seen w u (walk c false (m .root) (h .path)) (all-any (SameMapping w u) ((again c m (h .path)) .uses) (λ g. refl))
-    (all-map (λ x. In x × Off x) (SameWord w u) ((again c m (h .path)) .reads)
+store-words c m t i v h mi rb bt bi va nr =
+    all-map (λ x. In x × Off x) (SameWord (world c m) (world c (stored c m t i v))) (h .reads)
     (λ x k. getD-set-other (m .area) (place c t i) (place c (x .0) (x .1)) v 0
     (places (guestBase c) t i (x .0) (x .1) bt (k .0 .0 .0) bi (k .0 .1) (differ t i (x .0) (x .1) (k .1))))
-    (all-both In Off ((again c m (h .path)) .reads) ((shadow-asked c m false (h .path) mi rb (va .small)) .reads)
-    (subst (λ (s : Seen Fault Place). All Off (s .reads)) (sym (va .comes)) (none-passes _ (h .reads) nr)))))
+    (all-both In Off (h .reads)
+    (subst (λ (s : Seen Fault Place). All In (s .reads)) (va .comes) ((shadow-asked c m false (h .path) mi rb (va .small)) .reads)) (none-passes _ (h .reads) nr))
   where
-    w : World
-    w = world c m
-
-    u : World
-    u = world c (stored c m t i v)
-
     In : ℕ × ℕ → Type 0
     In x = InGuestArea c (x .0) × (x .1 < 512)
 
     Off : ℕ × ℕ → Type 0
     Off x = T (not (eqb t (x .0) && eqb i (x .1)))
+
+-- and so the held path valid
+pub store-keeps : (c : Config) (m : Machine) (t i v : ℕ) (h : Held) → MappedIn c m → m .root < 2 ^ frameBits c → guestBase c ≤ t → i < 512
+    → Valid c m h → T (not (readsWord t i h)) → Valid c (stored c m t i v) h
+unfolding again world
+store-keeps c m t i v h mi rb bt bi va nr =
+    valid-again c m (stored c m t i v) h va
+    (local-seen (world c m) (world c (stored c m t i v)) (walk c false (m .root) (h .path))
+    (all-any (SameMapping (world c m) (world c (stored c m t i v))) ((again c m (h .path)) .uses) (λ g. refl))
+    (subst (λ (s : Seen Fault Place). All (SameWord (world c m) (world c (stored c m t i v))) (s .reads)) (sym (va .comes))
+    (store-words c m t i v h mi rb bt bi va nr)))
 
 -- into a frame that is not watched no path is dropped: none reads a word of it
 pub unwatched-unread : (t i : ℕ) (hs : List Held) → T (not (watched t hs)) → All (λ h. T (not (readsWord t i h))) hs
@@ -209,12 +292,13 @@ upper-long c d a = length-take-le (c .levels - d) (addressIndexes c a) (omega (a
 
 -- what a granted shadow part fills, a store's too, is valid: with bits on a load may fill a path that forbids stores
 pub fill-valid : (c : Config) (m : Machine) (st : Bool) (d : ℕ) (p : List ℕ) (r : Place) → All (λ i. i < 512) p → length p ≡ c .levels - d
-    → (trace (world c m) (walk c st (m .root) p)) .result ≡ granted r
+    → (trace (world c m) (walk c st (m .root) p)) .result ≡ granted r → isSpan c (r .0) ≡ false
     → let s = trace (world c m) (walk c st (m .root) p) in Valid c m (heldBy p s (rightOf c (world c m) st d s (r .1)))
-fill-valid c m st d p r small long e = record {
+fill-valid c m st d p r small long e real = record {
   small = small;
   frame = r .0;
   wide = r .1;
+  real = real;
   comes = sees c m st p r e;
   right = go (passes || st || dirtyAt (world c m) (s .reads)) refl;
 }

@@ -12,6 +12,7 @@ pub mod Members
 pub mod Refill
 pub mod Parts
 pub mod Granted
+pub mod Large
 pub mod Counts
 pub mod Depth
 pub mod Search
@@ -27,6 +28,7 @@ pub mod Asks
 pub mod Trail
 pub mod Keeps
 pub mod SetBits
+pub mod Apart
 pub mod Covered
 pub mod Served
 pub mod Missed

@@ -3,16 +3,15 @@
 use mathlib.Core.Path.{_≡_, refl, sym, ap, _∙_}
 use Prim.Native.Nat.{ℕ, pred, _+_, _-_, _≤_}
 use native.Mathlib.Omega.{arith}
-use mathlib.Core.Bool.{Bool, true, _&&_}
+use mathlib.Core.Bool.{Bool, true}
 use mathlib.Core.List.{List, [], _∷_, _++_}
-use lib.Dec.{eqb}
 use lib.ListN.{length, take, drop}
 use lib.ListN.{take-append-drop}
 use lib.Seq.{length-take-le}
 use Rattle.spec.specs.declared.Fault.{Fault}
 use Rattle.spec.specs.Config.{Config}
 use Rattle.spec.specs.Walk.{Walk, _>>=_, _>>_, World, Trace, granted, failed, trace}
-use Rattle.spec.specs.Plain.{Place, hosted, entry, next, levels, walk, shadowPart, directPart}
+use Rattle.spec.specs.Plain.{Place, hosted, turn, levels, walk, shadowPart, directPart}
 use Rattle.spec_laws.proofs.Bind.{andThen, onto, more, trace-bind, bind-assoc, bind-cong}
 
 -- the level that is left after some indexes
@@ -20,7 +19,7 @@ abbrev pub lower : ℕ → List ℕ → ℕ
 lower n [] = n
 lower n (x ∷ xs) = lower (pred n) xs
 
-lower-is : (n : ℕ) (xs : List ℕ) → lower n xs ≡ n - length xs
+pub lower-is : (n : ℕ) (xs : List ℕ) → lower n xs ≡ n - length xs
 lower-is n [] = omega arith
 lower-is n (x ∷ xs) = let ih = lower-is (pred n) xs in omega arith
 
@@ -29,14 +28,10 @@ pub levels-split : (c : Config) (st : Bool) (n t : ℕ) (w : Bool) (xs ys : List
 unfolding levels
 levels-split c st n t w [] ys = refl
 levels-split c st n t w (i ∷ xs) ys =
-    bind-cong (entry c n t i) (λ e. on e >>= λ r. levels c st (pred n) (r .0) (r .1) (xs ++ ys)) (λ e. on e >>= up >>= down)
-    (λ e. bind-cong (on e) (λ r. levels c st (pred n) (r .0) (r .1) (xs ++ ys)) (λ r. up r >>= down) (λ r. levels-split c st (pred n) (r .0) (r .1) xs ys)
-    ∙ sym (bind-assoc (on e) up down))
-    ∙ sym (bind-assoc (entry c n t i) (λ e. on e >>= up) down)
+    bind-cong (turn c st n t i w) (λ r. levels c st (pred n) (r .0) (r .1) (xs ++ ys)) (λ r. up r >>= down)
+    (λ r. levels-split c st (pred n) (r .0) (r .1) xs ys)
+    ∙ sym (bind-assoc (turn c st n t i w) up down)
   where
-    on : ℕ × Bool → Walk Fault Place
-    on e = next st (eqb n 1) (e .0) (w && e .1)
-
     up : Place → Walk Fault Place
     up r = levels c st (pred n) (r .0) (r .1) xs
 

@@ -20,7 +20,7 @@ use Rattle.spec.specs.Machine.{Machine, stored}
 use Rattle.spec.specs.Book.{Held, Book, depth, find, paths, holding, watched, readsWord}
 use Rattle.spec.specs.Call.{Call, root, map, unmap, setMark, clearMark, load, store, device, forecast, Outcome, addressIndexes, plain, access, machineStep}
 use Rattle.spec.specs.Choice.{chargeOf}
-use Rattle.spec.specs.Count.{Counted, one, serves, others, isGranted, request, storing, bookStep, windowed}
+use Rattle.spec.specs.Count.{Counted, one, serves, others, isGranted, depthIn, requestDepth, request, storing, bookStep, windowed}
 use Rattle.spec.specs.Refusal.{allOf, refusal}
 use Rattle.spec.specs.Run.{State, lineOf, answered, step, run, after}
 use Rattle.spec.specs.Serving.{exitsPaid, allPaid}
@@ -31,7 +31,7 @@ use Rattle.spec_laws.proofs.Lists.{all-map, all-both, and-left, and-rig
 use Rattle.spec_laws.proofs.Before.{off-verdict, off-bits}
 use Rattle.spec_laws.proofs.Distinct.{in-right}
 use Rattle.spec_laws.proofs.Refill.{others-all}
-use Rattle.spec_laws.proofs.Keeps.{Valid, InGuestArea, MappedIn, upper-small, upper-long, plain-in, store-keeps, unwatched-unread, drop-unwatched, fill-valid}
+use Rattle.spec_laws.proofs.Keeps.{Valid, InGuestArea, MappedIn, upper-small, upper-long, plain-in, store-keeps, unwatched-unread, drop-unwatched, depth-real, fill-valid}
 use Rattle.spec_laws.proofs.Runs.{fill-all, request-book}
 use Rattle.spec_laws.proofs.Added.{any-append}
 use Rattle.spec_laws.proofs.Members.{Within, SamePaths, distinct-same, tables-within, distinct-new, none-new}
@@ -68,14 +68,14 @@ record Costs (c : Config) (hs : List (List ℕ)) (t : Option (List ℕ)) (e : �
   held : ks ≡ holds c t hs
 
 request-costs : (c : Config) (m : Machine) (b : Book) (st : Bool) (a : ℕ) (r : Place) → c .bits ≡ false → All (Valid c m) (b .held) → (plain c m st a) .result ≡ granted r
-    → let k = request c m b st a (depth (b .marks) (addressIndexes c a)) in Costs c (paths (b .held)) (pathOf c (b .marks) a) (k .exits) (paths (k .book .held))
+    → let k = request c m b st a (requestDepth c m b a) in Costs c (paths (b .held)) (pathOf c a (requestDepth c m b a)) (k .exits) (paths (k .book .held))
 request-costs c m b st a r off va h =
     let k = request-priced c m b st a d off (serves-granted c m st a d (b .held) r off va h) in
     let g = granted-price c m st a d held r h in
     go (leb d (c .levels)) _ _ (k .exits ∙ g .0 ∙ ap one (g .1)) (k .held ∙ ap (λ t. cond t (filled c p (paths (b .held))) (paths (b .held))) (g .1))
   where
     d : ℕ
-    d = depth (b .marks) (addressIndexes c a)
+    d = requestDepth c m b a
 
     p : List ℕ
     p = upper c d (addressIndexes c a)
@@ -92,14 +92,17 @@ request-costs c m b st a r off va h =
         flip false = refl
     go false e ks x y = record { exits = x; held = y }
 
-request-sound : (c : Config) (m : Machine) (b : Book) (st : Bool) (a d : ℕ) → Sound c m (b .held) → Sound c m ((request c m b st a d) .book .held)
-request-sound c m b st a d i = record {
+request-sound : (c : Config) (m : Machine) (b : Book) (st : Bool) (a e : ℕ) → Sound c m (b .held) → Sound c m ((request c m b st a (depthIn c m a e)) .book .held)
+request-sound c m b st a e i = record {
   mapped = i .mapped;
   root = i .root;
   valid = request-book (λ x. All (Valid c m) (x .held)) c m b st a d (i .valid)
-      (λ r l e g. fill-all (Valid c m) c _ (others c p (b .held)) (fill-valid c m st d p r (upper-small c d a) (upper-long c d a) e) (others-all (Valid c m) c p (b .held) (i .valid)));
+      (λ r l z g. fill-all (Valid c m) c _ (others c p (b .held)) (fill-valid c m st d p r (upper-small c d a) (upper-long c d a) z (depth-real c m a _ (i .mapped) (i .root) st r z)) (others-all (Valid c m) c p (b .held) (i .valid)));
 }
   where
+    d : ℕ
+    d = depthIn c m a e
+
     p : List ℕ
     p = upper c d (addressIndexes c a)
 
@@ -136,7 +139,7 @@ does s a w v r k =
 
 -- its request's, charged to nobody
 abbrev asked : State → Bool → ℕ → Counted
-asked s st a = request (s .config) (s .machine) (s .book) st a (depth (s .book .marks) (addressIndexes (s .config) a))
+asked s st a = request (s .config) (s .machine) (s .book) st a (requestDepth (s .config) (s .machine) (s .book) a)
 
 abbrev requested : State → Bool → ℕ → Counted
 requested s st a = windowed (s .config) none (asked s st a)
@@ -146,7 +149,7 @@ same-held : (s : State) (st : Bool) (a : ℕ) → (requested s st a) .book .held
 same-held s st a = none-held (s .config) ((asked s st a) .book)
 
 request-stepped : (s : State) (st : Bool) (a w : ℕ) (v : Option ℕ) (r : Place) → s .config .bits ≡ false → SoundAt s → (plain (s .config) (s .machine) st a) .result ≡ granted r
-    → SoundAt ((does s a w v r (requested s st a)) .1) → Stepped s (pathOf (s .config) (s .book .marks) a) (does s a w v r (requested s st a))
+    → SoundAt ((does s a w v r (requested s st a)) .1) → Stepped s (pathOf (s .config) a (requestDepth (s .config) (s .machine) (s .book) a)) (does s a w v r (requested s st a))
 request-stepped s st a w v r off i h next =
     let k = requested s st a in
     let t = request-costs (s .config) (s .machine) (s .book) st a r off (i .valid) h in
@@ -157,7 +160,7 @@ request-stepped s st a w v r off i h next =
     }
 
 load-stepped : (a w : ℕ) (s : State) (r : Place) → s .config .bits ≡ false → SoundAt s → (plain (s .config) (s .machine) false a) .result ≡ granted r
-    → Stepped s (pathOf (s .config) (s .book .marks) a) (answered (load a w) s none)
+    → Stepped s (pathOf (s .config) a (requestDepth (s .config) (s .machine) (s .book) a)) (answered (load a w) s none)
 unfolding machineStep bookStep access
 load-stepped a w s r off i h =
     let c = s .config in
@@ -166,12 +169,12 @@ load-stepped a w s r off i h =
     let e : answered (load a w) s none ≡ does s a w none r k =
     ap₂ (λ n x. (lineOf ((access c m n a w none x) .0) (k .references) (k .exits), record { config = c; machine = (access c m n a w none x) .1; book = k .book }))
     (off-bits c false m (plain c m false a) off) (off-verdict c m false a off ∙ h) in
-    subst (Stepped s (pathOf c (s .book .marks) a)) (sym e)
+    subst (Stepped s (pathOf c a (requestDepth c m (s .book) a))) (sym e)
     (request-stepped s false a w none r off i h
-    (subst (Sound c m) (sym (same-held s false a)) (request-sound c m (s .book) false a (depth (s .book .marks) (addressIndexes c a)) i)))
+    (subst (Sound c m) (sym (same-held s false a)) (request-sound c m (s .book) false a _ i)))
 
 store-stepped : (a w v : ℕ) (s : State) (r : Place) → s .config .bits ≡ false → SoundAt s → (plain (s .config) (s .machine) true a) .result ≡ granted r → T (not (watched (r .0) (translated s true a)))
-    → Stepped s (pathOf (s .config) (s .book .marks) a) (answered (store a w v) s none)
+    → Stepped s (pathOf (s .config) a (requestDepth (s .config) (s .machine) (s .book) a)) (answered (store a w v) s none)
 unfolding machineStep bookStep access wordOf
 store-stepped a w v s r off i h n =
     let c = s .config in
@@ -183,11 +186,11 @@ store-stepped a w v s r off i h n =
     (lineOf ((access c m n a w (some v) x) .0) (y .references) (y .exits), record { config = c; machine = (access c m n a w (some v) x) .1; book = y .book }))
     (off-bits c true m (plain c m true a) off) (off-verdict c m true a off ∙ h)
     ∙ ap₂ (λ x y. does s a w (some v) r (windowed c x y)) (quiet-charge c (wordOf a) r (k .book .held) n) (storing-unwatched (wordOf a) r k n) in
-    subst (Stepped s (pathOf c (s .book .marks) a)) (sym e)
+    subst (Stepped s (pathOf c a (requestDepth c m (s .book) a))) (sym e)
     (request-stepped s true a w (some v) r off i h
     (subst (Sound c _) (sym (same-held s true a))
     (stored-sound c m (r .0) (wordOf a) _ (k .book .held) (plain-in c m true a r (i .mapped) (i .root) h) (omega arith) n
-    (request-sound c m (s .book) true a (depth (s .book .marks) (addressIndexes c a)) i))))
+    (request-sound c m (s .book) true a _ i))))
 
 -- a call that has its place in a quiet stretch
 quiet-call : (x : Call) (s : State) → s .config .bits ≡ false → SoundAt s
@@ -197,12 +200,12 @@ unfolding step machineStep bookStep
 quiet-call x s off i g n = go (refusal (s .config) x (s .machine) (s .book)) g n
   where
     loads : (a w : ℕ) (y : Result Fault Place) → (plain (s .config) (s .machine) false a) .result ≡ y → T (isGranted y)
-        → Stepped s (pathOf (s .config) (s .book .marks) a) (answered (load a w) s none)
+        → Stepped s (pathOf (s .config) a (requestDepth (s .config) (s .machine) (s .book) a)) (answered (load a w) s none)
     loads a w (granted r) h k = load-stepped a w s r off i h
     loads a w (failed f) h k = absurd k
 
     stores : (a w v : ℕ) (y : Result Fault Place) → (plain (s .config) (s .machine) true a) .result ≡ y → T (isGranted y) → T (not (comesToWatched (translated s true a) y))
-        → Stepped s (pathOf (s .config) (s .book .marks) a) (answered (store a w v) s none)
+        → Stepped s (pathOf (s .config) a (requestDepth (s .config) (s .machine) (s .book) a)) (answered (store a w v) s none)
     stores a w v (granted r) h k u = store-stepped a w v s r off i h u
     stores a w v (failed f) h k u = absurd k
 

@@ -21,7 +21,7 @@ use Rattle.spec.specs.Machine.{Machine, world}
 use Rattle.spec.specs.Book.{Mark, Held, Book, Window, markAt, sameMark, isSet, depth, marking, unmarking, holding, fill, readsWord, usesMapping}
 use Rattle.spec.specs.Choice.{windowRoom, chargeOf, leafMark, isAutomatic, owned, full, leaving, withdrawn, withdrawnBy, roomMade, appointed, entered, observed, operated, isSome, roomFor}
 use Rattle.spec.specs.Call.{Call, root, map, unmap, setMark, clearMark, load, store, device, forecast, addressIndexes, verdict}
-use Rattle.spec.specs.Count.{Counted, heldBy, rightOf, others, request, storing, bookStep}
+use Rattle.spec.specs.Count.{Counted, heldBy, rightOf, others, requestDepth, request, storing, bookStep}
 use Rattle.spec.specs.Refusal.{allOf, levelFits, markFits, noTwoAlike, marksFit, prefixFits, chargeFits, uncharged, windowFits, noTwoSame, automaticFits, isEmpty, choiceFits, tests, refusal}
 use Rattle.spec.specs.Run.{State, answered, step, after, opened}
 use Rattle.spec_laws.proofs.Lists.{all-map, all-both, all-keep, all-kept, all-take, none-passes, any-has, and-left, and-right, both, or-left, or-right, same-is, is-false, not-is, is-not}
@@ -168,7 +168,7 @@ charge-rules c b i r f k = join (chargeOf c i r (b .held)) fit (charge-bare c (b
     fit =
         let n = c .levels - 1 in
         charge-has c (λ p. T (prefixFits c p)) SmallPath i r (b .held)
-        (λ h s l. both (eqb (length (take n (h .path))) n) _ (long-take n (h .path) (omega arith)) (small-take n (h .path) s)) (k .paths)
+        (λ h s l z. both (eqb (length (take n (h .path))) n) _ (long-take n (h .path) (omega arith)) (small-take n (h .path) s)) (k .paths)
 
     join : (o : Option (List ℕ)) → IfSome (λ p. T (prefixFits c p)) o → IfSome (Bare (b .marks)) o → IfSome (ChargeRules c (b .marks)) o
     join none f g = tt
@@ -326,7 +326,7 @@ step-rules x s f i = go (refusal (s .config) x (s .machine) (s .book)) refl
     by (clearMark a n) e = cleared-book c (markAt c n (addressIndexes c a)) b (all-passed (tests c (clearMark a n) m b) e .1 .1 .0) i
     by (load a w) e = observed-book c none _ tt (request-rules c m b false a _ i)
     by (store a w v) e =
-        let k = request c m b true a (depth (b .marks) (addressIndexes c a)) in
+        let k = request c m b true a (requestDepth c m b a) in
         let r = verdict c m true a in
         let j = request-rules c m b true a _ i in
         observed-book c (chargeOf c (wordOf a) r (k .book .held)) _ (stored-charge c (wordOf a) r k (request-keeps c m b true a f) j) (storing-book c (wordOf a) r k j)
@@ -385,13 +385,13 @@ run-fit c on memory xs =
 pub charge-unmarked : (c : Config) (on : Bool) (memory : List ℕ) (xs : List Call) (a : ℕ)
     → let s = after xs (opened c on memory) in
     let n = s .config in
-    let k = request n (s .machine) (s .book) true a (depth (s .book .marks) (addressIndexes n a)) in
+    let k = request n (s .machine) (s .book) true a (requestDepth n (s .machine) (s .book) a) in
     IfSome (ChargeRules n (k .book .marks)) (chargeOf n (wordOf a) (verdict n (s .machine) true a) (k .book .held))
 charge-unmarked c on memory xs a =
     let o = opened c on memory in
     let s = after xs o in
     let n = s .config in
-    let k = request n (s .machine) (s .book) true a (depth (s .book .marks) (addressIndexes n a)) in
+    let k = request n (s .machine) (s .book) true a (requestDepth n (s .machine) (s .book) a) in
     let f = run-fits xs o (opened-fits c on memory) in
     let i = run-rules xs o (opened-fits c on memory) (opened-rules c on memory) in
     charge-rules n (k .book) (wordOf a) _ (request-keeps n (s .machine) (s .book) true a f) (request-rules n (s .machine) (s .book) true a _ i)

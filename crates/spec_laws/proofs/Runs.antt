@@ -1,5 +1,4 @@
--- What the book keeps over a run: every held path has the depth that the marks say, so none is a proper prefix of another;
--- and a granted request reads N + N·d words.
+-- What the book keeps over a run: every held path has the depth that the marks say or, where its walk ended above the marked levels, all indexes.
 -- Assumes nothing.
 use mathlib.Core.Path.{_≡_, refl, sym, ap, _∙_, subst}
 use Prim.Native.Nat.{ℕ, suc, _+_, _*_, _-_, _≤_}
@@ -10,19 +9,19 @@ use mathlib.Core.Option.{Option, none, some}
 use borrow.Author.Tests.{not-false}
 use lib.Dec.{T, eqb, leb, leb→le}
 use lib.ListN.{length}
-use lib.Seq.{length-take-le}
+use lib.Seq.{length-take-le, take-all}
 use Rattle.spec.specs.declared.Fault.{Fault}
 use Rattle.spec.specs.Config.{Config}
 use Rattle.spec.specs.Entry.{pageOf, wordOf}
 use Rattle.spec.specs.Prefix.{begins, same, keep}
 use Rattle.spec.specs.Walk.{World, Trace, Result, granted, failed, trace}
-use Rattle.spec.specs.Plain.{Place, upper, shadowPart, directPart}
+use Rattle.spec.specs.Plain.{Place, isSpan, walk, upper, shadowPart, directPart}
 use Rattle.spec.specs.Machine.{Machine, world}
 use Rattle.spec.specs.Bits.{owes, judged}
 use Rattle.spec.specs.Book.{Mark, Held, Book, markAt, sameMark, depth, find, holding, marking, unmarking, fill, shadowTables, dropPrefix, usesMapping, readsWord}
 use Rattle.spec.specs.Choice.{leafMark, isAutomatic, withdrawn, roomMade, entered, observed, operated}
 use Rattle.spec.specs.Call.{Call, root, map, unmap, setMark, clearMark, load, store, device, forecast, addressIndexes, plain, verdict}
-use Rattle.spec.specs.Count.{Counted, serves, heldBy, isGranted, rightOf, others, shadowed, unshadowed, request, storing, bookStep}
+use Rattle.spec.specs.Count.{Counted, depthBy, depthIn, serves, heldBy, isGranted, rightOf, others, shadowed, unshadowed, requestDepth, request, storing, bookStep}
 use Rattle.spec.specs.Refusal.{firstFailed, levelFits, tests, refusal}
 use Rattle.spec.specs.Run.{State, answered, step, after, opened}
 use Rattle.spec.specs.Prefix.{All}
@@ -31,9 +30,9 @@ use Rattle.spec_laws.proofs.Parts.{direct-result}
 use Rattle.spec_laws.proofs.Refill.{others-all}
 use Rattle.spec_laws.proofs.Charges.{IfSome, charge-long}
 use Rattle.spec_laws.proofs.Choice.{room-has, observed-has}
-use Rattle.spec_laws.proofs.Counts.{request-count}
+use Rattle.spec_laws.proofs.Large.{walk-span}
 use Rattle.spec_laws.proofs.Indexes.{indexes-length}
-use Rattle.spec_laws.proofs.Depth.{MarkFits, PathFits, depth-bound, no-proper-prefix, fill-fits, set-fits, clear-fits}
+use Rattle.spec_laws.proofs.Depth.{MarkFits, PathFits, fill-fits, large-fits, set-fits, clear-fits}
 
 -- a call that is not refused passed every test
 pub all-passed : (xs : List (Bool × ℕ)) → firstFailed xs ≡ none → All (λ x. T (x .0)) xs
@@ -46,10 +45,10 @@ all-passed (x ∷ xs) h = go (x .0) h (all-passed xs)
 
 pub record BookFits (c : Config) (b : Book) : Type 0 where
   pub marks : All (MarkFits (c .levels)) (b .marks)
-  pub held : All (λ (h : Held). PathFits (c .levels) (b .marks) (h .path)) (b .held)
+  pub held : All (λ (h : Held). PathFits (c .levels) (b .marks) (h .path) (length (h .reads))) (b .held)
 
 abbrev pub HeldFits : Config → List Mark → Held → Type 0
-HeldFits c ms h = PathFits (c .levels) ms (h .path)
+HeldFits c ms h = PathFits (c .levels) ms (h .path) (length (h .reads))
 
 -- fewer held paths
 pub kept-fits : (c : Config) (b : Book) (f : Held → Bool) → BookFits c b → BookFits c (holding b (keep f (b .held)))
@@ -65,7 +64,7 @@ pub set-keeps : (c : Config) (b : Book) (m : Mark) → MarkFits (c .levels) m �
 set-keeps c b m ok i = record {
   marks = (ok, i .marks);
   held = all-map (λ h. HeldFits c (b .marks) h × T (not (begins (m .prefix) (h .path)))) (HeldFits c (m ∷ b .marks)) (dropPrefix (m .prefix) (b .held))
-      (λ h k. set-fits (c .levels) (b .marks) (h .path) (k .0) m ok (λ t. not-both (begins (m .prefix) (h .path)) t (k .1)))
+      (λ h k. set-fits (c .levels) (b .marks) (h .path) (length (h .reads)) (k .0) m ok (λ t. not-both (begins (m .prefix) (h .path)) t (k .1)))
       (all-keep (HeldFits c (b .marks)) (λ h. not (begins (m .prefix) (h .path))) (b .held) (i .held));
 }
 
@@ -79,7 +78,7 @@ clear-keeps c b m i = record {
   marks = all-kept (MarkFits (c .levels)) (λ y. not (sameMark m y)) (b .marks) (i .marks);
   held = all-map (λ h. HeldFits c (b .marks) h × T (not (begins (m .prefix) (h .path)))) (HeldFits c (keep (λ y. not (sameMark m y)) (b .marks)))
       (dropPrefix (m .prefix) (b .held))
-      (λ h k. clear-fits (c .levels) (b .marks) (h .path) (k .0) (λ y. not (sameMark m y)) (i .marks)
+      (λ h k. clear-fits (c .levels) (b .marks) (h .path) (length (h .reads)) (k .0) (λ y. not (sameMark m y)) (i .marks)
       (all-map (MarkFits (c .levels)) (λ y. T (not (not (sameMark m y))) → T (begins (y .prefix) (h .path)) → ⊥) (b .marks)
       (λ y ok alike t.
       let e = same-is (m .prefix) (y .prefix) (and-right (eqb (m .level) (y .level)) (same (m .prefix) (y .prefix)) (not-not (sameMark m y) alike)) in
@@ -147,12 +146,61 @@ request-book P c m b st a d same fills = go (leb d (c .levels)) refl
     go true e = part (s .result) refl (leb→le d (c .levels) (subst T (sym e) tt))
     go false e = same
 
+-- the path that a request fills
+pub request-fits : (c : Config) (m : Machine) (ms : List Mark) (st : Bool) (a : ℕ) (r : Place) → All (MarkFits (c .levels)) ms
+    → let is = addressIndexes c a in
+    let d = depthIn c m a (depth ms is) in
+    let s = trace (world c m) (shadowPart c st d (m .root) is) in
+    d ≤ c .levels → s .result ≡ granted r → PathFits (c .levels) ms (upper c d is) (length (s .reads))
+unfolding depthIn
+request-fits c m ms st a r ok = go ((trace w (shadowPart c false d (m .root) is)) .result) refl
+  where
+    w : World
+    w = world c m
+
+    is : List ℕ
+    is = addressIndexes c a
+
+    long : length is ≡ c .levels
+    long = indexes-length (c .levels) (pageOf a)
+
+    d : ℕ
+    d = depth ms is
+
+    part : ℕ → Trace Fault Place
+    part e = trace w (shadowPart c st e (m .root) is)
+
+    small : d ≤ c .levels → (part d) .result ≡ granted r → PathFits (c .levels) ms (upper c d is) (length ((part d) .reads))
+    small l h = fill-fits (c .levels) ms is (length ((part d) .reads)) ok long l
+
+    all : upper c 0 is ≡ is
+    all = take-all (c .levels - 0) is (omega (arith, long))
+
+    -- the walk of all indexes reads no more than that down to level d
+    few : (q : Place) → (trace w (shadowPart c false d (m .root) is)) .result ≡ granted q → isSpan c (q .0) ≡ true → (part 0) .result ≡ granted r
+        → length ((part 0) .reads) ≤ c .levels - d
+    few q e s h =
+        let whole = walk-span w c st d (m .root) is q r long e s (ap (λ x. (trace w (walk c st (m .root) x)) .result) (sym all) ∙ h) in
+        subst (λ x. length ((trace w (walk c st (m .root) x)) .reads) ≤ c .levels - d) (sym all) whole
+
+    large : (q : Place) → (trace w (shadowPart c false d (m .root) is)) .result ≡ granted q → isSpan c (q .0) ≡ true → (part 0) .result ≡ granted r
+        → PathFits (c .levels) ms (upper c 0 is) (length ((part 0) .reads))
+    large q e s h = subst (λ x. PathFits (c .levels) ms x (length ((part 0) .reads))) (sym all) (large-fits (c .levels) ms is _ ok long (few q e s h))
+
+    by : (q : Place) → (trace w (shadowPart c false d (m .root) is)) .result ≡ granted q → (b : Bool) → isSpan c (q .0) ≡ b → let e = cond b 0 d in
+        e ≤ c .levels → (part e) .result ≡ granted r → PathFits (c .levels) ms (upper c e is) (length ((part e) .reads))
+    by q e true s l h = large q e s h
+    by q e false s l h = small l h
+
+    go : (x : Result Fault Place) → (trace w (shadowPart c false d (m .root) is)) .result ≡ x → let e = depthBy c d x in
+        e ≤ c .levels → (part e) .result ≡ granted r → PathFits (c .levels) ms (upper c e is) (length ((part e) .reads))
+    go (failed x) e l h = small l h
+    go (granted q) e l h = by q e (isSpan c (q .0)) refl l h
+
 pub request-keeps : (c : Config) (m : Machine) (b : Book) (st : Bool) (a : ℕ) → BookFits c b
-    → BookFits c ((request c m b st a (depth (b .marks) (addressIndexes c a))) .book)
+    → BookFits c ((request c m b st a (requestDepth c m b a)) .book)
 request-keeps c m b st a i =
-    let is = addressIndexes c a in
-    request-book (BookFits c) c m b st a (depth (b .marks) is) i
-    (λ r l e g. fill-keeps c b _ (fill-fits (c .levels) (b .marks) is (i .marks) (indexes-length (c .levels) (pageOf a)) l) i)
+    request-book (BookFits c) c m b st a (requestDepth c m b a) i (λ r l e g. fill-keeps c b _ (request-fits c m (b .marks) st a r (i .marks) l e) i)
 
 storing-keeps : (c : Config) (i : ℕ) (x : Result Fault Place) (k : Counted) → BookFits c (k .book) → BookFits c ((storing i x k) .book)
 unfolding storing
@@ -229,27 +277,3 @@ pub run-fits : (xs : List Call) (s : State) → BookFits (s .config) (s .book) �
 unfolding after
 run-fits [] s i = i
 run-fits (x ∷ xs) s i = run-fits xs ((step x s) .1) (step-fits x s i)
-
--- after any list of calls from an opening, no held path is a proper prefix of another
-pub held-apart : (c : Config) (on : Bool) (memory : List ℕ) (xs : List Call)
-    → let hs = (after xs (opened c on memory)) .book .held in
-    All (λ h. All (λ k. T (begins (h .path) (k .path)) → h .path ≡ k .path) hs) hs
-held-apart c on memory xs =
-    let k = (after xs (opened c on memory)) .config in
-    let b = (after xs (opened c on memory)) .book in
-    let f = run-fits xs (opened c on memory) (opened-fits c on memory) in
-    all-map (HeldFits k (b .marks)) _ (b .held)
-    (λ h fh. all-map (HeldFits k (b .marks)) _ (b .held) (λ y fy. no-proper-prefix (k .levels) (b .marks) (h .path) (y .path) fh fy) (f .held)) (f .held)
-
--- after any list of calls from an opening, a request that is granted reads N + N·d words
-pub granted-reads : (c : Config) (on : Bool) (memory : List ℕ) (xs : List Call) (st : Bool) (a : ℕ) (r : Place)
-    → let s = after xs (opened c on memory) in
-    let k = s .config in
-    let d = depth (s .book .marks) (addressIndexes k a) in
-    verdict k (s .machine) st a ≡ granted r → (request k (s .machine) (s .book) st a d) .references ≡ k .levels + k .levels * d
-granted-reads c on memory xs st a r h =
-    let s = after xs (opened c on memory) in
-    let f = run-fits xs (opened c on memory) (opened-fits c on memory) in
-    let k = s .config in
-    let is = addressIndexes k a in
-    request-count k (s .machine) (s .book) st a (depth (s .book .marks) is) r (depth-bound (k .levels) (s .book .marks) is (f .marks)) h

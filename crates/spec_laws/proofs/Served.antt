@@ -2,10 +2,10 @@
 -- lacks none either, the request comes to what the direct part comes to, and sets nothing.
 -- Assumes nothing.
 use mathlib.Core.Path.{_≡_, refl, sym, ap, ap₂, _∙_, subst}
-use Prim.Native.Nat.{ℕ, zero, suc, _+_, _-_, _<_, _≤_}
+use Prim.Native.Nat.{ℕ, zero, suc, pred, _+_, _-_, _<_, _≤_}
 use native.Mathlib.Nat.{zero-add}
 use native.Mathlib.Omega.{arith}
-use mathlib.Core.Bool.{Bool, true, false, not, _&&_, _||_, cond, and-true, and-false}
+use mathlib.Core.Bool.{Bool, true, false, not, _&&_, _||_, cond, and-true, and-false, true≢false}
 use mathlib.Core.List.{List, [], _∷_, _++_, append-nil}
 use mathlib.Core.Option.{Option, none, some}
 use borrow.Author.Tests.{eqb-true, le-leb}
@@ -13,10 +13,10 @@ use lib.Dec.{eqb, eqb·suc-zero}
 use lib.ListN.{length, drop}
 use Rattle.spec.specs.declared.Fault.{Fault}
 use Rattle.spec.specs.Config.{Config}
-use Rattle.spec.specs.Entry.{accessed, dirty, pageOf}
+use Rattle.spec.specs.Entry.{writable, accessed, dirty, pageOf}
 use Rattle.spec.specs.Prefix.{All}
-use Rattle.spec.specs.Walk.{World, Trace, Result, granted, failed, trace}
-use Rattle.spec.specs.Plain.{Place, entry, levels, upper}
+use Rattle.spec.specs.Walk.{Walk, _>>=_, World, Trace, Result, granted, failed, trace}
+use Rattle.spec.specs.Plain.{Place, isSpan, entry, entryLead, spanLead, onward, turn, levels, upper}
 use Rattle.spec.specs.Machine.{Machine, world}
 use Rattle.spec.specs.Bits.{hasBits, isLast, lacks, mayWrite, owed, owes, judged, dirtyAt, bitsSet}
 use Rattle.spec.specs.Book.{Held, Book, find}
@@ -26,9 +26,10 @@ use Rattle.spec_laws.proofs.Lists.{by-cases, and-first, and-second}
 use Rattle.spec_laws.proofs.Indexes.{indexes-length}
 use Rattle.spec_laws.proofs.Local.{Seen}
 use Rattle.spec_laws.proofs.Bind.{more}
-use Rattle.spec_laws.proofs.Granted.{ran}
+use Rattle.spec_laws.proofs.Granted.{granted-is, ran}
+use Rattle.spec_laws.proofs.Large.{walk-real}
 use Rattle.spec_laws.proofs.Parts.{direct-trace}
-use Rattle.spec_laws.proofs.Counts.{shadowOf, directOf, levels-reads, lower-long}
+use Rattle.spec_laws.proofs.Counts.{shadowOf, directOf, lower-long}
 use Rattle.spec_laws.proofs.Before.{judged-none, off-owes, off-bits}
 use Rattle.spec_laws.proofs.Keeps.{again, booked, as-seen, sees, Valid, upper-long}
 use Rattle.spec_laws.proofs.SetBits.{lacks-none, lacks-owes, lacks-bits}
@@ -56,24 +57,26 @@ module _ (w : World) (st : Bool) where
   lacks-append [] y ys a = refl
   lacks-append (x ∷ xs) y ys a = ap (λ b. not b || lacks w st (xs ++ (y ∷ ys))) (above-has x xs y ys (a .0)) ∙ lacks-append xs y ys (a .1)
 
-  pub owed-level : (xs : List (ℕ × ℕ)) (gs : List ℕ) (o : ℕ × ℕ) → owed w st xs gs ≡ some o → o .0 ≤ length xs
+  pub owed-level : (n : ℕ) (xs : List (ℕ × ℕ)) (gs : List ℕ) (o : ℕ × ℕ) → owed w st n xs gs ≡ some o → o .0 ≤ n
   unfolding owed
-  owed-level [] gs o e = let z : _≡_ {A = ℕ} 0 1 = cc in absurd (omega arith)
-  owed-level (x ∷ xs) [] o e = let z : _≡_ {A = ℕ} 0 1 = cc in absurd (omega arith)
-  owed-level (x ∷ xs) (g ∷ gs) o e = go (hasBits (st && isLast xs) (w .wordAt (x .0) (x .1)) || mayWrite (w .hostAt g)) e (owed-level xs gs o)
+  owed-level n [] gs o e = let z : _≡_ {A = ℕ} 0 1 = cc in absurd (omega arith)
+  owed-level n (x ∷ xs) [] o e = let z : _≡_ {A = ℕ} 0 1 = cc in absurd (omega arith)
+  owed-level n (x ∷ xs) (g ∷ gs) o e = go (hasBits (st && isLast xs) (w .wordAt (x .0) (x .1)) || mayWrite (w .hostAt g)) e (owed-level (pred n) xs gs o)
     where
-      go : (b : Bool) → cond b (owed w st xs gs) (some (suc (length xs), g)) ≡ some o → (owed w st xs gs ≡ some o → o .0 ≤ length xs) → o .0 ≤ suc (length xs)
-      go true z ih = let l = ih z in omega arith
-      go false z ih = let q : suc (length xs) ≡ o .0 = cc in omega arith
+      go : (b : Bool) → cond b (owed w st (pred n) xs gs) (some (n, g)) ≡ some o → (owed w st (pred n) xs gs ≡ some o → o .0 ≤ pred n) → o .0 ≤ n
+      go true z ih = let l = ih z in omega (arith, l)
+      go false z ih = let q : n ≡ o .0 = cc in omega (arith, q)
 
   -- what is owed is owed by the later ones
-  owed-append : (xs : List (ℕ × ℕ)) (y : ℕ × ℕ) (ys : List (ℕ × ℕ)) (gs : List ℕ) (o : ℕ × ℕ) → Accessed xs → owed w st (xs ++ (y ∷ ys)) gs ≡ some o → o .0 ≤ suc (length ys)
+  owed-append : (n : ℕ) (xs : List (ℕ × ℕ)) (y : ℕ × ℕ) (ys : List (ℕ × ℕ)) (gs : List ℕ) (o : ℕ × ℕ) → Accessed xs → owed w st n (xs ++ (y ∷ ys)) gs ≡ some o
+      → o .0 ≤ n - length xs
   unfolding owed
-  owed-append [] y ys gs o a e = owed-level (y ∷ ys) gs o e
-  owed-append (x ∷ xs) y ys [] o a e = let z : _≡_ {A = ℕ} 0 1 = cc in absurd (omega arith)
-  owed-append (x ∷ xs) y ys (g ∷ gs) o a e =
-      owed-append xs y ys gs o (a .1)
-      (sym (ap (λ b. cond (b || mayWrite (w .hostAt g)) (owed w st (xs ++ (y ∷ ys)) gs) (some (suc (length (xs ++ (y ∷ ys))), g))) (above-has x xs y ys (a .0))) ∙ e)
+  owed-append n [] y ys gs o a e = let l = owed-level n (y ∷ ys) gs o e in omega (arith, l)
+  owed-append n (x ∷ xs) y ys [] o a e = let z : _≡_ {A = ℕ} 0 1 = cc in absurd (omega arith)
+  owed-append n (x ∷ xs) y ys (g ∷ gs) o a e =
+      let l = owed-append (pred n) xs y ys gs o (a .1)
+      (sym (ap (λ b. cond (b || mayWrite (w .hostAt g)) (owed w st (pred n) (xs ++ (y ∷ ys)) gs) (some (n, g))) (above-has x xs y ys (a .0))) ∙ e) in
+      omega (arith, l)
 
 -- ---- a request whose path h holds and serves; its shadow part comes to r
 
@@ -91,6 +94,10 @@ module _ (c : Config) (m : Machine) (st : Bool) (a d : ℕ) (r : Place) (h : Hel
   -- the held path is the shadow part
   pub held-shadow : _≡_ {A = Seen Fault Place} (booked (valid .frame) (valid .wide) h) (as-seen (granted r) part)
   held-shadow = sym (valid .comes) ∙ ap (again c m) path ∙ sees c m st (upper c d (addressIndexes c a)) r comes
+
+  -- it comes to a table or the page
+  real : isSpan c (r .0) ≡ false
+  real = ap (λ (p : Place). isSpan c (p .0)) (sym (granted-is {X = Fault} (valid .frame, valid .wide) r (ap (λ (x : Seen Fault Place). x .result) held-shadow))) ∙ valid .real
 
   held-reads : h .reads ≡ part .reads
   held-reads = ap (λ (x : Seen Fault Place). x .reads) held-shadow
@@ -123,12 +130,17 @@ module _ (c : Config) (m : Machine) (st : Bool) (a d : ℕ) (r : Place) (h : Hel
       go (i ∷ is) e = absurd (omega arith)
 
   first-read : 0 < d → (y : ℕ × ℕ) × (ys : List (ℕ × ℕ)) × (rest .reads ≡ y ∷ ys)
-  unfolding levels entry trace
+  unfolding levels turn entry trace
   first-read pos = go (drop (c .levels - d) (addressIndexes c a)) (lower-long c d a low)
     where
+      start : (i : ℕ) (down : Place → Walk Fault Place) (b : Bool) → b ≡ false
+          → (y : ℕ × ℕ) × (ys : List (ℕ × ℕ)) × ((trace here (cond b (onward c st d (spanLead c d (r .0) i) (r .1)) (entry c d (r .0) i >>= λ e. onward c st d (entryLead d e) (r .1 && writable e)) >>= down)) .reads ≡ y ∷ ys)
+      start i down true e = absurd (true≢false e)
+      start i down false e = ((r .0, i), _, refl)
+
       go : (is : List ℕ) → length is ≡ d → (y : ℕ × ℕ) × (ys : List (ℕ × ℕ)) × ((trace here (levels c st d (r .0) (r .1) is)) .reads ≡ y ∷ ys)
       go [] e = absurd (omega arith)
-      go (i ∷ is) e = ((r .0, i), _, refl)
+      go (i ∷ is) e = start i (λ q. levels c st (pred d) (q .0) (q .1) is) (isSpan c (r .0)) real
 
   whole : plain c m st a ≡ more (part .count) (part .reads) (part .uses) rest
   unfolding plain
@@ -189,12 +201,13 @@ module _ (c : Config) (m : Machine) (st : Bool) (a d : ℕ) (r : Place) (h : Hel
       go true on zero z = absurd (some-none o (sym (served-none (page-lacks z)) ∙ k))
       go true on (suc n) z =
           let f = first-read (omega arith) in
-          let l : suc (length (f .1)) ≡ d = sym (ap length (f .2)) ∙ levels-reads here c st d (r .0) (r .1) (drop (c .levels - d) (addressIndexes c a)) q e ∙ lower-long c d a low in
-          let owe : owed here st (part .reads ++ (f .0 ∷ f .1)) (part .uses ++ rest .uses) ≡ some o =
-          sym (ap (λ b. cond b (owed here st ((plain c m st a) .reads) ((plain c m st a) .uses)) none) on
-          ∙ ap (λ (x : Trace Fault Place). owed here st (x .reads) (x .uses)) whole
-          ∙ ap (λ xs. owed here st (part .reads ++ xs) (part .uses ++ rest .uses)) (f .2)) ∙ k in
-          subst (λ x. o .0 ≤ x) l (owed-append here st (part .reads) (f .0) (f .1) (part .uses ++ rest .uses) o (part-accessed on) owe)
+          let owe : owed here st (c .levels) (part .reads ++ (f .0 ∷ f .1)) (part .uses ++ rest .uses) ≡ some o =
+          sym (ap (λ b. cond b (owed here st (c .levels) ((plain c m st a) .reads) ((plain c m st a) .uses)) none) on
+          ∙ ap (λ (x : Trace Fault Place). owed here st (c .levels) (x .reads) (x .uses)) whole
+          ∙ ap (λ xs. owed here st (c .levels) (part .reads ++ xs) (part .uses ++ rest .uses)) (f .2)) ∙ k in
+          let l = owed-append here st (c .levels) (part .reads) (f .0) (f .1) (part .uses ++ rest .uses) o (part-accessed on) owe in
+          let all = walk-real here c st (m .root) (upper c d (addressIndexes c a)) r (omega (arith, upper-long c d a, low, z)) real comes in
+          omega (arith, l, all, upper-long c d a, low)
 
   -- N − d shadow entries and the words of the direct part, and one exit for H or W, which is in the direct part
   pub served-request : (b : Book) → find (upper c d (addressIndexes c a)) (b .held) ≡ some h

@@ -2,7 +2,7 @@
 -- walk without those that it needs; where none lacks one, it changes nothing.
 -- Assumes nothing.
 use mathlib.Core.Path.{_≡_, refl, sym, ap, ap₂, _∙_, subst}
-use Prim.Native.Nat.{ℕ, suc, _-_, _<_}
+use Prim.Native.Nat.{ℕ, pred, _-_, _<_}
 use mathlib.Core.Bool.{Bool, true, false, not, _&&_, _||_, cond, or-false}
 use mathlib.Core.List.{List, [], _∷_}
 use mathlib.Core.Option.{none, some}
@@ -129,21 +129,21 @@ lacks-none w st (x ∷ xs) a k =
     last ys false e = refl
 
 -- they owe nothing
-pub lacks-owed : (w : World) (st : Bool) (xs : List (ℕ × ℕ)) (gs : List ℕ) → lacks w st xs ≡ false → owed w st xs gs ≡ none
+pub lacks-owed : (w : World) (st : Bool) (n : ℕ) (xs : List (ℕ × ℕ)) (gs : List ℕ) → lacks w st xs ≡ false → owed w st n xs gs ≡ none
 unfolding lacks owed
-lacks-owed w st [] gs h = refl
-lacks-owed w st (x ∷ xs) [] h = refl
-lacks-owed w st (x ∷ xs) (g ∷ gs) h =
+lacks-owed w st n [] gs h = refl
+lacks-owed w st n (x ∷ xs) [] h = refl
+lacks-owed w st n (x ∷ xs) (g ∷ gs) h =
     let has = hasBits (st && isLast xs) (w .wordAt (x .0) (x .1)) in
-    ap (λ b. cond (b || mayWrite (w .hostAt g)) (owed w st xs gs) (some (suc (length xs), g))) (not-false has (or-first (not has) (lacks w st xs) h))
-    ∙ lacks-owed w st xs gs (or-second (not has) (lacks w st xs) h)
+    ap (λ b. cond (b || mayWrite (w .hostAt g)) (owed w st (pred n) xs gs) (some (n, g))) (not-false has (or-first (not has) (lacks w st xs) h))
+    ∙ lacks-owed w st (pred n) xs gs (or-second (not has) (lacks w st xs) h)
 
 pub lacks-owes : (c : Config) (w : World) (st : Bool) (r : Trace Fault Place) → lacks w st (r .reads) ≡ false → owes c w st r ≡ none
 unfolding owes
 lacks-owes c w st r h = go (c .bits)
   where
-    go : (b : Bool) → cond b (owed w st (r .reads) (r .uses)) none ≡ none
-    go true = lacks-owed w st (r .reads) (r .uses) h
+    go : (b : Bool) → cond b (owed w st (c .levels) (r .reads) (r .uses)) none ≡ none
+    go true = lacks-owed w st (c .levels) (r .reads) (r .uses) h
     go false = refl
 
 -- and nothing is set
@@ -204,13 +204,13 @@ unfolding lacks
 lacks-on w v st [] a = refl
 lacks-on w v st (x ∷ xs) a = ap₂ (λ y b. not (hasBits (st && isLast xs) y) || b) (a .0) (lacks-on w v st xs (a .1))
 
-pub owed-on : (w v : World) (st : Bool) (xs : List (ℕ × ℕ)) (gs : List ℕ) → All (SameWord w v) xs → All (SameMapping w v) gs → owed v st xs gs ≡ owed w st xs gs
+pub owed-on : (w v : World) (st : Bool) (n : ℕ) (xs : List (ℕ × ℕ)) (gs : List ℕ) → All (SameWord w v) xs → All (SameMapping w v) gs → owed v st n xs gs ≡ owed w st n xs gs
 unfolding owed
-owed-on w v st [] gs a b = refl
-owed-on w v st (x ∷ xs) [] a b = refl
-owed-on w v st (x ∷ xs) (g ∷ gs) a b =
-    ap₂ (λ y h. cond (hasBits (st && isLast xs) y || mayWrite h) (owed v st xs gs) (some (suc (length xs), g))) (a .0) (b .0)
-    ∙ ap (λ o. cond (hasBits (st && isLast xs) (w .wordAt (x .0) (x .1)) || mayWrite (w .hostAt g)) o (some (suc (length xs), g))) (owed-on w v st xs gs (a .1) (b .1))
+owed-on w v st n [] gs a b = refl
+owed-on w v st n (x ∷ xs) [] a b = refl
+owed-on w v st n (x ∷ xs) (g ∷ gs) a b =
+    ap₂ (λ y h. cond (hasBits (st && isLast xs) y || mayWrite h) (owed v st (pred n) xs gs) (some (n, g))) (a .0) (b .0)
+    ∙ ap (λ o. cond (hasBits (st && isLast xs) (w .wordAt (x .0) (x .1)) || mayWrite (w .hostAt g)) o (some (n, g))) (owed-on w v st (pred n) xs gs (a .1) (b .1))
 
 pub dirty-on : (w v : World) (xs : List (ℕ × ℕ)) → All (SameWord w v) xs → dirtyAt v xs ≡ dirtyAt w xs
 dirty-on w v [] a = refl

@@ -22,7 +22,7 @@ use Rattle.spec.specs.Book.{Mark, Book, Window, markAt, sameMark, isSet, depth}
 use Rattle.spec.specs.Choice.{chargeOf, leafMark, isAutomatic, owned, leaving, isSome}
 use Rattle.spec.specs.Call as call
 use Rattle.spec.specs.Call.{Call, Outcome, root, map, unmap, setMark, clearMark, load, store, device, forecast, addressIndexes, verdict, machineStep}
-use Rattle.spec.specs.Count.{Counted, request, storing, bookStep}
+use Rattle.spec.specs.Count.{Counted, requestDepth, request, storing, bookStep}
 use Rattle.spec.specs.Refusal.{firstFailed, addressFits, levelFits, tests, refusal}
 use Rattle.spec.specs.Run.{State, lineOf, told, answered, step, run, opened}
 use Rattle.spec.specs.Heard.{bare}
@@ -102,7 +102,7 @@ owned-step c (setMark a n) m b f i = owned-operated c (markAt c n (addressIndexe
 owned-step c (clearMark a n) m b f i = owned-unmarking (markAt c n (addressIndexes c a)) b
 owned-step c (load a w) m b f i = owned-observed c none _ tt ∙ request-owned c m b false a _
 owned-step c (store a w v) m b f i =
-    let k = request c m b true a (depth (b .marks) (addressIndexes c a)) in
+    let k = request c m b true a (requestDepth c m b a) in
     let r = verdict c m true a in
     owned-observed c (chargeOf c (wordOf a) r (k .book .held)) _
     (unset _ (chargeOf c (wordOf a) r (k .book .held)) (stored-charge c (wordOf a) r k (request-keeps c m b true a f) (request-rules c m b true a _ i)))

@@ -23,11 +23,11 @@ use Rattle.layout.specs.Layout.{page}
 use Rattle.walk.specs.declared.Walked.{Walked}
 use Rattle.walk.specs.declared.Walked.the-variants as walked
 use Rattle.walk.proofs.Laws.{loop-end}
-use Rattle.walk.specs.Memory.{memoryWorld, walkedOf, trailFrom, trailOf}
-use Rattle.accessed.specs.Entries.{entries, Frames, wordsOf, owedBy, owedOf}
-use Rattle.accessed.proofs.Walks.{arrived-granted, Read, levels-read, walk-read, trail-entries, trail-frames, levels-frames, walk-frames}
+use Rattle.walk.specs.Memory.{memoryWorld, walkedOf, trailFrom, trailOf, rootTrail}
+use Rattle.accessed.specs.Entries.{seenOf, seenEntries, wordsOf, owedBy, owedOf}
+use Rattle.accessed.proofs.Walks.{arrived-granted, walk-owed, trail-entries, root-entries}
 use Rattle.translate.specs.declared.Checked.the-variants as checked
-use Rattle.translate.specs.Translate.{ExitsOnce, translation, exitBy, pathIndexes, whole, direct, directOf, servedOf, plainOf, owingBy, checkedBy, checkedOf, debtBy, entriesOf, judgedBy, throughOf, bitlessOf, lackingBy, lackingOf, Framed, unshadowedOf, strictBy, laxBy, verdictOf, ruledBy, arrivedOf, missedBy, missedOf}
+use Rattle.translate.specs.Translate.{ExitsOnce, translation, exitBy, pathIndexes, whole, direct, directOf, servedOf, plainOf, owingBy, checkedBy, checkedOf, debtBy, entriesOf, judgedBy, throughOf, bitlessOf, lackingBy, lackingOf, unshadowedOf, strictBy, laxBy, verdictOf, ruledBy, arrivedOf, missedBy, missedOf}
 use Rattle.translate.specs.declared.Held.{Held}
 use Rattle.translate.specs.declared.Translated.{Translated}
 use Rattle.translate.specs.declared.Verdict.{Verdict}
@@ -45,59 +45,51 @@ module _ (c : Config) (ht : ℕ) (m : List ℕ) where
   unfolding memoryWorld
   words-lack st xs = lacks-on w (wordsOf m) st xs (all-any (SameWord w (wordsOf m)) xs (λ x. refl))
 
-  -- the tables of a walk from the root that arrived
-  pub root-frames : (root : ℕ) (st : Bool) (is : List ℕ) (t : ℕ) (v : Bool) (n : ℕ) → c .frames ≤ 65536
-      → walkedOf c ht m 0 (walk c st root is) ≡ walked.Arrived (page t) v n → Frames (trailOf c ht m 0 (walk c st root is) .tables)
-  root-frames root st is t v n few e =
-      trail-frames c ht m few (walk c st root is) 0 (walk-frames c ht m few st root is (t, v) (arrived-granted c ht m 0 (walk c st root is) t v n e))
-
   -- ---- the whole walk
-  module _ (root : ℕ) (st : Bool) (a : ℕ) (t : ℕ) (v : Bool) (n : ℕ) (few : c .frames ≤ 65536) (deep : c .levels ≤ 8)
-      (arrived : walkedOf c ht m 0 (whole c st root a) ≡ walked.Arrived (page t) v n) where
+  module _ (root : ℕ) (st : Bool) (a : ℕ) (t : ℕ) (v : Bool) (n : ℕ) (deep : c .levels ≤ 8)
+      (arrived : walkedOf c ht m 0 (whole c st root a) ≡ walked.Arrived v (page t) n) where
     abbrev r : Trace Fault Place
     r = trace w (whole c st root a)
+
+    abbrev places : List ℕ
+    places = rootTrail c ht m st root (indexes (c .levels) (pageOf a)) .tables
 
     grant : r .result ≡ granted (t, v)
     grant = arrived-granted c ht m 0 (whole c st root a) t v n arrived
 
-    read : Read w (indexes (c .levels) (pageOf a)) (root ∷ map (λ x. frameOf (w .wordAt (x .0) (x .1))) (r .reads)) r
-    read = walk-read w c st root (indexes (c .levels) (pageOf a)) (t, v) grant
-
-    pub whole-entries : entries (trailOf c ht m 0 (whole c st root a) .tables) 0 (indexes (c .levels) (pageOf a)) ≡ r .reads
-    whole-entries = trail-entries c ht m 0 (whole c st root a) (indexes (c .levels) (pageOf a)) _ (omega (arith, indexes-length (c .levels) (pageOf a))) read
+    pub whole-entries : seenEntries places (seenOf c places (c .levels) (pageOf a)) ≡ r .reads
+    whole-entries = root-entries c ht m st root (c .levels) (pageOf a) (t, v) deep (omega arith) grant
 
     -- what the entries in its tables say is what the walk's bits say
-    pub whole-checked : (d : ℕ) → entriesOf c ht m root st d (entries (trailOf c ht m 0 (whole c st root a) .tables) 0 (indexes (c .levels) (pageOf a))) ≡ checkedOf c ht m root st a d
+    pub whole-checked : (d : ℕ) → entriesOf c ht m root st d (seenEntries places (seenOf c places (c .levels) (pageOf a))) ≡ checkedOf c ht m root st a d
     unfolding entriesOf checkedOf owedOf memoryWorld
     whole-checked d =
         ap (entriesOf c ht m root st d) whole-entries
-        ∙ ap₂ (λ b us. cond b (debtBy d (owedBy (owed w st (r .reads) us))) (checked.Clear false)) (words-lack st (r .reads)) (sym (read .used))
+        ∙ ap₂ (λ b o. cond b (debtBy d (owedBy o)) (checked.Clear false)) (words-lack st (r .reads))
+        (sym (walk-owed w c st root (indexes (c .levels) (pageOf a)) (t, v) (c .levels) (omega (arith, indexes-length (c .levels) (pageOf a))) grant))
         ∙ by (lacks w st (r .reads)) refl
-        ∙ sym (ap (checkedBy d (lacks w st (r .reads)) (owed w st (r .reads) (r .uses))) arrived)
+        ∙ sym (ap (checkedBy d (lacks w st (r .reads)) (owed w st (c .levels) (r .reads) (r .uses))) arrived)
       where
-        owing : (o : Option (ℕ × ℕ)) → debtBy d (owedBy o) ≡ checkedBy d true o (walked.Arrived (page t) v n)
+        owing : (o : Option (ℕ × ℕ)) → debtBy d (owedBy o) ≡ checkedBy d true o (walked.Arrived v (page t) n)
         owing none = refl
         owing (some o) = refl
 
         by : (b : Bool) → lacks w st (r .reads) ≡ b
-            → cond b (debtBy d (owedBy (owed w st (r .reads) (r .uses)))) (checked.Clear false) ≡ checkedBy d b (owed w st (r .reads) (r .uses)) (walked.Arrived (page t) v n)
-        by true e = owing (owed w st (r .reads) (r .uses))
-        by false e = ap (λ o. checkedBy d false o (walked.Arrived (page t) v n)) (sym (lacks-owed w st (r .reads) (r .uses) e))
+            → cond b (debtBy d (owedBy (owed w st (c .levels) (r .reads) (r .uses)))) (checked.Clear false) ≡ checkedBy d b (owed w st (c .levels) (r .reads) (r .uses)) (walked.Arrived v (page t) n)
+        by true e = owing (owed w st (c .levels) (r .reads) (r .uses))
+        by false e = ap (λ o. checkedBy d false o (walked.Arrived v (page t) n)) (sym (lacks-owed w st (c .levels) (r .reads) (r .uses) e))
 
   -- ---- the direct part
-  module _ (st : Bool) (a d t : ℕ) (v : Bool) (u : ℕ) (x : Bool) (n : ℕ) (few : c .frames ≤ 65536) (deep : d ≤ 8) (small : t < frameLimit)
-      (arrived : directOf c ht m st a d t v ≡ walked.Arrived (page u) x n) where
+  module _ (st : Bool) (a d t : ℕ) (v : Bool) (u : ℕ) (x : Bool) (n : ℕ) (deep : d ≤ 8)
+      (arrived : directOf c ht m st a d t v ≡ walked.Arrived x (page u) n) where
     direct-grant : (trace w (direct c st a d t v)) .result ≡ granted (u, x)
     unfolding directOf
     direct-grant = arrived-granted c ht m (c .levels - d) (direct c st a d t v) u x n arrived
 
-    pub direct-frames : Frames (trailOf c ht m (c .levels - d) (direct c st a d t v) .tables)
-    direct-frames = trail-frames c ht m few (direct c st a d t v) (c .levels - d) (levels-frames c ht m few st _ t v (indexes d (pageOf a)) (u, x) small direct-grant)
-
-    pub direct-lacks : lacks (wordsOf m) st (entries (trailOf c ht m (c .levels - d) (direct c st a d t v) .tables) 0 (indexes d (pageOf a))) ≡ lacks w st ((trace w (direct c st a d t v)) .reads)
+    pub direct-lacks : let ts = trailOf c ht m (c .levels - d) st (0 + d) t v (indexes d (pageOf a)) .tables in
+        lacks (wordsOf m) st (seenEntries ts (seenOf c ts d (pageOf a))) ≡ lacks w st ((trace w (direct c st a d t v)) .reads)
     direct-lacks =
-        ap (lacks (wordsOf m) st) (trail-entries c ht m (c .levels - d) (direct c st a d t v) (indexes d (pageOf a)) _ (omega (arith, indexes-length d (pageOf a)))
-        (levels-read w c st _ t v (indexes d (pageOf a)) (u, x) direct-grant))
+        ap (lacks (wordsOf m) st) (trail-entries c ht m (c .levels - d) st t v d (0 + d) (pageOf a) (u, x) deep (omega arith) direct-grant)
         ∙ words-lack st ((trace w (direct c st a d t v)) .reads)
 
 -- ---- ranges
@@ -108,21 +100,21 @@ unfolding checkedOf
 checked-once c ht m root st a d =
     let w = memoryWorld c ht m in
     let t = trace w (whole c st root a) in
-    go (lacks w st (t .reads)) (owed w st (t .reads) (t .uses)) (walkedOf c ht m 0 (whole c st root a))
+    go (lacks w st (t .reads)) (owed w st (c .levels) (t .reads) (t .uses)) (walkedOf c ht m 0 (whole c st root a))
   where
     owing : (l : Bool) (o : Option (ℕ × ℕ)) → ExitsOnce (owingBy d l o)
     owing l none = tt
     owing l (some o) = one-most (leb (o .0) d)
 
     go : (l : Bool) (o : Option (ℕ × ℕ)) (r : Walked) → ExitsOnce (checkedBy d l o r)
-    go l o (walked.Arrived p v n) = owing l o
+    go l o (walked.Arrived v p n) = owing l o
     go l o (walked.Faulted x n) = exit-small (walked.Faulted x n)
     go l o walked.Damaged = tt
 
 -- ---- by the choice
 
 pub lacking-none : (r : Walked) → lackingBy false r ≡ false
-lacking-none (walked.Arrived p w n) = refl
+lacking-none (walked.Arrived w p n) = refl
 lacking-none (walked.Faulted x n) = refl
 lacking-none walked.Damaged = refl
 
@@ -140,40 +132,31 @@ module _ (c : Config) (ht : ℕ) (m : List ℕ) (st : Bool) (a d t : ℕ) (v : B
   abbrev pub lack : Bool
   lack = lacks (memoryWorld c ht m) st ((trace (memoryWorld c ht m) (direct c st a d t v)) .reads)
 
-  -- the trail of the direct part: where it came to, that its tables are frames, and what the entries in them lack
-  module _ (x : Trail) (is : x ≡ trailOf c ht m (c .levels - d) (direct c st a d t v)) where
+  -- the trail of the direct part: where it came to, and what the entries in its tables lack
+  module _ (x : Trail) (is : x ≡ trailOf c ht m (c .levels - d) st (0 + d) t v (indexes d (pageOf a))) where
     pub trail-came : x .walked ≡ directOf c ht m st a d t v
     unfolding directOf trailFrom
     trail-came = ap (λ (y : Trail). y .walked) is
 
-    module _ (few : c .frames ≤ 65536) (deep : d ≤ 8) (small : t < frameLimit) where
-      pub trail-framed : Framed (x .walked) (x .tables)
-      trail-framed = go (x .walked) (sym trail-came)
-        where
-          go : (r : Walked) → directOf c ht m st a d t v ≡ r → Framed r (x .tables)
-          go (walked.Arrived p y n) e = subst (λ (z : Trail). Frames (z .tables)) (sym is) (direct-frames c ht m st a d t v (p .0) y n few deep small e)
-          go (walked.Faulted y n) e = tt
-          go walked.Damaged e = tt
+    abbrev lackIn : List ℕ → Bool
+    lackIn ts = lacks (wordsOf m) st (seenEntries ts (seenOf c ts d (pageOf a)))
 
-      abbrev lackIn : List ℕ → Bool
-      lackIn ts = lacks (wordsOf m) st (entries ts 0 (indexes d (pageOf a)))
-
-      pub trail-lacking : lackingBy (c .bits && lackIn (x .tables)) (x .walked) ≡ lackingOf c ht m st a d t v
-      unfolding lackingOf
-      trail-lacking = go (x .walked) (sym trail-came) ∙ ap (lackingBy (c .bits && lack)) trail-came
-        where
-          go : (r : Walked) → directOf c ht m st a d t v ≡ r → lackingBy (c .bits && lackIn (x .tables)) r ≡ lackingBy (c .bits && lack) r
-          go (walked.Arrived p y n) e =
-              ap (λ l. c .bits && l) (ap (λ (z : Trail). lackIn (z .tables)) is ∙ direct-lacks c ht m st a d t v (p .0) y n few deep small e)
-          go (walked.Faulted y n) e = refl
-          go walked.Damaged e = refl
+    pub trail-lacking : d ≤ 8 → lackingBy (c .bits && lackIn (x .tables)) (x .walked) ≡ lackingOf c ht m st a d t v
+    unfolding lackingOf
+    trail-lacking deep = go (x .walked) (sym trail-came) ∙ ap (lackingBy (c .bits && lack)) trail-came
+      where
+        go : (r : Walked) → directOf c ht m st a d t v ≡ r → lackingBy (c .bits && lackIn (x .tables)) r ≡ lackingBy (c .bits && lack) r
+        go (walked.Arrived y p n) e =
+            ap (λ l. c .bits && l) (ap (λ (z : Trail). lackIn (z .tables)) is ∙ direct-lacks c ht m st a d t v (p .0) y n deep e)
+        go (walked.Faulted y n) e = refl
+        go walked.Damaged e = refl
 
   -- at depth 0 there is no table to read, and the page is what the path leads to
-  pub direct-page : d ≡ 0 → directOf c ht m st a d t v ≡ walked.Arrived (page t) v (c .levels)
+  pub direct-page : d ≡ 0 → directOf c ht m st a d t v ≡ walked.Arrived v (page t) (c .levels)
   unfolding directOf
   direct-page e =
       let all : c .levels - d ≡ c .levels = omega (arith, e) in
-      loop-end c ht m (c .levels - d) st 0 d t (pageOf a) v e ∙ ap (walked.Arrived (page t) v) all
+      loop-end c ht m (c .levels - d) st 0 d t (pageOf a) v e ∙ ap (walked.Arrived v (page t)) all
 
   -- where no bit is to be looked at, none lacks
   pub bitless-none : bitlessOf c d ≡ true → lackingOf c ht m st a d t v ≡ false
@@ -237,11 +220,11 @@ module _ (c : Config) (ht : ℕ) (m : List ℕ) (h : Held) (root : ℕ) (st : Bo
       where
         by : (b l : Bool) (r : Walked) → cond b (judgedBy h l (checkedOf c ht m root st a d) r) (translation h (0 + exitBy r) r false)
             ≡ cond (lackingBy (b && l) r) (judgedBy h true (checkedOf c ht m root st a d) r) (translation h (0 + exitBy r) r false)
-        by false l (walked.Arrived p x n) = refl
+        by false l (walked.Arrived x p n) = refl
         by false l (walked.Faulted x n) = refl
         by false l walked.Damaged = refl
-        by true true (walked.Arrived p x n) = refl
-        by true false (walked.Arrived p x n) = refl
+        by true true (walked.Arrived x p n) = refl
+        by true false (walked.Arrived x p n) = refl
         by true l (walked.Faulted x n) = ap (λ e. translation h e (walked.Faulted x n) false) (sym (zero-add (exitBy (walked.Faulted x n))))
         by true l walked.Damaged = refl
 
@@ -267,6 +250,6 @@ module _ (c : Config) (ht : ℕ) (m : List ℕ) (h : Held) (root : ℕ) (st : Bo
       arrived-on e = ap ruled (verdict-on c ht m root gs st a d n v (directOf c ht m st a d t v) e)
 
   -- a walk of the shadow part, by what it came to
-  pub missed-by : (r : Trail) → trailOf c ht m 0 (walk c st root (pathIndexes c d a)) ≡ r → missedOf c ht m h root st a d ≡ missedBy c ht m h root st a d (r .tables) (r .walked)
+  pub missed-by : (r : Trail) → rootTrail c ht m st root (pathIndexes c d a) ≡ r → missedOf c ht m h root st a d ≡ missedBy c ht m h root st a d (r .tables) (r .walked)
   unfolding missedOf
   missed-by r e = ap (λ (x : Trail). missedBy c ht m h root st a d (x .tables) (x .walked)) e

@@ -5,13 +5,13 @@ use mathlib.Core.Path.{_≡_, refl}
 use mathlib.Core.Logic.{inl, inr}
 use Prim.Native.Nat.{ℕ, _+_, _-_, _≤_}
 use native.Mathlib.Omega.{arith}
-use borrow.Author.Tests.{eqb-false}
+use borrow.Author.Tests.{eqb-false, ltb-false}
 use mathlib.Core.Bool.{Bool, true, false, cond, false≢true}
 use mathlib.Core.List.{List}
 use lib.Dec.{eqb, leb, ltb}
 use Rattle.spec.specs.Config.{Config}
 use Rattle.spec.specs.Entry.{indexes, pageOf}
-use Rattle.spec.specs.Plain.{walk}
+use Rattle.spec.specs.Plain.{isSpan, walk}
 use Rattle.pool.specs.declared.Way.{Way}
 use Rattle.pool.specs.declared.Way.the-variants.{To, Not, Damaged}
 use Rattle.pool.specs.Outside.{SameOutside}
@@ -23,7 +23,8 @@ use Rattle.walk.specs.declared.Walked.{Walked}
 use Rattle.walk.specs.declared.Walked.the-variants as walked
 use Rattle.spec.specs.Walk.{trace}
 use Rattle.spec.specs.Bits.{lacks}
-use Rattle.walk.specs.Memory.{memoryWorld, walkedOf, trailFrom, trailOf}
+use Rattle.walk.specs.Memory.{memoryWorld, walkedOf, rootTrail}
+use Rattle.spec_laws.proofs.Indexes.{indexes-all}
 use Rattle.shadow.specs.Held.{entryFor}
 use Rattle.shadow.specs.Fill.{fillOf}
 use Rattle.shadow.proofs.Outside.{fill-out}
@@ -32,7 +33,7 @@ use Rattle.translate.specs.declared.Held.{Held}
 use Rattle.translate.specs.declared.Checked.{Checked}
 use Rattle.translate.specs.declared.Checked.the-variants as checked
 use Rattle.translate.specs.Translate.{exitBy, pathOf, pathIndexes, holding, HeldFits, ExitsOnce, translation, whole, direct, directOf, servedOf, plainOf, checkedOf, settledBy, judgedBy, throughOf, unshadowedOf, servesOf, foundOf, fillBy, filledOf, passesOf, clearedBy, strictBy, laxBy, verdictOf, ruledBy, arrivedOf, missedBy, missedOf, foundBy, translateOf}
-use Rattle.translate.proofs.Fits.{exit-small, ArrivedIn, direct-in, walk-in, FoundIs, found-is}
+use Rattle.translate.proofs.Fits.{exit-small, ArrivedIn, ArrivedNear, direct-in, walk-in, shadow-near, FoundIs, found-is}
 use Rattle.translate.proofs.Bits.{checked-once}
 use Rattle.words.specs.After.{After, yields}
 use Rattle.pool.specs.declared.Went.{Went}
@@ -66,14 +67,14 @@ module _ (c : Config) (ht : ℕ) (m : List ℕ) (st : Bool) (h : Held) (f : Held
   settled-leaves on n r checked.Damaged g o = ended m 0 walked.Damaged none (omega arith) tt
 
   judged-leaves : c .bits ≡ true → (b : Bool) (r : Walked) → ArrivedIn c r → Leaves c m (yields (judgedBy h b (checkedOf c ht m root st a d) r) m)
-  judged-leaves on true (walked.Arrived t w n) g = settled-leaves on n (walked.Arrived t w n) (checkedOf c ht m root st a d) g (checked-once c ht m root st a d)
-  judged-leaves on false (walked.Arrived t w n) g = ended m 0 (walked.Arrived t w n) none (omega arith) g
+  judged-leaves on true (walked.Arrived w t n) g = settled-leaves on n (walked.Arrived w t n) (checkedOf c ht m root st a d) g (checked-once c ht m root st a d)
+  judged-leaves on false (walked.Arrived w t n) g = ended m 0 (walked.Arrived w t n) none (omega arith) g
   judged-leaves on b (walked.Faulted x n) g = ended m _ (walked.Faulted x n) none (let k = exit-small (walked.Faulted x n) in omega arith) tt
   judged-leaves on b walked.Damaged g = ended m 0 walked.Damaged none (omega arith) tt
 
-  through-leaves : (t : ℕ) (w : Bool) → InGuestArea c t → Leaves c m (yields (throughOf c ht m h root st a d t w) m)
+  through-leaves : d ≤ c .levels → (t : ℕ) (w : Bool) → InGuestArea c t → Leaves c m (yields (throughOf c ht m h root st a d t w) m)
   unfolding throughOf servedOf
-  through-leaves t w g = go (c .bits) refl
+  through-leaves low t w g = go (c .bits) refl
     where
       r : Walked
       r = directOf c ht m st a d t w
@@ -82,8 +83,8 @@ module _ (c : Config) (ht : ℕ) (m : List ℕ) (st : Bool) (h : Held) (f : Held
       lack = lacks (memoryWorld c ht m) st ((trace (memoryWorld c ht m) (direct c st a d t w)) .reads)
 
       go : (b : Bool) → c .bits ≡ b → Leaves c m (yields (cond b (judgedBy h lack (checkedOf c ht m root st a d) r) (translation h (0 + exitBy r) r false)) m)
-      go true on = judged-leaves on lack r (direct-in c ht m st a d t w g)
-      go false off = ended m _ r none (let k = exit-small r in omega arith) (direct-in c ht m st a d t w g)
+      go true on = judged-leaves on lack r (direct-in c ht m st a d t w low g)
+      go false off = ended m _ r none (let k = exit-small r in omega arith) (direct-in c ht m st a d t w low g)
 
   unshadowed-leaves : Leaves c m (yields (unshadowedOf c ht m h root st a d) m)
   unfolding unshadowedOf plainOf
@@ -93,7 +94,7 @@ module _ (c : Config) (ht : ℕ) (m : List ℕ) (st : Bool) (h : Held) (f : Held
       r = walkedOf c ht m 0 (whole c st root a)
 
       here : ArrivedIn c r
-      here = walk-in c ht m st 0 root (indexes (c .levels) (pageOf a))
+      here = walk-in c ht m st 0 root (pageOf a)
 
       go : (b : Bool) → c .bits ≡ b → Leaves c m (yields (cond b (judgedBy h true (checkedOf c ht m root st a d) r) (translation h (exitBy r) r false)) m)
       go true on = judged-leaves on true r here
@@ -123,15 +124,15 @@ module _ (c : Config) (ht : ℕ) (m : List ℕ) (st : Bool) (h : Held) (f : Held
       go true = record { same = none; held = (f .0, inr g); exits = l; arrived = i; sets = on }
       go false = by (s .result .way)
 
-  arrived-leaves : (gs : List ℕ) (n t : ℕ) (w : Bool) → InGuestArea c t → Leaves c m (arrivedOf c ht m h root gs st a d n t w)
+  arrived-leaves : d ≤ c .levels → (gs : List ℕ) (n t : ℕ) (w : Bool) → InGuestArea c t → Leaves c m (arrivedOf c ht m h root gs st a d n t w)
   unfolding arrivedOf verdictOf
-  arrived-leaves gs n t w g = go (c .bits) refl
+  arrived-leaves low gs n t w g = go (c .bits) refl
     where
       r : Walked
       r = directOf c ht m st a d t w
 
       here : ArrivedIn c r
-      here = direct-in c ht m st a d t w g
+      here = direct-in c ht m st a d t w low g
 
       fills : (v : Bool) (x : Walked) (sets : Bool) → ArrivedIn c x → (sets ≡ true → c .bits ≡ true) → Leaves c m (ruledBy c m h gs a d t x (verdict.Fill v sets))
       fills v x sets i on = filled-leaves gs t v (1 + exitBy x) x sets g (let k = exit-small x in omega arith) i on
@@ -142,12 +143,12 @@ module _ (c : Config) (ht : ℕ) (m : List ℕ) (st : Bool) (h : Held) (f : Held
       grant on x j checked.Damaged i o = ended m 0 walked.Damaged none (omega arith) tt
 
       strict : c .bits ≡ true → (x : Walked) → ArrivedIn c x → Leaves c m (ruledBy c m h gs a d t x (strictBy c m gs st a d n w (checkedOf c ht m root st a d) x))
-      strict on (walked.Arrived p v j) i = grant on (walked.Arrived p v j) j (checkedOf c ht m root st a d) i (checked-once c ht m root st a d)
+      strict on (walked.Arrived v p j) i = grant on (walked.Arrived v p j) j (checkedOf c ht m root st a d) i (checked-once c ht m root st a d)
       strict on (walked.Faulted x j) i = ended m _ _ none (let k = exit-small (walked.Faulted x j) in omega arith) tt
       strict on walked.Damaged i = ended m 0 walked.Damaged none (omega arith) tt
 
       lax : (x : Walked) → ArrivedIn c x → Leaves c m (ruledBy c m h gs a d t x (laxBy w x))
-      lax (walked.Arrived p v j) i = fills w (walked.Arrived p v j) false i (λ z. absurd (false≢true z))
+      lax (walked.Arrived v p j) i = fills w (walked.Arrived v p j) false i (λ z. absurd (false≢true z))
       lax (walked.Faulted x j) i = fills w (walked.Faulted x j) false i (λ z. absurd (false≢true z))
       lax walked.Damaged i = ended m 0 walked.Damaged none (omega arith) tt
 
@@ -155,36 +156,40 @@ module _ (c : Config) (ht : ℕ) (m : List ℕ) (st : Bool) (h : Held) (f : Held
       go true on = strict on r here
       go false off = lax r here
 
-  missed-leaves : Leaves c m (missedOf c ht m h root st a d)
-  unfolding missedOf trailFrom
-  missed-leaves = go (walkedOf c ht m 0 (walk c st root (pathIndexes c d a))) (walk-in c ht m st 0 root (pathIndexes c d a))
+  missed-leaves : c .levels ≤ 5 → d ≤ c .levels → Leaves c m (missedOf c ht m h root st a d)
+  unfolding missedOf rootTrail
+  missed-leaves five low = go (walkedOf c ht m 0 (walk c st root (pathIndexes c d a))) (shadow-near c ht m st 0 root (pathIndexes c d a) (indexes-all (c .levels - d) (pathOf d a)) five)
     where
       gs : List ℕ
-      gs = trailOf c ht m 0 (walk c st root (pathIndexes c d a)) .tables
+      gs = rootTrail c ht m st root (pathIndexes c d a) .tables
 
-      go : (r : Walked) → ArrivedIn c r → Leaves c m (missedBy c ht m h root st a d gs r)
-      go (walked.Arrived t w n) g = arrived-leaves gs n (t .0) w g
+      go : (r : Walked) → ArrivedNear c ht m st r → Leaves c m (missedBy c ht m h root st a d gs r)
+      go (walked.Arrived w t n) g = by (isSpan c (t .0)) refl
+        where
+          by : (b : Bool) → isSpan c (t .0) ≡ b → Leaves c m (cond b (yields (translation h 0 walked.Damaged false) m) (arrivedOf c ht m h root gs st a d n (t .0) w))
+          by true e = ended m 0 walked.Damaged none (omega arith) tt
+          by false e = arrived-leaves low gs n (t .0) w (g e)
       go (walked.Faulted x n) g = ended m 1 (walked.Faulted x n) none (omega arith) tt
       go walked.Damaged g = ended m 0 walked.Damaged none (omega arith) tt
 
   -- ---- a translation
 
-  found-leaves : (r : HostWalk) → FoundIs c (InGuestArea c) (λ i g. g) r → Leaves c m (foundBy c ht m h root st a d r)
-  found-leaves (host.Found t w) g = go (servesOf st d w)
+  found-leaves : c .levels ≤ 5 → d ≤ c .levels → (r : HostWalk) → FoundIs c (InGuestArea c) (λ i g. g) r → Leaves c m (foundBy c ht m h root st a d r)
+  found-leaves five low (host.Found t w) g = go (servesOf st d w)
     where
       go : (b : Bool) → Leaves c m (cond b (yields (throughOf c ht m h root st a d (t .0) w) m) (missedOf c ht m h root st a d))
-      go true = through-leaves (t .0) w g
-      go false = missed-leaves
-  found-leaves (host.Absent n) g = missed-leaves
-  found-leaves host.Damaged g = ended m 0 walked.Damaged none (omega arith) tt
+      go true = through-leaves low (t .0) w g
+      go false = missed-leaves five low
+  found-leaves five low (host.Absent n) g = missed-leaves five low
+  found-leaves five low host.Damaged g = ended m 0 walked.Damaged none (omega arith) tt
 
-  pub translate-leaves : Leaves c m (translateOf c ht m h root st a d)
+  pub translate-leaves : c .levels ≤ 5 → Leaves c m (translateOf c ht m h root st a d)
   unfolding translateOf
-  translate-leaves = go (ltb (c .levels) d)
+  translate-leaves five = go (ltb (c .levels) d) refl
     where
-      at-depth : Leaves c m (foundBy c ht m h root st a d (foundOf c m h a d))
-      at-depth = found-leaves (foundOf c m h a d) (found-is c (InGuestArea c) (λ i g. g) m h a d (top-held c h f))
+      at-depth : d ≤ c .levels → Leaves c m (foundBy c ht m h root st a d (foundOf c m h a d))
+      at-depth low = found-leaves five low (foundOf c m h a d) (found-is c (InGuestArea c) (λ i g. g) m h a d (top-held c h f))
 
-      go : (b : Bool) → Leaves c m (cond b (yields (unshadowedOf c ht m h root st a d) m) (foundBy c ht m h root st a d (foundOf c m h a d)))
-      go true = unshadowed-leaves
-      go false = at-depth
+      go : (b : Bool) → ltb (c .levels) d ≡ b → Leaves c m (cond b (yields (unshadowedOf c ht m h root st a d) m) (foundBy c ht m h root st a d (foundOf c m h a d)))
+      go true e = unshadowed-leaves
+      go false e = at-depth (ltb-false (c .levels) d e)

@@ -13,7 +13,7 @@ use Rattle.spec.specs.declared.Fault.the-variants as fault
 use Rattle.spec.specs.Config.{Config, guestBase}
 use Rattle.spec.specs.Entry.{pageOf, indexes}
 use Rattle.spec.specs.Walk.{Walk, trace}
-use Rattle.spec.specs.Plain.{Place, levels, walk}
+use Rattle.spec.specs.Plain.{Place, isSpan, levels, walk}
 use Rattle.spec.specs.Bits.{lacks, owed, dirtyAt}
 use Rattle.spec.specs.Count.{one}
 use Rattle.words.specs.After.{After, yields}
@@ -26,10 +26,10 @@ use Rattle.layout.specs.declared.HostWalk.the-variants as host
 use Rattle.layout.specs.Layout.{page}
 use Rattle.walk.specs.declared.Walked.{Walked}
 use Rattle.walk.specs.declared.Walked.the-variants as walked
-use Rattle.walk.specs.Memory.{memoryWorld, walkedOf, trailOf}
+use Rattle.walk.specs.Memory.{memoryWorld, walkedOf, rootTrail}
 use Rattle.accessed.specs.declared.Debt.{Debt}
 use Rattle.accessed.specs.declared.Debt.the-variants as debt
-use Rattle.accessed.specs.Entries.{entries, Frames, wordsOf, owedOf}
+use Rattle.accessed.specs.Entries.{seenOf, seenEntries, wordsOf, owedOf}
 use Rattle.shadow.specs.Held.{heldOf, entryFor}
 use Rattle.shadow.specs.Fill.{fillOf}
 use Rattle.translate.specs.declared.Checked.{Checked}
@@ -41,7 +41,7 @@ use Rattle.translate.specs.declared.Verdict.the-variants as verdict
 
 -- H and W cost an exit, the other faults none
 abbrev pub exitBy : Walked → ℕ
-exitBy (walked.Arrived t w n) = 0
+exitBy (walked.Arrived w t n) = 0
 exitBy (walked.Faulted (fault.Absent l) n) = 0
 exitBy (walked.Faulted (fault.Malformed l) n) = 0
 exitBy (walked.Faulted (fault.Protected l) n) = 0
@@ -66,13 +66,13 @@ HeldFits c h = (h .pool .fresh ≤ c .shadows) × ((h .frame .0 ≡ 0) ⊎ ((gue
 
 -- a walk that ended after at most k words
 abbrev pub ReadsMost : ℕ → Walked → Type 0
-ReadsMost k (walked.Arrived p w n) = n ≤ k
+ReadsMost k (walked.Arrived w p n) = n ≤ k
 ReadsMost k (walked.Faulted x n) = n ≤ k
 ReadsMost k walked.Damaged = Unit {0}
 
 -- one that says at least j words, and not too many to be added to
 abbrev pub ReadsFrom : ℕ → Walked → Type 0
-ReadsFrom j (walked.Arrived p w n) = (j ≤ n) × (n ≤ 65536)
+ReadsFrom j (walked.Arrived w p n) = (j ≤ n) × (n ≤ 65536)
 ReadsFrom j (walked.Faulted x n) = (j ≤ n) × (n ≤ 65536)
 ReadsFrom j walked.Damaged = Unit {0}
 
@@ -122,7 +122,7 @@ owingBy d lack none = checked.Clear lack
 owingBy d lack (some o) = checked.Stopped (fault.HostReadOnly (o .1)) (one (leb (o .0) d))
 
 abbrev pub checkedBy : ℕ → Bool → Option (ℕ × ℕ) → Walked → Checked
-checkedBy d lack o (walked.Arrived t w n) = owingBy d lack o
+checkedBy d lack o (walked.Arrived w t n) = owingBy d lack o
 checkedBy d lack o (walked.Faulted x n) = checked.Stopped x (exitBy (walked.Faulted x n))
 checkedBy d lack o walked.Damaged = checked.Damaged
 
@@ -131,7 +131,7 @@ unfoldable pub checkedOf : Config → ℕ → List ℕ → ℕ → Bool → ℕ 
 checkedOf c ht m root st a d =
     let w = memoryWorld c ht m in
     let t = trace w (whole c st root a) in
-    checkedBy d (lacks w st (t .reads)) (owed w st (t .reads) (t .uses)) (walkedOf c ht m 0 (whole c st root a))
+    checkedBy d (lacks w st (t .reads)) (owed w st (c .levels) (t .reads) (t .uses)) (walkedOf c ht m 0 (whole c st root a))
 
 -- what is said where a table is owed a bit, at depth d
 abbrev pub debtBy : ℕ → Debt → Checked
@@ -140,7 +140,7 @@ debtBy d (debt.Table l g) = checked.Stopped (fault.HostReadOnly g) (one (leb l d
 
 -- the bits of the entries xs that a whole walk from the root read
 unfoldable pub entriesOf : Config → ℕ → List ℕ → ℕ → Bool → ℕ → List (ℕ × ℕ) → Checked
-entriesOf c ht m root st d xs = cond (lacks (wordsOf m) st xs) (debtBy d (owedOf c ht m st root xs)) (checked.Clear false)
+entriesOf c ht m root st d xs = cond (lacks (wordsOf m) st xs) (debtBy d (owedOf c ht m st (c .levels) root xs)) (checked.Clear false)
 
 -- a request that came to r by its bits; n references if they stop it
 abbrev pub settledBy : Held → ℕ → Walked → Checked → Translated
@@ -150,7 +150,7 @@ settledBy h n r checked.Damaged = translation h 0 walked.Damaged false
 
 -- a walk's end r, with bits on: judged by them if it arrived (judge) and otherwise as it is
 abbrev pub judgedBy : Held → Bool → Checked → Walked → Translated
-judgedBy h judge k (walked.Arrived t w n) = cond judge (settledBy h n (walked.Arrived t w n) k) (translation h 0 (walked.Arrived t w n) false)
+judgedBy h judge k (walked.Arrived w t n) = cond judge (settledBy h n (walked.Arrived w t n) k) (translation h 0 (walked.Arrived w t n) false)
 judgedBy h judge k (walked.Faulted x n) = translation h (exitBy (walked.Faulted x n)) (walked.Faulted x n) false
 judgedBy h judge k walked.Damaged = translation h 0 walked.Damaged false
 
@@ -165,7 +165,7 @@ throughOf c ht m h root st a d t w =
 
 -- whether an entry of the direct part lacks a bit: with bits on, where it arrived
 abbrev pub lackingBy : Bool → Walked → Bool
-lackingBy lack (walked.Arrived t w n) = lack
+lackingBy lack (walked.Arrived w t n) = lack
 lackingBy lack (walked.Faulted x n) = false
 lackingBy lack walked.Damaged = false
 
@@ -173,12 +173,6 @@ unfoldable pub lackingOf : Config → ℕ → List ℕ → Bool → ℕ → ℕ 
 lackingOf c ht m st a d t w =
     let k = memoryWorld c ht m in
     lackingBy (c .bits && lacks k st ((trace k (direct c st a d t w)) .reads)) (directOf c ht m st a d t w)
-
--- a walk that arrived came through tables that have the numbers of frames
-abbrev pub Framed : Walked → List ℕ → Type 0
-Framed (walked.Arrived p w n) ts = Frames ts
-Framed (walked.Faulted x n) ts = Unit {0}
-Framed walked.Damaged ts = Unit {0}
 
 -- no bit is to be looked at: bits are off, or no guest entry is read
 unfoldable pub bitlessOf : Config → ℕ → Bool
@@ -213,10 +207,10 @@ filledOf c m h gs a d t w e r sets =
     let s = fillOf c gs (h .pool) m (pathIndexes c d a) (entryFor t (ltb 0 d) w) in
     cond (leb (c .levels) d) (yields (translation (holding (h .pool) t) e r sets) m) (fillBy h e r sets s (s .result .way))
 
--- with bits on, the path that a load fills at depth 0 lets stores pass only if the entry where its walk ends is dirty; gs: the tables of its
+-- with bits on, the path that a load fills at depth 0 lets stores pass only if the entry where its walk ends is dirty; gs: the places of its
 -- walk
 unfoldable pub passesOf : Config → List ℕ → List ℕ → Bool → ℕ → ℕ → Bool → Bool
-passesOf c m gs st a d w = w && (not (eqb d 0) || st || dirtyAt (wordsOf m) (entries gs 0 (pathIndexes c d a)))
+passesOf c m gs st a d w = w && (not (eqb d 0) || st || dirtyAt (wordsOf m) (seenEntries gs (seenOf c gs (c .levels - d) (pathOf d a))))
 
 -- the plain count of a request whose shadow part read n words, where the direct part said k with N − d shadow entries
 abbrev pub plainly : Config → ℕ → ℕ → ℕ → ℕ
@@ -230,13 +224,13 @@ clearedBy c m gs st a d n w k checked.Damaged = verdict.Damaged
 
 -- with bits on only a granted request fills, and a fault counts as the plain walk does. b: what its bits say
 abbrev pub strictBy : Config → List ℕ → List ℕ → Bool → ℕ → ℕ → ℕ → Bool → Checked → Walked → Verdict
-strictBy c m gs st a d n w b (walked.Arrived p v k) = clearedBy c m gs st a d n w k b
+strictBy c m gs st a d n w b (walked.Arrived v p k) = clearedBy c m gs st a d n w k b
 strictBy c m gs st a d n w b (walked.Faulted x k) = verdict.End x (plainly c d n k) (1 + exitBy (walked.Faulted x k))
 strictBy c m gs st a d n w b walked.Damaged = verdict.Damaged
 
 -- with bits off a fault of the direct part fills too
 abbrev pub laxBy : Bool → Walked → Verdict
-laxBy w (walked.Arrived p v n) = verdict.Fill w false
+laxBy w (walked.Arrived v p n) = verdict.Fill w false
 laxBy w (walked.Faulted x n) = verdict.Fill w false
 laxBy w walked.Damaged = verdict.Damaged
 
@@ -257,14 +251,15 @@ arrivedOf c ht m h root gs st a d n t w =
     ruledBy c m h gs a d t r (verdictOf c ht m root gs st a d n w r)
 
 abbrev pub missedBy : Config → ℕ → List ℕ → Held → ℕ → Bool → ℕ → ℕ → List ℕ → Walked → After Translated
-missedBy c ht m h root st a d gs (walked.Arrived t w n) = arrivedOf c ht m h root gs st a d n (t .0) w
+missedBy c ht m h root st a d gs (walked.Arrived w t n) = cond (isSpan c (t .0)) (damaged h m) (arrivedOf c ht m h root gs st a d n (t .0) w)
 missedBy c ht m h root st a d gs (walked.Faulted x n) = yields (translation h 1 (walked.Faulted x n) false) m
 missedBy c ht m h root st a d gs walked.Damaged = damaged h m
 
--- a path that does not serve: its shadow part is walked, and the tables that the walk came through are those that a fill notes
+-- a path that does not serve: its shadow part is walked, and the places that the walk came through are those that a fill notes. At the depth of a
+-- request it comes to no span
 unfoldable pub missedOf : Config → ℕ → List ℕ → Held → ℕ → Bool → ℕ → ℕ → After Translated
 missedOf c ht m h root st a d =
-    let r = trailOf c ht m 0 (walk c st root (pathIndexes c d a)) in
+    let r = rootTrail c ht m st root (pathIndexes c d a) in
     missedBy c ht m h root st a d (r .tables) (r .walked)
 
 abbrev pub foundBy : Config → ℕ → List ℕ → Held → ℕ → Bool → ℕ → ℕ → HostWalk → After Translated
@@ -283,3 +278,32 @@ translateOf c ht m h root st a d =
 -- the translation of a request that no held path serves
 unfoldable pub unservedOf : Config → ℕ → List ℕ → Held → ℕ → Bool → ℕ → ℕ → After Translated
 unservedOf c ht m h root st a d = cond (ltb (c .levels) d) (yields (unshadowedOf c ht m h root st a d) m) (missedOf c ht m h root st a d)
+
+-- ---- the depth of a request
+
+-- the walk down to level d came to this: within a large page the depth is 0
+abbrev pub soonBy : Config → ℕ → Walked → ℕ
+soonBy c d (walked.Arrived w t n) = cond (isSpan c (t .0)) 0 d
+soonBy c d (walked.Faulted x n) = d
+soonBy c d walked.Damaged = d
+
+unfoldable pub walkedDepth : Config → ℕ → List ℕ → ℕ → ℕ → ℕ → ℕ
+walkedDepth c ht m root a d = soonBy c d (walkedOf c ht m 0 (walk c false root (pathIndexes c d a)))
+
+-- large pages end walks at levels 2 and 3: marks of a level above 2 are never below one
+unfoldable pub mayTurn : ℕ → Bool
+mayTurn d = cond (eqb d 0) false (ltb d 3)
+
+-- the depth of a request whose marks give d, by its walk
+unfoldable pub turnedDepth : Config → ℕ → List ℕ → ℕ → ℕ → ℕ → ℕ
+turnedDepth c ht m root a d = cond (mayTurn d) (walkedDepth c ht m root a d) d
+
+-- a path held at depth d says that depth, and a table in its place a longer path; where there is nothing the walk says it
+abbrev pub depthBy : Config → ℕ → List ℕ → ℕ → ℕ → ℕ → HostWalk → ℕ
+depthBy c ht m root a d (host.Found t w) = d
+depthBy c ht m root a d (host.Absent n) = walkedDepth c ht m root a d
+depthBy c ht m root a d host.Damaged = 0
+
+-- the same, by what is held where something is
+unfoldable pub depthOf : Config → ℕ → List ℕ → Held → ℕ → ℕ → ℕ → ℕ
+depthOf c ht m h root a d = cond (mayTurn d) (depthBy c ht m root a d (foundOf c m h a d)) d

@@ -6,9 +6,9 @@ ghost use Rattle.spec.specs.Entry.{indexes, pageOf, frameLimit};
 ghost use Rattle.spec.specs.Bits.{lacks};
 ghost use Rattle.words.specs.After.{yields};
 ghost use Rattle.layout.specs.Layout.{LayoutFits, config};
-ghost use Rattle.translate.specs.Translate.{exitBy, ReadsFrom, translation, whole, direct, directOf, servedOf, plainOf, checkedOf, debtBy, entriesOf, settledBy, judgedBy, bitlessOf, Framed, lackingBy, throughOf, unshadowedOf, servesOf, pathOf, foundOf, filledOf, passesOf, plainly, strictBy, laxBy, verdictOf, arrivedOf, missedOf, unservedOf};
-ghost use Rattle.walk.specs.Memory.{trailOf};
-ghost use Rattle.accessed.specs.Entries.{entries, Frames, wordsOf};
+ghost use Rattle.translate.specs.Translate.{exitBy, ReadsFrom, translation, whole, direct, directOf, servedOf, plainOf, checkedOf, debtBy, entriesOf, settledBy, judgedBy, bitlessOf, lackingBy, throughOf, unshadowedOf, servesOf, pathOf, foundOf, filledOf, passesOf, plainly, strictBy, laxBy, verdictOf, arrivedOf, missedOf, unservedOf, walkedDepth, mayTurn, depthOf};
+ghost use Rattle.walk.specs.Memory.{trailOf, rootTrail};
+ghost use Rattle.accessed.specs.Entries.{seenOf, seenEntries, wordsOf};
 use accessed::Debt;
 use entry::GuestPhysical;
 use entry::GuestVirtual;
@@ -122,7 +122,7 @@ pub fn direct_trail(
     writable: bool,
 ) -> Trail
     requires { ⌜ (LayoutFits (space .layout)) × (request .depth ≤ space .layout .levels) × (page .0 < frameLimit) ⌝ }
-    ensures { λ r. ⌜ r ≡ trailOf (config (space .layout)) (space .top) (now (mem .entry)) (space .layout .levels - request .depth) (direct (config (space .layout)) (request .store) (request .address .0) (request .depth) (page .0) writable) ⌝ }
+    ensures { λ r. ⌜ r ≡ trailOf (config (space .layout)) (space .top) (now (mem .entry)) (space .layout .levels - request .depth) (request .store) (0 + request .depth) (page .0) writable (indexes (request .depth) (pageOf (request .address .0))) ⌝ }
 {
     walk::walk_tables(
         mem,
@@ -190,7 +190,7 @@ pub fn whole(
     address: GuestVirtual,
 ) -> Trail
     requires { ⌜ LayoutFits (space .layout) ⌝ }
-    ensures { λ r. ⌜ r ≡ trailOf (config (space .layout)) (space .top) (now (mem .entry)) 0 (whole (config (space .layout)) store (root .0) (address .0)) ⌝ }
+    ensures { λ r. ⌜ r ≡ rootTrail (config (space .layout)) (space .top) (now (mem .entry)) store (root .0) (indexes (space .layout .levels) (pageOf (address .0))) ⌝ }
 {
     walk::walk_root(
         mem,
@@ -243,15 +243,28 @@ fn judge(
     request: Request,
     tables: &[u64; 8],
 ) -> Checked
-    requires { ⌜ (LayoutFits (space .layout)) × (Frames (now tables)) ⌝ }
-    ensures { λ r. ⌜ r ≡ entriesOf (config (space .layout)) (space .top) (now (mem .entry)) (root .0) (request .store) (request .depth) (entries (now (tables .entry)) 0 (indexes (space .layout .levels) (pageOf (request .address .0)))) ⌝ }
+    requires { ⌜ (LayoutFits (space .layout)) ⌝ }
+    ensures { λ r. ⌜ r ≡ entriesOf (config (space .layout)) (space .top) (now (mem .entry)) (root .0) (request .store) (request .depth) (seenEntries (now (tables .entry)) (seenOf (config (space .layout)) (now (tables .entry)) (space .layout .levels) (pageOf (request .address .0)))) ⌝ }
 {
-    let levels = space.layout.levels;
-    let number = request.address.page();
-    if !accessed::lacks(mem, request.store, number, levels, tables) {
+    let read = accessed::read_by(
+        space.layout,
+        request.address.page(),
+        space.layout.levels,
+        tables,
+    );
+    if !accessed::lacks(mem, request.store, read.path, read.steps, tables) {
         return Checked::Clear { lack: false };
     }
-    let debt = accessed::owed(mem, space, request.store, root, number, levels, tables);
+    let debt = accessed::owed(
+        mem,
+        space,
+        request.store,
+        root,
+        read.path,
+        read.steps,
+        read.below,
+        tables,
+    );
     owes(debt, request.depth)
 }
 
@@ -314,12 +327,14 @@ pub fn bitless(layout: Layout, depth: u64) -> bool
 pub fn lacking(
     mem: &[u64],
     layout: Layout,
-    request: Request,
+    store: bool,
+    address: GuestVirtual,
+    depth: u64,
     walked: Walked,
     tables: &[u64; 8],
 ) -> bool
-    requires { ⌜ (request .depth ≤ 8) × (Framed walked (now tables)) ⌝ }
-    ensures { λ r. ⌜ r ≡ lackingBy (config layout .bits && lacks (wordsOf (now (mem .entry))) (request .store) (entries (now (tables .entry)) 0 (indexes (request .depth) (pageOf (request .address .0))))) walked ⌝ }
+    requires { ⌜ (LayoutFits layout) × (depth ≤ 7) ⌝ }
+    ensures { λ r. ⌜ r ≡ lackingBy (config layout .bits && lacks (wordsOf (now (mem .entry))) store (seenEntries (now (tables .entry)) (seenOf (config layout) (now (tables .entry)) depth (pageOf (address .0))))) walked ⌝ }
 {
     if layout.bits == 0 {
         return false;
@@ -329,13 +344,10 @@ pub fn lacking(
             page,
             writable,
             reads,
-        } => accessed::lacks(
-            mem,
-            request.store,
-            request.address.page(),
-            request.depth,
-            tables,
-        ),
+        } => {
+            let read = accessed::read_by(layout, address.page(), depth, tables);
+            accessed::lacks(mem, store, read.path, read.steps, tables)
+        }
         Walked::Faulted { fault, reads } => false,
         Walked::Damaged => false,
     }
@@ -379,7 +391,15 @@ pub fn through(
 {
     let trail = direct_trail(mem, space, request, page, writable);
     let walked = trail.walked;
-    if !lacking(mem, space.layout, request, walked, &trail.tables) {
+    if !lacking(
+        mem,
+        space.layout,
+        request.store,
+        request.address,
+        request.depth,
+        walked,
+        &trail.tables,
+    ) {
         return as_walked(held, walked);
     }
     judged(mem, space, root, held, request, walked)
@@ -401,20 +421,18 @@ fn unshadowed(
     }
     let trail = whole(mem, space, request.store, root, request.address);
     let walked = trail.walked;
-    match walked {
-        Walked::Arrived {
-            page,
-            writable,
-            reads,
-        } => settled(
-            held,
-            walked,
-            reads,
-            judge(mem, space, root, request, &trail.tables),
-        ),
-        Walked::Faulted { fault, reads } => as_walked(held, walked),
-        Walked::Damaged => damaged(held),
+    if !lacking(
+        mem,
+        space.layout,
+        request.store,
+        request.address,
+        space.layout.levels,
+        walked,
+        &trail.tables,
+    ) {
+        return as_walked(held, walked);
     }
+    judged(mem, space, root, held, request, walked)
 }
 
 // ---- held paths
@@ -542,7 +560,7 @@ fn lax(writable: bool, walked: Walked) -> Verdict
 
 // With bits on, does the path that a request fills let stores pass? Not where a load comes to an entry that is not dirty.
 fn passes(mem: &[u64], layout: Layout, guests: &[u64; 8], request: Request, writable: bool) -> bool
-    requires { ⌜ (LayoutFits layout) × (request .depth ≤ layout .levels) × (Frames (now guests)) ⌝ }
+    requires { ⌜ (LayoutFits layout) × (request .depth ≤ layout .levels) ⌝ }
     ensures { λ r. ⌜ r ≡ passesOf (config layout) (now (mem .entry)) (now (guests .entry)) (request .store) (request .address .0) (request .depth) writable ⌝ }
 {
     if !writable {
@@ -554,12 +572,13 @@ fn passes(mem: &[u64], layout: Layout, guests: &[u64; 8], request: Request, writ
     if request.store {
         return true;
     }
-    accessed::last_dirty(
-        mem,
+    let read = accessed::read_by(
+        layout,
         path_of(request.address, request.depth),
         layout.levels - request.depth,
         guests,
-    )
+    );
+    accessed::last_dirty(mem, read.path, read.steps, guests)
 }
 
 // A fault past the shadow part, with bits on: it counts as the plain walk does. `before` words were read by the shadow part, and the direct
@@ -586,7 +605,7 @@ fn strict(
     before: u64,
     walked: Walked,
 ) -> Verdict
-    requires { ⌜ (LayoutFits (space .layout)) × (request .depth ≤ space .layout .levels) × (Frames (now guests)) × (before ≤ 65536) × (ReadsFrom (space .layout .levels - request .depth) walked) ⌝ }
+    requires { ⌜ (LayoutFits (space .layout)) × (request .depth ≤ space .layout .levels) × (before ≤ 65536) × (ReadsFrom (space .layout .levels - request .depth) walked) ⌝ }
     ensures { λ r. ⌜ r ≡ strictBy (config (space .layout)) (now (mem .entry)) (now (guests .entry)) (request .store) (request .address .0) (request .depth) before writable (checkedOf (config (space .layout)) (space .top) (now (mem .entry)) (root .0) (request .store) (request .address .0) (request .depth)) walked ⌝ }
 {
     let layout = space.layout;
@@ -628,7 +647,7 @@ fn ruled(
     before: u64,
     walked: Walked,
 ) -> Verdict
-    requires { ⌜ (LayoutFits (space .layout)) × (request .depth ≤ space .layout .levels) × (Frames (now guests)) × (before ≤ 65536) × (ReadsFrom (space .layout .levels - request .depth) walked) ⌝ }
+    requires { ⌜ (LayoutFits (space .layout)) × (request .depth ≤ space .layout .levels) × (before ≤ 65536) × (ReadsFrom (space .layout .levels - request .depth) walked) ⌝ }
     ensures { λ r. ⌜ r ≡ verdictOf (config (space .layout)) (space .top) (now (mem .entry)) (root .0) (now (guests .entry)) (request .store) (request .address .0) (request .depth) before writable walked ⌝ }
 {
     if space.layout.bits != 0 {
@@ -649,7 +668,7 @@ fn arrived(
     writable: bool,
     before: u64,
 ) -> Translated
-    requires { ⌜ (LayoutFits (space .layout)) × (request .depth ≤ space .layout .levels) × (page .0 < frameLimit) × (Frames (now guests)) × (before ≤ 65536) ⌝ }
+    requires { ⌜ (LayoutFits (space .layout)) × (request .depth ≤ space .layout .levels) × (page .0 < frameLimit) × (before ≤ 65536) ⌝ }
     ensures { λ r. ⌜ yields r (now (mem .exit)) ≡ arrivedOf (config (space .layout)) (space .top) (now (mem .entry)) held (root .0) (now (guests .entry)) (request .store) (request .address .0) (request .depth) before (page .0) writable ⌝ }
 {
     let walked = direct(mem, space, request, page, writable);
@@ -713,17 +732,22 @@ fn missed(
             page,
             writable,
             reads,
-        } => arrived(
-            mem,
-            space,
-            root,
-            held,
-            &trail.tables,
-            request,
-            page,
-            writable,
-            reads,
-        ),
+        } => {
+            if page.0 >= space.layout.frames {
+                return damaged(held);
+            }
+            arrived(
+                mem,
+                space,
+                root,
+                held,
+                &trail.tables,
+                request,
+                page,
+                writable,
+                reads,
+            )
+        }
         Walked::Faulted { fault, reads } => Translated {
             held: held,
             exits: 1,
@@ -751,4 +775,56 @@ pub fn unserved(
         return unshadowed(mem, space, root, held, request);
     }
     missed(mem, space, root, held, request)
+}
+
+// ---- the depth of a request
+
+// Whether a large page can lie above the levels that marks of this depth mark.
+pub fn may_turn(depth: u64) -> bool
+    ensures { λ r. ⌜ r ≡ mayTurn depth ⌝ }
+{
+    if depth == 0 {
+        return false;
+    }
+    depth < 3
+}
+
+// The depth by the walk down to the table of that level: 0 where it comes into a large page before.
+pub fn walked_depth(
+    mem: &[u64],
+    space: Space,
+    root: GuestPhysical,
+    address: GuestVirtual,
+    depth: u64,
+) -> u64
+    requires { ⌜ LayoutFits (space .layout) ⌝ }
+    ensures { λ r. ⌜ r ≡ walkedDepth (config (space .layout)) (space .top) (now (mem .entry)) (root .0) (address .0) depth ⌝ }
+{
+    if space.layout.levels < depth {
+        return depth;
+    }
+    let trail = walk::walk_root(
+        mem,
+        space,
+        false,
+        root,
+        path_of(address, depth),
+        space.layout.levels - depth,
+        depth,
+    );
+    let upper = trail.walked;
+    match upper {
+        Walked::Arrived {
+            page,
+            writable,
+            reads,
+        } => {
+            if page.0 >= space.layout.frames {
+                return 0;
+            }
+            depth
+        }
+        Walked::Faulted { fault, reads } => depth,
+        Walked::Damaged => depth,
+    }
 }

@@ -2,7 +2,7 @@
 -- read, mappings used.
 -- Assumes nothing.
 use mathlib.Core.Path.{_≡_, refl, sym, ap, _∙_}
-use Prim.Native.Nat.{ℕ, _+_, _-_, _*_, _^_, _<_}
+use Prim.Native.Nat.{ℕ, _+_, _-_, _*_, _^_, _<_, _≤_}
 use native.Mathlib.Nat.{zero-add}
 use native.Mathlib.Omega.{arith}
 use mathlib.Core.Bool.{Bool}
@@ -19,7 +19,7 @@ use Rattle.spec.specs.Machine.{Machine, lookup, hostCost, costOf, place, wordIn
 use Rattle.spec.specs.Prefix.{All}
 use Rattle.spec_laws.proofs.Lists.{all-map}
 use Rattle.spec_laws.proofs.Local.{SameHost, SameWord, local}
-use Rattle.spec_laws.proofs.Asks.{Asked, asks-trace, AnswerIn, FaultFits, Guest, levels-asks, walk-asks}
+use Rattle.spec_laws.proofs.Asks.{Asked, asks-trace, AnswerIn, FaultFits, Guest, placed-frame, levels-asks, walk-asks}
 use Rattle.words.specs.Words as words
 use Rattle.layout.specs.Layout.{page}
 use Rattle.host.specs.Walk.{hostWalkOf}
@@ -27,11 +27,11 @@ use Rattle.host.proofs.Mapping.{answerBy, answerOf}
 use Rattle.walk.specs.declared.Walked.{Walked}
 use Rattle.walk.specs.declared.Walked.the-variants as walked
 use Rattle.walk.specs.Memory.{placeOf, readsOf, memoryWorld, absentBy, walkedBy, walkedOf}
-use Rattle.spec_laws.proofs.Keeps.{InGuestArea}
+use Rattle.spec_laws.proofs.Keeps.{InGuestArea, area-real}
 
 -- a result of the specification's walk with its count, as the code has it
 abbrev pub plainWalked : Result Fault Place → ℕ → Walked
-plainWalked (granted r) n = walked.Arrived (page (r .0)) (r .1) n
+plainWalked (granted r) n = walked.Arrived (r .1) (page (r .0)) n
 plainWalked (failed x) n = walked.Faulted x n
 
 -- the lent memory stands for the machine: its host tables for the mapping, its guest area for the guest area
@@ -57,14 +57,14 @@ module _ (c : Config) (s : Machine) (ht : ℕ) (m : List ℕ) (st : Stands c s h
       let at : 512 * guestBase c + place c t i ≡ t * 512 + i = omega (arith, b .0) in
       sym (ap (λ k. getD m k 0) at) ∙ sym (getD-drop (512 * guestBase c) m (place c t i) 0) ∙ ap (λ xs. getD xs (place c t i) 0) (st .area)
 
-  pub asked : {A : Type 0} (p : Walk Fault A) (R : A → Type 0) → Guest c (InGuestArea c) p R
+  pub asked : {A : Type 0} (p : Walk Fault A) (R : A → Type 0) → Guest c (InGuestArea c) (area-real c) p R
       → Asked (AnswerIn (InGuestArea c)) (λ g. g < 2 ^ frameBits c) (λ t i. InGuestArea c t × (i < 512)) (FaultFits c) R (trace (world c s) p)
   unfolding world
   asked p R a =
       asks-trace (AnswerIn (InGuestArea c)) (λ g. g < 2 ^ frameBits c) (λ t i. InGuestArea c t × (i < 512)) (FaultFits c) (world c s) p R (st .inside) a
 
   -- a walk that asks for guest frame numbers and for words of the guest area has one trace
-  pub stands-trace : {A : Type 0} (p : Walk Fault A) (R : A → Type 0) → Guest c (InGuestArea c) p R → trace (memoryWorld c ht m) p ≡ trace (world c s) p
+  pub stands-trace : {A : Type 0} (p : Walk Fault A) (R : A → Type 0) → Guest c (InGuestArea c) (area-real c) p R → trace (memoryWorld c ht m) p ≡ trace (world c s) p
   unfolding world memoryWorld
   stands-trace p R a =
       let q = asked p R a in
@@ -75,7 +75,7 @@ module _ (c : Config) (s : Machine) (ht : ℕ) (m : List ℕ) (st : Stands c s h
       })
 
   -- what the code answers: the machine's result with the words read, and never damage
-  pub stands-walked : (n : ℕ) (p : Walk Fault Place) (R : Place → Type 0) → Guest c (InGuestArea c) p R
+  pub stands-walked : (n : ℕ) (p : Walk Fault Place) (R : Place → Type 0) → Guest c (InGuestArea c) (area-real c) p R
       → walkedOf c ht m n p ≡ plainWalked ((trace (world c s) p) .result) (n + (trace (world c s) p) .count)
   unfolding walkedOf
   stands-walked n p R a =
@@ -100,12 +100,13 @@ module _ (c : Config) (s : Machine) (ht : ℕ) (m : List ℕ) (st : Stands c s h
   pub root-walked : (store : Bool) (root : ℕ) (is : List ℕ) → root < 2 ^ frameBits c → All (λ i. i < 512) is
       → walkedOf c ht m 0 (walk c store root is) ≡ plainWalked ((trace (world c s) (walk c store root is)) .result) ((trace (world c s) (walk c store root is)) .count)
   root-walked store root is b small =
-      stands-walked 0 (walk c store root is) _ (walk-asks c (InGuestArea c) store root is b small)
+      stands-walked 0 (walk c store root is) _ (walk-asks c (InGuestArea c) (area-real c) store root is b small)
       ∙ ap (plainWalked ((trace (world c s) (walk c store root is)) .result)) (zero-add ((trace (world c s) (walk c store root is)) .count))
 
   -- its lower part, from a guest table in the guest area, after n words
-  pub table-walked : (n : ℕ) (store : Bool) (level t : ℕ) (right : Bool) (is : List ℕ) → InGuestArea c t → All (λ i. i < 512) is
+  pub table-walked : (n : ℕ) (store : Bool) (level t : ℕ) (right : Bool) (is : List ℕ) → level ≤ c .levels → InGuestArea c t → All (λ i. i < 512) is
       → walkedOf c ht m n (levels c store level t right is)
       ≡ plainWalked ((trace (world c s) (levels c store level t right is)) .result) (n + (trace (world c s) (levels c store level t right is)) .count)
-  table-walked n store level t right is b small =
-      stands-walked n (levels c store level t right is) _ (levels-asks c (InGuestArea c) store level t right is b small)
+  table-walked n store level t right is l b small =
+      stands-walked n (levels c store level t right is) _
+      (levels-asks c (InGuestArea c) (area-real c) store level t right is l (placed-frame c (InGuestArea c) (area-real c) level t b) small)

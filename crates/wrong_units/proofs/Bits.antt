@@ -192,7 +192,7 @@ abbrev heldSet : List ℕ
 heldSet = placed ((4096, 0x1023) ∷ (4608, 0x3023) ∷ (5632, 0x3023) ∷ []) heldWords
 
 abbrev switched : After Went → After Reply
-switched = loaded markedOn 0 (8 ∷ replicate 7 0) (0 ∷ []) 0x9203 (walked.Arrived (page 11) true 16)
+switched = loaded markedOn 0 (8 ∷ replicate 7 0) (0 ∷ []) 0x9203 (walked.Arrived true (page 11) 16)
 
 switch-loads : callOf (loadWord 0) markedOn mappedWords ≡ switched (insertOf area (8 ∷ replicate 7 0) none mappedWords (0 ∷ []) 0x9203)
 unfolding besides
@@ -351,7 +351,7 @@ inserts =
 
 -- the wrong unit's path has the write right of the walk
 abbrev passed : After Went → After Reply
-passed = loaded (firstBy true false) 0x2000 trail (0 ∷ 0 ∷ 0 ∷ 2 ∷ []) 0xa003 (walked.Arrived (page 10) true 4)
+passed = loaded (firstBy true false) 0x2000 trail (0 ∷ 0 ∷ 0 ∷ 2 ∷ []) 0xa003 (walked.Arrived true (page 10) 4)
 
 passes-loads : storesPass (loadWord 0x2000) (firstBy true false) named ≡ passed (insertOf area trail none named (0 ∷ 0 ∷ 0 ∷ 2 ∷ []) 0xa003)
 unfolding storesPass loadArriving arriveBy besides

@@ -45,14 +45,14 @@ rewalked-same r m a w e y answer.Ok p k = refl
 rewalked-same r m a w e y (answer.Done n c) p k = refl
 rewalked-same r m a w e y (answer.Refused n) p k = refl
 rewalked-same r m a w e y (answer.Figures n c t) p k = refl
-rewalked-same r m a w e (walked.Arrived t b i) (answer.Value v n c) p k =
+rewalked-same r m a w e (walked.Arrived b t i) (answer.Value v n c) p k =
     let z = sym (ap line p) ∙ k tt .says in
     cc
 rewalked-same r m a w e (walked.Faulted y i) (answer.Value v n c) p k =
     let z = sym (ap line p) ∙ k tt .says in
     let o : _≡_ {A = ℕ} 0 1 = cc in absurd (omega arith)
 rewalked-same r m a w e walked.Damaged (answer.Value v n c) p k = absurd (k tt)
-rewalked-same r m a w e (walked.Arrived t b i) (answer.Faulted x n c) p k =
+rewalked-same r m a w e (walked.Arrived b t i) (answer.Faulted x n c) p k =
     let z = sym (ap line p) ∙ k tt .says in
     let o : _≡_ {A = ℕ} 0 1 = cc in absurd (omega arith)
 rewalked-same r m a w e (walked.Faulted y i) (answer.Faulted x n c) p k =
@@ -105,7 +105,7 @@ same-touched : T (SameOn (touchedOf heldRecord heldWords false 0))
 unfolding touchedOf calling
 same-touched = tt
 
-path-held : HeldOrPlain ((specified memory 4 4 false false (begin ++ hold)) .config) ((specified memory 4 4 false false (begin ++ hold)) .book) false 0
+path-held : HeldOrPlain ((specified memory 4 4 false false (begin ++ hold)) .config) ((specified memory 4 4 false false (begin ++ hold)) .machine) ((specified memory 4 4 false false (begin ++ hold)) .book) false 0
 unfolding HeldOrPlain specifying
 path-held = inl tt
 

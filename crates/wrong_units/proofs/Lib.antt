@@ -15,3 +15,4 @@ pub mod Widths
 pub mod Quiet
 pub mod Bits
 pub mod Choice
+pub mod Large

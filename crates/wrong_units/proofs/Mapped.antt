@@ -14,7 +14,7 @@ use Rattle.pool.specs.declared.Pool.{Pool}
 use Rattle.pool.specs.declared.Area.{Area}
 use Rattle.pool.specs.declared.Way.the-variants.{To, Not}
 use Rattle.pool.specs.declared.Went.{Went}
-use Rattle.pool.specs.Header.{entryAtOf, putEntryOf, headerOf, insideOf}
+use Rattle.pool.specs.Header.{entryAtOf, putEntryOf, written, headerOf, insideOf}
 use Rattle.pool.specs.Pool.{link, followOf, end, noneOf, withTop}
 use Rattle.area.specs.Tree.{enterOf, downOf, placeOf, insertOf}
 use Rattle.layout.specs.Layout.{page}
@@ -107,7 +107,7 @@ unfolding noneOf followOf present bitSet
 no-top = refl
 
 enters : (bits on : Bool) → grantedBy bits on (enteredOn memory) ≡ ended (openedBy bits on) answer.Ok openedWords
-unfolding noneOf withTop link headerOf firstOf
+unfolding noneOf withTop link written headerOf firstOf
 enters bits on = ap (grantedBy bits on) (enter-clear area noneOf memory 0 ready no-top)
 
 pub opens : (bits on : Bool) → openCall memory 4 4 bits on ≡ ended (openedBy bits on) answer.Ok openedWords

@@ -24,7 +24,7 @@ use Rattle.charge.specs.declared.Charge.{Charge}
 use Rattle.charge.specs.declared.Charge.the-variants as charge
 use Rattle.walk.specs.declared.Walked.{Walked}
 use Rattle.walk.specs.declared.Walked.the-variants as walked
-use Rattle.walk.specs.Memory.{walkedOf, trailOf}
+use Rattle.walk.specs.Memory.{walkedOf, rootTrail}
 use Rattle.record.specs.declared.Record.{Record}
 use Rattle.record.specs.Record.{configOf, configBy}
 use Rattle.record.specs.Open.{grantedOf}
@@ -39,7 +39,7 @@ use Rattle.forecast.specs.declared.Next.{Next}
 use Rattle.forecast.specs.declared.Next.the-variants.{Go, Damaged}
 use Rattle.forecast.specs.Forecast.{addressOf, onward, listOf, start, forecastOf}
 use Rattle.calls.specs.Calls as calls
-use Rattle.calls.specs.Calls.{hostTop, heldOf, rootOf, keysOf, ended, judged, placed, refused, servedBy, windowedBy, addressOk, lookupAt, depthAt, translatedOf, chargeAt, plainStore, storedBy, openCall, callOf, loadCall, storeCall, deviceCall, forecastCall}
+use Rattle.calls.specs.Calls.{hostTop, heldOf, rootOf, keysOf, ended, judged, placed, refused, servedBy, windowedBy, addressOk, lookupAt, requestDepth, translatedOf, chargeAt, plainStore, storedBy, openCall, callOf, loadCall, storeCall, deviceCall, forecastCall}
 use Rattle.claims.specs.Run.{guestArea, unitRun, unitAfter, heardUnit}
 use Rattle.claims.specs.Counted.{SameWords, SetsNone, countedOf, touchedOf}
 use Rattle.claims.proofs.Invariant.{Inv}
@@ -153,7 +153,7 @@ demand-3-unseen u d m h s bits xs g = by true ∙ cangrieb-choice-unseen m h s b
 
 store-as-ours : (c : Config) (h : Held) (a w v : ℕ) (set : List ℕ → List ℕ) (o : After Translated) (y : Walked)
     → storeAs ourDrops bytesIn c h a w v set o y ≡ storeBy c h a w v set o y
-store-as-ours c h a w v set o (walked.Arrived t y n) = refl
+store-as-ours c h a w v set o (walked.Arrived y t n) = refl
 store-as-ours c h a w v set o (walked.Faulted x n) = refl
 store-as-ours c h a w v set o walked.Damaged = refl
 
@@ -164,7 +164,7 @@ or-charged-ours r a w v o t n (charge.To p) = refl
 or-charged-ours r a w v o t n charge.Damaged = refl
 
 stored-as-ours : (r : Record) (a w v : ℕ) (o : After Translated) (y : Walked) → storedAs r a w v o (plainStore r a w v o) y ≡ storedBy r a w v o y
-stored-as-ours r a w v o (walked.Arrived t y n) = or-charged-ours r a w v o t n (chargeAt r (o .result .held) (o .memory) (t .0) (wordOf a))
+stored-as-ours r a w v o (walked.Arrived y t n) = or-charged-ours r a w v o t n (chargeAt r (o .result .held) (o .memory) (t .0) (wordOf a))
 stored-as-ours r a w v o (walked.Faulted x n) = refl
 stored-as-ours r a w v o walked.Damaged = refl
 
@@ -186,7 +186,7 @@ store-with-ours r m a w v =
     (store-as-ours (configOf r) (heldOf r) a w v (settledOf (configOf r) (hostTop r) (rootOf r) true a (o .result .sets)) o (o .result .walked))
 
 device-as-ours : (c : Config) (m : List ℕ) (h : Held) (a w v : ℕ) (y : Walked) → deviceAs ourDrops bytesIn c m h a w v y ≡ deviceBy c m h a w v y
-device-as-ours c m h a w v (walked.Arrived t y n) = refl
+device-as-ours c m h a w v (walked.Arrived y t n) = refl
 device-as-ours c m h a w v (walked.Faulted x n) = refl
 device-as-ours c m h a w v walked.Damaged = refl
 
@@ -233,13 +233,13 @@ ours = arriveBy (λ lets r v. v)
 missed-as-ours : (c : Config) (ht : ℕ) (m : List ℕ) (h : Held) (root : ℕ) (st : Bool) (a d : ℕ) (gs : List ℕ) (x : Walked)
     → missedAs ours c ht m h root st a d gs x ≡ missedBy c ht m h root st a d gs x
 unfolding arriveBy arrivedOf
-missed-as-ours c ht m h root st a d gs (walked.Arrived t w n) = refl
+missed-as-ours c ht m h root st a d gs (walked.Arrived w t n) = refl
 missed-as-ours c ht m h root st a d gs (walked.Faulted x n) = refl
 missed-as-ours c ht m h root st a d gs walked.Damaged = refl
 
 missed-with-ours : (c : Config) (ht : ℕ) (m : List ℕ) (h : Held) (root : ℕ) (st : Bool) (a d : ℕ) → missedWith ours c ht m h root st a d ≡ missedOf c ht m h root st a d
 unfolding missedOf
-missed-with-ours c ht m h root st a d = let r = trailOf c ht m 0 (walk c st root (pathIndexes c d a)) in missed-as-ours c ht m h root st a d (r .tables) (r .walked)
+missed-with-ours c ht m h root st a d = let r = rootTrail c ht m st root (pathIndexes c d a) in missed-as-ours c ht m h root st a d (r .tables) (r .walked)
 
 found-as-ours : (c : Config) (ht : ℕ) (m : List ℕ) (h : Held) (root : ℕ) (st : Bool) (a d : ℕ) (x : HostWalk)
     → foundAs ours c ht m h root st a d x ≡ foundBy c ht m h root st a d x
@@ -255,4 +255,4 @@ pub load-arriving-ours : (r : Record) (m : List ℕ) (a w : ℕ) → loadArrivin
 unfolding loadArriving callOf loadCall loadOf
 load-arriving-ours r m a w =
     ap (λ (o : After Translated). placed r m w (addressOk false (configOf r) a w) (windowedBy r (loadFrom (configOf r) (hostTop r) (rootOf r) (heldOf r) a w o)))
-    (translate-with-ours (configOf r) (hostTop r) m (heldOf r) (rootOf r) false a (depthAt r a))
+    (translate-with-ours (configOf r) (hostTop r) m (heldOf r) (rootOf r) false a (requestDepth r m a))

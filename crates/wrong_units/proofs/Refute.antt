@@ -22,9 +22,9 @@ use Rattle.walk.specs.declared.Walked.the-variants as walked
 use Rattle.record.specs.declared.Record.{Record}
 use Rattle.record.specs.Record.{configOf, configBy}
 use Rattle.record.specs.Open.{refusalOf}
-use Rattle.calls.specs.Calls.{depthAt, callOf}
+use Rattle.calls.specs.Calls.{callOf}
 use Rattle.claims.specs.Run.{machineRun, heardUnit}
-use Rattle.claims.specs.Plain.{plainWalk, withOwn, AsWalked, Unrefused}
+use Rattle.claims.specs.Plain.{plainWalk, withOwn, readsOf, AsWalked, Unrefused}
 use Rattle.wrong_units.specs.Unit.{MemoryUnit, runBy, afterBy, specified, Demand-3, Demand-2, ChoiceUnseen, Calls, told, unitBy}
 use Rattle.wrong_units.proofs.Mapped.{memory, grants, opens, openedBy, openedRecord, openedWords, firstBy, firstRecord, tables, first-map}
 use Rattle.wrong_units.proofs.Filled.{others, mappedWords, marked, heldRecord, heldWords, fills}
@@ -124,14 +124,14 @@ refuted-opened = refuted-opened-by false false
 -- host frame t
 pub not-as-walked : (f : Calls) (xs ys : List Call) (a w u : ℕ) (s : Record × List ℕ) (t : HostPhysical) (y : Bool) (k : ℕ) (x : Answer) → Comes f xs s
     → let e : Record × List ℕ = afterBy (unitBy f) ys s in
-    f (load a w) (e .0) (e .1) .result .answer ≡ x → Unrefused x → plainWalk (e .0) (e .1) false a ≡ walked.Arrived t y k → bytesAt a w (words.wordIn (withOwn (e .0) (e .1) false a) (t .0) (wordOf a)) ≡ u
+    f (load a w) (e .0) (e .1) .result .answer ≡ x → Unrefused x → plainWalk (e .0) (e .1) false a ≡ walked.Arrived y t k → bytesAt a w (words.wordIn (withOwn (e .0) (e .1) false a) (t .0) (wordOf a)) ≡ u
     → ((n c : ℕ) → line x ≡ value u n c → ⊥) → Demand-2 f → ⊥
 unfolding Demand-2
 not-as-walked f xs ys a w u s t y k x c p q r o clash d =
     let e = afterBy (unitBy f) ys s in
     let l = subst Walks (goes-on false false f xs ys s e c refl) (d memory 4 4 false false (xs ++ ys) (grants false) a w none) (subst Unrefused (sym p) q) in
     let g = subst (AsWalked (e .0) (e .1) a w none (f (load a w) (e .0) (e .1))) r l in
-    let n : ℕ = configOf (e .0) .levels + configOf (e .0) .levels * depthAt (e .0) a in
+    let n : ℕ = readsOf (e .0) (e .1) false a in
     clash n (g .exits) (ap line (sym p) ∙ g .says ∙ ap (λ v. value v n (g .exits)) o)
   where
     Walks : Record × List ℕ → Type 0

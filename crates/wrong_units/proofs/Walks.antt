@@ -29,7 +29,7 @@ faults-answer : let e = afterBy (unitBy faultsAll) plain (firstRecord, mappedWor
 unfolding faultsAll afterBy calling
 faults-answer = refl
 
-faults-walk : let e = afterBy (unitBy faultsAll) plain (firstRecord, mappedWords) in plainWalk (e .0) (e .1) false 0 ≡ walked.Arrived (page 11) true 24
+faults-walk : let e = afterBy (unitBy faultsAll) plain (firstRecord, mappedWords) in plainWalk (e .0) (e .1) false 0 ≡ walked.Arrived true (page 11) 24
 unfolding faultsAll afterBy calling
 faults-walk = refl
 
@@ -49,7 +49,7 @@ one-word-answer : let e = afterBy (unitBy oneWord) plain (firstRecord, mappedWor
 unfolding oneWord afterBy calling
 one-word-answer = refl
 
-one-word-walk : let e = afterBy (unitBy oneWord) plain (firstRecord, mappedWords) in plainWalk (e .0) (e .1) false 0 ≡ walked.Arrived (page 11) true 24
+one-word-walk : let e = afterBy (unitBy oneWord) plain (firstRecord, mappedWords) in plainWalk (e .0) (e .1) false 0 ≡ walked.Arrived true (page 11) 24
 unfolding oneWord afterBy calling
 one-word-walk = refl
 
@@ -69,7 +69,7 @@ never-drops-answer : let e = afterBy (unitBy neverDrops) through (heldRecord, he
 unfolding neverDrops storeWith dropNothing afterBy calling
 never-drops-answer = refl
 
-never-drops-walk : let e = afterBy (unitBy neverDrops) through (heldRecord, heldWords) in plainWalk (e .0) (e .1) false 0 ≡ walked.Arrived (page 10) true 24
+never-drops-walk : let e = afterBy (unitBy neverDrops) through (heldRecord, heldWords) in plainWalk (e .0) (e .1) false 0 ≡ walked.Arrived true (page 10) 24
 unfolding neverDrops storeWith dropNothing afterBy calling
 never-drops-walk = refl
 

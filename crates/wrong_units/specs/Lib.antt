@@ -3,3 +3,4 @@ pub mod Changed
 pub mod Wrong
 pub mod WrongBits
 pub mod WrongChoice
+pub mod WrongLarge

@@ -103,7 +103,7 @@ unfoldable pub WordsCounted : Calls → Type 0
 WordsCounted f =
     (m : List ℕ) (h s : ℕ) (bits on : Bool) (xs : List Call) → refusalOf (length m) h s bits ≡ 0 → (a w : ℕ)
     → let e : Record × List ℕ = afterBy (unitBy f) xs ((unitBy f) .opens m h s bits on) in
-    HeldOrPlain ((specified m h s bits on xs) .config) ((specified m h s bits on xs) .book) false a → SetsNone (e .0) (e .1) false a
+    HeldOrPlain ((specified m h s bits on xs) .config) ((specified m h s bits on xs) .machine) ((specified m h s bits on xs) .book) false a → SetsNone (e .0) (e .1) false a
     → (n : List ℕ) → length n ≡ length (e .1) → SameWords (e .1) n (countedOf (e .0) (e .1) false a) → SameWords (e .1) n (touchedOf (e .0) (e .1) false a)
     → line (f (load a w) (e .0) n .result .answer) ≡ line (f (load a w) (e .0) (e .1) .result .answer)
 

@@ -43,7 +43,7 @@ use Rattle.charge.specs.declared.Charge.the-variants as charge
 use Rattle.automatic.specs.Moves.{markedOf, marksWith, choiceWith, above}
 use Rattle.translate.specs.declared.Held.{Held}
 use Rattle.translate.specs.declared.Translated.{Translated}
-use Rattle.translate.specs.Translate.{exitBy}
+use Rattle.translate.specs.Translate.{depthOf, exitBy}
 use Rattle.request.specs.declared.Put.{Put}
 use Rattle.request.specs.declared.Served.{Served}
 use Rattle.request.specs.Access as access
@@ -134,10 +134,10 @@ marksFull = onSets (λ a n r m. elim (ltb (ones (r .guest .marks .set)) 4) [ tru
 
 -- ---- addresses of both halves (document 02, 1), misread
 
--- a load by another test of its address, and by another depth
+-- a load by another test of its address, and by another depth of its marks
 abbrev pub loadBy : (Config → ℕ → Bool) → (Record → ℕ → ℕ) → ℕ → ℕ → Does
 loadBy legal deep a w r m =
-    placed r m w (legal (configOf r) a && aligned a w) (windowedBy r (access.loadOf (configOf r) (hostTop r) m (heldOf r) (rootOf r) a w (deep r a)))
+    placed r m w (legal (configOf r) a && aligned a w) (windowedBy r (access.loadOf (configOf r) (hostTop r) m (heldOf r) (rootOf r) a w (depthOf (configOf r) (hostTop r) m (heldOf r) (rootOf r) a (deep r a))))
 
 abbrev pub loadIf : (Config → ℕ → Bool) → ℕ → ℕ → Does
 loadIf legal = loadBy legal depthAt
@@ -184,7 +184,7 @@ writtenAs writes h held n e t a w v set s =
     (access.refused h 11 (s .memory))
 
 abbrev pub storeAs : Drops → Writes → Config → Held → ℕ → ℕ → ℕ → (List ℕ → List ℕ) → After Translated → Walked → After Served
-storeAs drops writes c h a w v set o (walked.Arrived t y n) =
+storeAs drops writes c h a w v set o (walked.Arrived y t n) =
     writtenAs writes h (o .result .held) n (o .result .exits) (t .0) a w v set (drops c (o .memory) (o .result .held .pool) (t .0) a)
 storeAs drops writes c h a w v set o (walked.Faulted x n) = serving (o .result .held) (answer.Faulted x n (o .result .exits)) (o .memory)
 storeAs drops writes c h a w v set o walked.Damaged = access.refused h 11 (o .memory)
@@ -196,7 +196,7 @@ orCharged r a w v o t n plain (charge.To p) = storeChargedOf r (o .memory) a w v
 orCharged r a w v o t n plain charge.Damaged = refused r 11 (o .memory)
 
 abbrev pub storedAs : Record → ℕ → ℕ → ℕ → After Translated → After Reply → Walked → After Reply
-storedAs r a w v o plain (walked.Arrived t y n) = orCharged r a w v o t n plain (chargeAt r (o .result .held) (o .memory) (t .0) (wordOf a))
+storedAs r a w v o plain (walked.Arrived y t n) = orCharged r a w v o t n plain (chargeAt r (o .result .held) (o .memory) (t .0) (wordOf a))
 storedAs r a w v o plain (walked.Faulted x n) = plain
 storedAs r a w v o plain walked.Damaged = plain
 
@@ -213,7 +213,7 @@ unfoldable pub storeWith : Drops → Writes → ℕ → ℕ → ℕ → Does
 storeWith drops writes = storeDoing (doneWith drops writes)
 
 abbrev pub deviceAs : Drops → Writes → Config → List ℕ → Held → ℕ → ℕ → ℕ → Walked → After Served
-deviceAs drops writes c m h a w v (walked.Arrived t y n) = writtenAs writes h h n 0 (t .0) a w v (λ x. x) (drops c m (h .pool) (t .0) a)
+deviceAs drops writes c m h a w v (walked.Arrived y t n) = writtenAs writes h h n 0 (t .0) a w v (λ x. x) (drops c m (h .pool) (t .0) a)
 deviceAs drops writes c m h a w v (walked.Faulted x n) = serving h (answer.Faulted x n (exitBy (walked.Faulted x n))) m
 deviceAs drops writes c m h a w v walked.Damaged = access.refused h 11 m
 
@@ -342,7 +342,7 @@ devicesWhole = onDevices (λ a w v. callOf (device a 8 v)) callOf
 -- ---- words that are not counted
 
 abbrev pub walkedTo : List ℕ → ℕ → ℕ → Walked → ℕ → ℕ → Answer
-walkedTo m a w (walked.Arrived t y k) n e = answer.Value (bytesAt a w (wordIn m (t .0) (wordOf a))) n e
+walkedTo m a w (walked.Arrived y t k) n e = answer.Value (bytesAt a w (wordIn m (t .0) (wordOf a))) n e
 walkedTo m a w (walked.Faulted x k) n e = answer.Faulted x n e
 walkedTo m a w walked.Damaged n e = answer.Refused 11
 

@@ -14,7 +14,7 @@ use Rattle.spec.specs.Config.{Config}
 use Rattle.spec.specs.Entry.{wordOf}
 use Rattle.spec.specs.Bytes.{bytesAt}
 use Rattle.spec.specs.Walk.{World, Trace, trace}
-use Rattle.spec.specs.Plain.{Place, walk}
+use Rattle.spec.specs.Plain.{Place, isSpan, walk}
 use Rattle.spec.specs.Bits.{hasBits, withBits, isLast, mayWrite, owes}
 use Rattle.spec.specs.Refusal.{forecastRoom}
 use Rattle.spec.specs.Call.{load, store, forecast}
@@ -26,7 +26,7 @@ use Rattle.pool.specs.declared.Pool.{Pool}
 use Rattle.walk.specs.declared.Walked.{Walked}
 use Rattle.walk.specs.declared.Walked.the-variants as walked
 use Rattle.walk.specs.declared.Trail.{Trail}
-use Rattle.walk.specs.Memory.{memoryWorld, walkedOf, trailOf}
+use Rattle.walk.specs.Memory.{memoryWorld, walkedOf, rootTrail}
 use Rattle.accessed.specs.Entries.{bitsIn}
 use Rattle.record.specs.declared.Record.{Record}
 use Rattle.record.specs.Record.{configOf}
@@ -40,7 +40,7 @@ use Rattle.request.specs.declared.Served.{Served}
 use Rattle.request.specs.Access as access
 use Rattle.request.specs.Access.{serving, settledOf, put}
 use Rattle.calls.specs.declared.Reply.{Reply}
-use Rattle.calls.specs.Calls.{hostTop, heldOf, rootOf, withHeld, ended, refused, judged, placed, windowedBy, depthAt, addressOk, translatedOf, callOf}
+use Rattle.calls.specs.Calls.{hostTop, heldOf, rootOf, withHeld, ended, refused, judged, placed, windowedBy, requestDepth, addressOk, translatedOf, callOf}
 use Rattle.forecast.specs.Forecast.{start}
 use Rattle.wrong_units.specs.Unit.{Calls}
 use Rattle.wrong_units.specs.Changed.{Does, onLoads, onStores, onForecasts}
@@ -126,7 +126,7 @@ setsOnFault = onLoads loadFaulting callOf
 
 -- the word is loaded before the bits are set
 abbrev pub lateBy : Held → ℕ → ℕ → (List ℕ → List ℕ) → After Translated → Walked → After Served
-lateBy h a w set o (walked.Arrived t y n) =
+lateBy h a w set o (walked.Arrived y t n) =
     serving (o .result .held) (answer.Value (bytesAt a w (wordIn (o .memory) (t .0) (wordOf a))) n (o .result .exits)) (set (o .memory))
 lateBy h a w set o (walked.Faulted x n) = serving (o .result .held) (answer.Faulted x n (o .result .exits)) (o .memory)
 lateBy h a w set o walked.Damaged = access.refused h 11 (o .memory)
@@ -161,13 +161,13 @@ abbrev pub Arrives : Type 0
 Arrives = Config → ℕ → List ℕ → Held → ℕ → List ℕ → Bool → ℕ → ℕ → ℕ → ℕ → Bool → After Translated
 
 abbrev pub missedAs : Arrives → Config → ℕ → List ℕ → Held → ℕ → Bool → ℕ → ℕ → List ℕ → Walked → After Translated
-missedAs arrives c ht m h root st a d gs (walked.Arrived t w n) = arrives c ht m h root gs st a d n (t .0) w
+missedAs arrives c ht m h root st a d gs (walked.Arrived w t n) = cond (isSpan c (t .0)) (damaged h m) (arrives c ht m h root gs st a d n (t .0) w)
 missedAs arrives c ht m h root st a d gs (walked.Faulted x n) = yields (translation h 1 (walked.Faulted x n) false) m
 missedAs arrives c ht m h root st a d gs walked.Damaged = damaged h m
 
 abbrev pub missedWith : Arrives → Config → ℕ → List ℕ → Held → ℕ → Bool → ℕ → ℕ → After Translated
 missedWith arrives c ht m h root st a d =
-    let r : Trail = trailOf c ht m 0 (walk c st root (pathIndexes c d a)) in
+    let r : Trail = rootTrail c ht m st root (pathIndexes c d a) in
     missedAs arrives c ht m h root st a d (r .tables) (r .walked)
 
 abbrev pub foundAs : Arrives → Config → ℕ → List ℕ → Held → ℕ → Bool → ℕ → ℕ → HostWalk → After Translated
@@ -182,7 +182,7 @@ translateWith arrives c ht m h root st a d =
 
 unfoldable pub loadArriving : Arrives → ℕ → ℕ → Does
 loadArriving arrives a w r m =
-    let o : After Translated = translateWith arrives (configOf r) (hostTop r) m (heldOf r) (rootOf r) false a (depthAt r a) in
+    let o : After Translated = translateWith arrives (configOf r) (hostTop r) m (heldOf r) (rootOf r) false a (requestDepth r m a) in
     placed r m w (addressOk false (configOf r) a w) (windowedBy r (access.loadBy (heldOf r) a w (ourSets r false a (o .result .sets)) o (o .result .walked)))
 
 -- a unit that gives another verdict past the shadow part, from whether the path may be written through, where the walk came to and ours
@@ -193,7 +193,7 @@ arriveBy rule c ht m h root gs st a d n t w =
 
 -- a fault past the shadow part fills the path too, as with bits off
 abbrev pub fillAnyway : Bool → Walked → Verdict → Verdict
-fillAnyway w (walked.Arrived t y n) v = v
+fillAnyway w (walked.Arrived y t n) v = v
 fillAnyway w (walked.Faulted x n) v = verdict.Fill w false
 fillAnyway w walked.Damaged v = v
 
@@ -238,7 +238,7 @@ owedInTurn r st m (x ∷ xs) (g ∷ gs) =
 
 -- a load at depth N + 1 whose walk came to y is granted where nothing is owed so; e: what ours leaves
 abbrev pub grantedInTurn : Record → List ℕ → ℕ → ℕ → Option (ℕ × ℕ) → Walked → After Reply → After Reply
-grantedInTurn r m a w none (walked.Arrived t y n) e =
+grantedInTurn r m a w none (walked.Arrived y t n) e =
     let k : List ℕ = bitsIn false m ((walkOf r m false a) .reads) in
     ended r (answer.Value (bytesAt a w (wordIn k (t .0) (wordOf a))) n 0) k
 grantedInTurn r m a w none (walked.Faulted x n) e = e
@@ -249,7 +249,7 @@ abbrev pub loadInTurn : ℕ → ℕ → Does
 loadInTurn a w r m =
     let t : Trace Fault Place = walkOf r m false a in
     let e : After Reply = callOf (load a w) r m in
-    cond (configOf r .bits && ltb (configOf r .levels) (depthAt r a))
+    cond (configOf r .bits && ltb (configOf r .levels) (requestDepth r m a))
     (grantedInTurn r m a w (owedInTurn r false m (t .reads) (t .uses)) (walkedOf (configOf r) (hostTop r) m 0 (whole (configOf r) false (rootOf r) a)) e)
     e
 

@@ -15,10 +15,10 @@ use Rattle.spec.specs.Prefix.{any, keep}
 use Rattle.spec.specs.Walk.{Result, granted, failed}
 use Rattle.spec.specs.Plain.{Place}
 use Rattle.spec.specs.Machine.{Machine}
-use Rattle.spec.specs.Book.{Mark, Held, Book, markAt, isSet, depth, holding, unmarking, dropAll}
+use Rattle.spec.specs.Book.{Mark, Held, Book, markAt, isSet, holding, unmarking, dropAll}
 use Rattle.spec.specs.Choice.{firstOf, lower, readsLeaf, leafPrefixes, chargeOf, chargedTo, isAutomatic, owned, full, withdrawn, charged, entered, roomFor}
 use Rattle.spec.specs.Call.{Call, device, forecast, addressIndexes, verdict, deviceWalk, machineStep}
-use Rattle.spec.specs.Count.{Counted, one, isGranted, request, storing, free, windowed, bookStep}
+use Rattle.spec.specs.Count.{Counted, one, isGranted, requestDepth, request, storing, free, windowed, bookStep}
 use Rattle.spec.specs.Refusal.{firstFailed, levelFits, addressFits, refusal}
 use Rattle.spec.specs.Run.{State, lineOf, told, opened}
 use Rattle.record.specs.Record.{configBy}
@@ -71,12 +71,12 @@ abbrev pub ourCharges : Charges
 ourCharges c i r before hs = chargeOf c i r hs
 
 unfoldable pub loadChoosing : Enters → Config → ℕ → ℕ → Machine → Book → Counted
-loadChoosing enters c a w m b = enters c (verdict c m false a) none (request c m b false a (depth (b .marks) (addressIndexes c a)))
+loadChoosing enters c a w m b = enters c (verdict c m false a) none (request c m b false a (requestDepth c m b a))
 
 unfoldable pub storeChoosing : Enters → Charges → Config → ℕ → ℕ → ℕ → Machine → Book → Counted
 storeChoosing enters charges c a w v m b =
     let r : Result Fault Place = verdict c m true a in
-    let k : Counted = request c m b true a (depth (b .marks) (addressIndexes c a)) in
+    let k : Counted = request c m b true a (requestDepth c m b a) in
     enters c r (charges c (wordOf a) r (b .held) (k .book .held)) (storing (wordOf a) r k)
 
 abbrev pub entering : Enters → MemoryUnit

@@ -4,6 +4,9 @@
    guest area. It also keeps the unit's record, a head and three rows of 64 words, and lends memory and record to each call.
    cangrieb_open lays the memory out and writes the record; each later call takes that record and the same memory.
 
+   A guest's pages are of 4 KiB, and by bit 7 of an entry of level 2 or 3 of 2 MiB or 1 GiB; host frames are mapped one by one in
+   all of them.
+
    The pointers must be to a head, to rows of 64 words and to that many words of memory, those of a forecast also to that many
    addresses, which do not overlap and which nothing else uses during the call. The number of words or addresses may be 0,
    and their pointer then null. Nothing else is asked: a memory of another length or a record that breaks a rule is refused
@@ -132,7 +135,7 @@ _Static_assert(sizeof(struct cangrieb_mark) == 4 * sizeof(uint64_t), "a mark has
 /* Opens a memory (1, 2): clears its host and shadow frames, keeps its guest words; nothing is mapped, the root is 0, no mark is
    set. The record may hold anything before.
    With bits the unit sets accessed and dirty bits in the guest's entries. A load or store that is granted sets bit 5 in each entry
-   of its walk, and a store also bit 6 in that of level 1, before its word is loaded or stored; a fault sets none. A bit that is
+   of its walk, and a store also bit 6 in the one where it ends, before its word is loaded or stored; a fault sets none. A bit that is
    needed and not set, in a table whose guest frame is mapped read-only, is fault W with that frame. A device store needs and sets
    none. Forecasts are refused with 16.
    With automatic a table of level 1 that the guest writes often gets a mark of level 1 by itself, so that it is read directly and

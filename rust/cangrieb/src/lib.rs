@@ -4,6 +4,9 @@
 //! then the guest area. [`Record::open`] lays it out, [`Record::open_with`] with what [`Choices`] offers beside; each later call
 //! takes the record and the same memory.
 //!
+//! A guest's pages are of 4 KiB, and by bit 7 of an entry of level 2 or 3 of 2 MiB or 1 GiB; host frames are mapped one by one in all
+//! of them.
+//!
 //! Nothing else is asked of the caller: the archive's functions have no precondition. A memory of another length or a
 //! record that breaks a rule is refused with 3, and a damaged table with 11; no call reads or writes a word outside the
 //! slice.
@@ -112,7 +115,7 @@ pub struct Record {
 #[derive(Clone, Copy, Debug, Default, PartialEq, Eq)]
 pub struct Choices {
     /// Accessed and dirty bits in the guest's entries. A load or store that is granted sets bit 5 in each entry of its walk, and
-    /// a store also bit 6 in that of level 1, before its word is loaded or stored; a fault sets none. A bit that is needed and
+    /// a store also bit 6 in the one where it ends, before its word is loaded or stored; a fault sets none. A bit that is needed and
     /// not set, in a table whose guest frame is mapped read-only, is fault W with that frame. A device store needs and sets
     /// none. Forecasts are refused with 16.
     pub bits: bool,
@@ -171,14 +174,15 @@ pub enum Fault {
         /// The level of the entry.
         level: u64,
     },
-    /// M: a present guest entry is malformed.
+    /// M: a present guest entry is malformed. That is by one of bits 48 to 51, by bit 7 at level 4, or by a frame bit below the size
+    /// of a large page.
     Malformed {
         /// The level of the entry.
         level: u64,
     },
     /// P: a store through a guest entry that is not writable.
     Protected {
-        /// The level that the fault names.
+        /// The level where the walk ends: 1, or that of a large page's entry.
         level: u64,
     },
     /// H: a guest frame is not mapped.
@@ -524,7 +528,8 @@ impl Record {
         Answer::from_raw(answer)
     }
 
-    /// The depth of a guest-virtual address by the marks that are set, and how many marks a load or store reads to find it.
+    /// The depth of a guest-virtual address by the marks that are set, and how many marks a load or store reads to find it. A request
+    /// of a large page whose entry lies above that level has depth 0.
     ///
     /// This looks at the marks alone: it is no call to the unit, takes no memory and refuses nothing. The bits of the address
     /// above its indexes are not read. Of a record that a call would refuse with 3 the two numbers mean nothing, but that

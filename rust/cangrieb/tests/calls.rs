@@ -64,6 +64,38 @@ fn loads() {
     }
 }
 
+/// Entry 1 of frame 2 is a page of 2 MiB, entry 1 of frame 1 one of 1 GiB, both of guest frames 0 on, of which 0 to 7 are mapped.
+/// Frame 4 is found in both, as at address 0.
+#[test]
+fn large_pages() {
+    let (two, one) = (1 << 21 | 4 << 12, 1 << 30 | 4 << 12);
+    for (address, counts) in [(two, [4, 4, 7, 11, 15, 19]), (one, [4, 4, 4, 6, 10, 14])] {
+        for (level, references) in (0..).zip(counts) {
+            let (mut unit, mut memory) = guest();
+            memory[12 * 512 + 1] = 0xC0FFEE;
+            memory[10 * 512 + 1] = 0x83;
+            memory[9 * 512 + 1] = 0x83;
+            if level > 0 {
+                assert_eq!(unit.set_mark(&mut memory, address, level), Answer::Ok);
+            }
+            let exits = u64::from(level < 5);
+            assert_eq!(unit.load(&mut memory, address + 8, 8), value(0xC0FFEE, references, exits));
+            assert_eq!(unit.load(&mut memory, address + 8, 8), value(0xC0FFEE, references, 0));
+            assert_eq!(unit.depth(address).depth, level);
+        }
+    }
+    let (mut unit, mut memory) = guest();
+    let device_store = |unit: &mut Record, memory: &mut [u64], entry| {
+        assert!(matches!(unit.device_store(memory, 2 << 12 | 8, 8, entry), Answer::Done { .. }));
+    };
+    // Not aligned, not writable, and a frame of it that is not mapped.
+    device_store(&mut unit, &mut memory, 0x1083);
+    assert_eq!(unit.load(&mut memory, two, 8), fault(Fault::Malformed { level: 2 }, 15, 1));
+    device_store(&mut unit, &mut memory, 0x81);
+    assert_eq!(unit.store(&mut memory, two, 8, 1), fault(Fault::Protected { level: 2 }, 15, 1));
+    assert_eq!(unit.load(&mut memory, two + (4 << 12), 8), fault(Fault::HostAbsent { frame: 8 }, 19, 1));
+}
+
 /// Entry 256 of the root is as its entry 0, so that a page of the upper half is the lower one's with the same indexes below.
 #[test]
 fn the_upper_half() {

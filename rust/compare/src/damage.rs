@@ -6,10 +6,10 @@ use crate::{address_in, answer, is_set, lookup, places};
 use cangrieb::{Head, Record};
 use std::collections::BTreeMap;
 use walker::book::Book;
-use walker::numbers::{Bytes, ACCESSED, DIRTY, WIDTHS, WORD_BYTES};
+use walker::numbers::{Bytes, ACCESSED, DIRTY, LARGE, WIDTHS, WORD_BYTES};
 use walker::random::Random;
 use walker::unit::{refuse_device_store, refuse_request};
-use walker::{Answer, Call};
+use walker::{Answer, Call, Fault};
 
 const FRAME: usize = 512;
 /// As an opening sets them; any other number is refused with 3.
@@ -69,6 +69,7 @@ impl State {
         let said = answer(&mut self.record, &mut self.lent.memory()[..part], call);
         let bits = before.record.head.bits == 1;
         count(counts, name(call, &said));
+        count_if(counts, is_large(call, &said), &format!("large: {}", name(call, &said)));
         if bits {
             count(counts, format!("bits: {}", name(call, &said)));
         }
@@ -174,7 +175,7 @@ impl State {
     /// One to four kinds of damage.
     pub fn damage(&mut self, random: &mut Random, counts: &mut Counts) {
         for _ in 0..1 + random.below(4) {
-            match random.below(18) {
+            match random.below(20) {
                 0 => damage_record(&mut self.record, random),
                 1 => damage_fields(&mut self.record, random),
                 2 | 3 => damage_pools(&mut self.record, random),
@@ -187,6 +188,7 @@ impl State {
                 13 => damage_choice(&mut self.record, random),
                 14 => automatic::damage_tally(&mut self.record, random),
                 15 | 16 => automatic::damage_rows(&mut self.record, random),
+                17 | 18 => make_large(&self.record.clone(), self.lent.memory(), random),
                 _ => damage_marks(&mut self.record, random),
             }
         }
@@ -328,6 +330,17 @@ fn name(call: &Call, said: &Answer) -> String {
             format!("{}: {name}", if WIDTHS.contains(&width) { "narrow" } else { "wrong width" })
         }
         _ => name,
+    }
+}
+
+/// Whether a load or store shows by its answer that it went to a large page: read directly, where the count is no multiple of 4, or
+/// not to be stored to.
+fn is_large(call: &Call, said: &Answer) -> bool {
+    match (call, said) {
+        (Call::Load { .. }, Answer::Value { references, .. })
+        | (Call::Store { .. }, Answer::Done { references, .. }) => references % 4 != 0,
+        (_, Answer::Fault { fault: Fault::Protected { level }, .. }) => *level > 1,
+        _ => false,
     }
 }
 
@@ -544,6 +557,19 @@ fn bend_entries(record: &Record, memory: &mut [u64], random: &mut Random) {
             1 => (named << 12) | 3,
             _ => (word & !(((1 << 40) - 1) << 12)) | (named << 12) | 1,
         };
+    }
+}
+
+/// Entries with bit 7, in guest tables mostly aligned to 2 MiB or 1 GiB. In host and shadow tables no rule reads the bit.
+fn make_large(record: &Record, memory: &mut [u64], random: &mut Random) {
+    let frames = (memory.len() / FRAME) as u64;
+    let first = record.head.hosts.saturating_add(record.head.shadows).min(frames - 1);
+    for _ in 0..1 + random.below(16) {
+        let guest = (first + random.below(frames - first)) as usize;
+        let frame = if random.one_in(4) { some_frame(record, memory, random) } else { guest };
+        let at = some_word(memory, frame, random);
+        let low = random.pick(&[0, (1 << 9) - 1, (1 << 9) - 1, (1 << 18) - 1]);
+        memory[at] = memory[at] & !(low << 12) | LARGE | random.below(4);
     }
 }
 

@@ -80,13 +80,13 @@ fn count(program: &Path, case: &str) -> u64 {
     total / times
 }
 
-/// The lines of counts.txt: a case and its bound.
-fn bounds() -> Vec<(String, u64)> {
+/// The lines of counts.txt: a case and its bound, none where it is not known yet.
+fn bounds() -> Vec<(String, Option<u64>)> {
     let file = Path::new(env!("CARGO_MANIFEST_DIR")).join("counts.txt");
     let text = std::fs::read_to_string(file).unwrap();
     let bound = |line: &str| {
         let (case, bound) = line.split_once(' ').expect(line);
-        (case.to_string(), bound.trim().parse().expect(line))
+        (case.to_string(), (bound.trim() != "?").then(|| bound.trim().parse().expect(line)))
     };
     text.lines().filter(|line| !line.is_empty() && !line.starts_with('#')).map(bound).collect()
 }
@@ -100,11 +100,15 @@ fn within_their_bounds() {
     assert_eq!(cases.lines().collect::<Vec<_>>(), bounded, "the cases of count, and those of counts.txt");
 
     let mut table = format!("\n{:<22} {:>7} {:>7}\n", "instructions", "count", "bound");
-    let mut above = String::new();
+    let (mut above, mut unknown) = (String::new(), String::new());
     let mut counts = BTreeMap::new();
     for (case, bound) in bounds {
         let count = count(&program, &case);
         counts.insert(case.clone(), count);
+        let Some(bound) = bound else {
+            writeln!(unknown, "{case:<22} {count:>8}").unwrap();
+            continue;
+        };
         let remark = if count > bound {
             writeln!(above, "{case}: {count} instructions, bound {bound}").unwrap();
             "  above its bound"
@@ -124,5 +128,6 @@ fn within_their_bounds() {
             "{case}: {count} instructions, more than {tenths} tenths of {other}: {others}"
         );
     }
+    assert!(unknown.is_empty(), "without a bound in counts.txt, where these lines are to be put:\n{unknown}");
     assert!(above.is_empty(), "above their bounds in counts.txt:\n{above}");
 }

@@ -1,11 +1,12 @@
-//! A million calls on damaged records and memories, a third of them opened with accessed and dirty bits, two thirds with the
-//! automatic choice, and a lookup and a list of the marks after each: each ends, and leaves what it may not change.
+//! A million calls on damaged records and memories, a third of them opened with accessed and dirty bits, more than half with the
+//! automatic choice, a quarter with many large pages, and a lookup and a list of the marks after each: each ends, and leaves what
+//! it may not change.
 //! DAMAGED_CALLS sets another number, MARGIN the words on each side of the lent memory.
 
 use cangrieb::Record;
 use compare::damage::{Counts, Lent, State};
 use compare::{answer, memory_before, open};
-use walker::random::{automatic_run, bits_run, run, Random, Run, Sizes};
+use walker::random::{automatic_run, bits_run, large_run, run, Random, Run, Sizes};
 use walker::{Answer, Call};
 
 /// Calls after each damage, and damages of one run.
@@ -33,7 +34,7 @@ fn sound_state(run: &Run, random: &mut Random) -> State {
 
 fn damaged_run(seed: u64, sizes: Sizes, counts: &mut Counts) {
     let mut random = Random::new(seed ^ 0xDA4A_6E00);
-    let sort = [run, bits_run, automatic_run][seed as usize % 3];
+    let sort = [run, bits_run, automatic_run, large_run][seed as usize % 4];
     let run = sort(seed, sizes, 300 + 2 * sizes.frames as usize);
     // The calls before these map the guest's frames.
     let later = &run.calls[run.calls.len() - 250..];
@@ -115,7 +116,10 @@ fn damaged_runs(first_seed: u64, calls: u64, sizes: fn(&mut Random) -> Sizes) {
         let with_choice = answers.iter().map(|name| format!("choice: {name}"));
         let of_choice: Vec<String> =
             with_choice.chain(of_choice.map(|name| format!("choice: {name}"))).collect();
-        for name in answers.into_iter().chain(&of_bits).chain(&of_choice).chain(&lookups).chain(&odd) {
+        let large = ["value", "done", "fault P", "narrow: value", "narrow: done", "narrow: fault P"];
+        let large = large.map(|name| format!("large: {name}"));
+        let names = answers.into_iter().chain(&of_bits).chain(&of_choice).chain(&large);
+        for name in names.chain(&lookups).chain(&odd) {
             assert!(counts.contains_key(name), "no damaged run had: {name}");
         }
     }

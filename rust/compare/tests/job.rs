@@ -45,15 +45,17 @@ fn open() -> Vec<u8> {
 const QUIET_JOB: &[u8] = include_bytes!("../jobs/quiet.job");
 const QUIET_LINES: &str = include_str!("../jobs/quiet.txt");
 
-/// Three jobs whose lines were worked out by hand: every line of document 01 on its sixteen-frame guest, each from a new opening,
+/// Four jobs whose lines were worked out by hand: every line of document 01 on its sixteen-frame guest, each from a new opening,
 /// with pages that hold their host frame and word (0xc01 is frame 12, word 1), its load of 0xFFFFFFFFFFF8 refused as request 1 of
-/// document 02 has it; every refusal that a job can meet; and a quiet stretch that is run twice.
+/// document 02 has it; every refusal that a job can meet; a quiet stretch that is run twice; and large pages of both sizes, of which
+/// some are tables: their counts under marks, P, M, H and W.
 #[test]
 fn jobs_with_known_lines() {
-    let jobs: [(&[u8], &str); 3] = [
+    let jobs: [(&[u8], &str); 4] = [
         (include_bytes!("../jobs/guest.job"), include_str!("../jobs/guest.txt")),
         (include_bytes!("../jobs/refusals.job"), include_str!("../jobs/refusals.txt")),
         (QUIET_JOB, QUIET_LINES),
+        (include_bytes!("../jobs/large.job"), include_str!("../jobs/large.txt")),
     ];
     for (input, lines) in jobs {
         assert_eq!(output(input, 65_536), lines);
@@ -104,14 +106,26 @@ fn call_of(record: &Record) -> &Call {
 
 #[test]
 fn random_jobs() {
-    let mut ends = 0;
+    let (mut ends, mut large) = (0, 0);
     for seed in 0..400 {
         let input = job(seed, 300);
         let expected = run_job(&input);
         ends += expected.ends_with("no 13\n") as u32;
+        large += expected.lines().filter(|line| is_of_large_page(line)).count();
         assert!(output(&input, 65_536) == expected, "seed {seed}");
     }
+    println!("{large:>9} lines of large pages that are read directly or may not be stored to");
     assert!(ends > 0, "no job had a damaged end");
+    assert!(large >= 100, "{large} lines of large pages");
+}
+
+/// A value with a count that is no multiple of 4, or P above level 1.
+fn is_of_large_page(line: &str) -> bool {
+    match line.split(' ').collect::<Vec<_>>()[..] {
+        [_, "value", _, references, _] => references.parse::<u64>().unwrap() % 4 != 0,
+        [_, "fault", "P", level, ..] => level != "1",
+        _ => false,
+    }
 }
 
 /// A record with random bytes in it; mostly of a kind and its length, small numbers among them.

@@ -11,7 +11,7 @@ use compare::{answer, memory_before, open};
 use walker::events::Events;
 use walker::machine::{Access, Word};
 use walker::numbers::{different_proper_prefixes, frame_of, word_in_frame};
-use walker::quiet::{once_translated, part, path_of, End, Part, Stretch};
+use walker::quiet::{once_translated, part, End, Part, Stretch};
 use walker::random::{quiet_run, run, Random, Run, Sizes};
 use walker::{Answer, Call, Unit};
 
@@ -36,7 +36,7 @@ impl<'a> Met<'a> {
     fn new(seed: u64, number: usize, walker: &'a Unit, call: &'a Call, said: Answer) -> Met<'a> {
         let part = part(walker, call, &said);
         let mut met = Met { seed, number, walker, call, said, part, path: None };
-        met.path = met.address().and_then(|address| path_of(walker.book(), address));
+        met.path = met.address().and_then(|address| walker.path_of(address));
         met
     }
 
@@ -47,6 +47,12 @@ impl<'a> Met<'a> {
             (Call::Load { address, .. } | Call::Store { address, .. }, _) => Some(*address),
             _ => None,
         }
+    }
+
+    /// The level of the large page that it went to, if it did.
+    fn large_level(&self) -> Option<u32> {
+        let walk = self.walker.machine().plain_walk(self.address()?, Access::Load);
+        walk.large_level()
     }
 
     fn is_device_store(&self) -> bool {
@@ -75,9 +81,12 @@ struct Live {
     /// The granted requests at each depth, and their exits.
     granted: [u64; 6],
     paid_at: [u64; 6],
-    /// The requests whose path was not held at the start, each of them, and their pages.
+    /// The requests whose path was not held at the start, each of them, and their pages. Where a page is a large one, those as a
+    /// whole, and the paths that the marks alone would give.
     touches: u64,
     pages: BTreeSet<u64>,
+    wholes: BTreeSet<Vec<u64>>,
+    by_marks: BTreeSet<Vec<u64>>,
     /// The exits that forecasts said.
     forecast: u64,
     /// The shadow tables in use at the start.
@@ -97,6 +106,8 @@ impl Live {
             paid_at: [0; 6],
             touches: 0,
             pages: BTreeSet::new(),
+            wholes: BTreeSet::new(),
+            by_marks: BTreeSet::new(),
             forecast: 0,
             tables: met.walker.book().tables_in_use(),
             others: BTreeSet::new(),
@@ -132,6 +143,8 @@ impl Live {
         self.granted[depth] += 1;
         self.paid_at[depth] += met.paid();
         self.others.extend(matches!(met.call, Call::Store { .. }).then_some("a store"));
+        let large = met.large_level();
+        self.others.extend(large.map(|level| large_name(level, depth == 0)));
         let Some(path) = path else { return };
         self.others.extend((!is_new).then_some("a path touched twice"));
         if self.stretch.held.contains(&path) {
@@ -139,6 +152,11 @@ impl Live {
         } else {
             self.touches += 1;
             self.pages.extend(met.address().map(frame_of));
+            let above =
+                large.filter(|_| depth == 0).map_or(path.len(), |level| path.len() - level as usize + 1);
+            self.wholes.insert(path[..above].to_vec());
+            let book = met.walker.book();
+            self.by_marks.extend(met.address().and_then(|address| book.path(address, book.depth(address))));
         }
     }
 
@@ -196,7 +214,7 @@ impl Live {
     }
 
     /// What it would cost if the paper said something else.
-    fn wrong_figures(&self) -> [(&'static str, u64); 6] {
+    fn wrong_figures(&self) -> [(&'static str, u64); 8] {
         [
             ("each touch counts", self.touches),
             ("depth 5 has a path", self.paid + (self.granted[5] > 0) as u64),
@@ -204,7 +222,18 @@ impl Live {
             ("pages count", self.pages.len() as u64),
             ("new tables count", self.stretch.tables() - self.tables),
             ("forecasts are paid", self.paid + self.forecast),
+            ("a large page has one path", self.wholes.len() as u64),
+            ("the marks alone give the path", self.by_marks.len() as u64),
         ]
+    }
+}
+
+fn large_name(level: u32, depth_0: bool) -> &'static str {
+    match (level, depth_0) {
+        (2, true) => "a 2 MiB page at depth 0",
+        (2, false) => "a 2 MiB page read directly",
+        (_, true) => "a 1 GiB page at depth 0",
+        (_, false) => "a 1 GiB page read directly",
     }
 }
 
@@ -421,6 +450,11 @@ fn events() -> Vec<(u64, String)> {
         "a refused mark change",
     ];
     others.iter().for_each(|what| add(100, format!("with {what}")));
+    for level in [2, 3] {
+        for depth_0 in [true, false] {
+            add(100, format!("with {}", large_name(level, depth_0)));
+        }
+    }
     add(1, "with a refused forecast".into());
     let figures = [
         "each touch counts",
@@ -431,6 +465,9 @@ fn events() -> Vec<(u64, String)> {
         "forecasts are paid",
     ];
     figures.iter().for_each(|name| add(100, format!("wrong figure: {name}")));
+    // One guest in four has large pages.
+    let of_large = ["a large page has one path", "the marks alone give the path"];
+    of_large.iter().for_each(|name| add(10, format!("wrong figure: {name}")));
     WRONG_CONDITIONS.iter().for_each(|(name, _)| add(10, format!("wrong condition: {name}")));
     names
 }

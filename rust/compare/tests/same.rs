@@ -10,9 +10,11 @@ use compare::{
     served, window, window_of,
 };
 use walker::book::{Kind, Mark};
-use walker::events::{of_automatic, of_bits, of_forecasts, of_halves, of_lookups, of_widths, Events};
+use walker::events::{
+    of_automatic, of_bits, of_forecasts, of_halves, of_large, of_lookups, of_widths, Events,
+};
 use walker::numbers::{address_of, different_proper_prefixes, indexes, page_from, sign_bit};
-use walker::random::{automatic_run, bits_run, mark_run, run, Random, Run, Sizes, Sort};
+use walker::random::{automatic_run, bits_run, large_run, mark_run, run, Random, Run, Sizes, Sort};
 use walker::{Answer, Call, Choices, Unit};
 
 const CALLS: usize = 1000;
@@ -299,6 +301,23 @@ fn tables_written_often() {
         println!("{:>9} {event}", all.count(event));
         assert!(all.count(event) >= 1000, "{} times: {event}", all.count(event));
     }
+}
+
+/// Where most calls go to large pages, a third of the runs with accessed and dirty bits, half of them with the automatic choice.
+/// Pages of both sizes at each depth and by each mark, with what drops their paths and what does not, are met ten times and more in
+/// each kind of memory; the table says how often.
+#[test]
+fn large_pages() {
+    let add = |first_seed: u64, overflows: bool, sizes: fn(&mut Random) -> Sizes| {
+        println!("Large pages, {:?} and the like:", sizes(&mut Random::new(first_seed)));
+        let names = of_large(4, overflows);
+        let all = same_with(&names, first_seed, 250, large_run, sizes);
+        assert_often(names, &all);
+    };
+    add(110_000, true, |_| Sizes { levels: 4, frames: 16, h: 4, s: 4 });
+    add(120_000, true, |random| Sizes::small(random, 4));
+    add(130_000, false, |random| Sizes { levels: 4, frames: 60, h: 4 + random.below(3), s: 24 });
+    add(140_000, true, |random| Sizes { levels: 4, frames: 80, h: 12, s: 4 + random.below(4) });
 }
 
 /// The same calls with the automatic choice on and off: answers may differ in their counts alone, and the guest words do not. Says

@@ -65,6 +65,8 @@ fn calls_stay_within_the_bound() {
 /// Where marks are set that fill the places, and another prefix that is charged.
 const UPPER: u64 = 0xFFFF_8000_0000_0000;
 const FAR: u64 = 1 << 39;
+/// In a page of 1 GiB, by index 256 of level 3.
+const LARGE: u64 = 256 << 30;
 
 /// The addresses of the automatic marks.
 fn automatic(unit: &Record) -> impl Iterator<Item = u64> + '_ {
@@ -238,6 +240,26 @@ fn most_used(choices: Choices) -> usize {
         "marks, 64 of them",
         used(&mut || {
             unit.marks().count();
+        }),
+    );
+    // The one table is also of large pages then, by all but its first entries: 1 GiB from frame 0 on.
+    memory[16 * 512 + 256..17 * 512].fill(0x83);
+    for index in [0, 62] {
+        unit.clear_mark(&mut memory, UPPER + (index << 21), 1);
+    }
+    for (name, level) in [("load of a large page, filled", 1), ("load of a large page, direct", 3)] {
+        unit.set_mark(&mut memory, LARGE, level);
+        take(
+            name,
+            used(&mut || {
+                unit.load(&mut memory, LARGE, 8);
+            }),
+        );
+    }
+    take(
+        "store to a large page",
+        used(&mut || {
+            unit.store(&mut memory, LARGE, 8, 3);
         }),
     );
     take(

@@ -38,6 +38,15 @@ pub struct HeldPath {
     pub writable: bool,
 }
 
+impl HeldPath {
+    /// The level of the large page that this is the path of, if it is one: fewer words than
+    /// indexes were read.
+    pub fn large_level(&self, path: &[u64]) -> Option<u32> {
+        let not_read = (path.len() - self.words.len()) as u32;
+        (not_read > 0).then_some(not_read + 1)
+    }
+}
+
 #[derive(Clone, Debug, PartialEq, Eq)]
 pub struct Book {
     levels: u32,
@@ -80,9 +89,9 @@ impl Book {
         Mark { level, prefix: self.indexes(address)[..kept].to_vec() }
     }
 
-    /// Sets a mark of this kind, or makes one that is set one of this kind. Yields how
-    /// many paths were dropped.
-    pub fn set_mark(&mut self, mark: Mark, kind: Kind) -> usize {
+    /// Sets a mark of this kind, or makes one that is set one of this kind. Yields the
+    /// dropped paths.
+    pub fn set_mark(&mut self, mark: Mark, kind: Kind) -> Paths {
         let dropped = self.drop_by_prefix(&mark.prefix);
         match kind {
             Kind::Operator => self.automatic.remove(&mark),
@@ -92,8 +101,8 @@ impl Book {
         dropped
     }
 
-    /// Clears a mark, whosever it is. Yields how many paths were dropped.
-    pub fn clear_mark(&mut self, mark: &Mark) -> usize {
+    /// Clears a mark, whosever it is. Yields the dropped paths.
+    pub fn clear_mark(&mut self, mark: &Mark) -> Paths {
         self.marks.remove(mark);
         self.automatic.remove(mark);
         self.drop_by_prefix(&mark.prefix)
@@ -104,7 +113,7 @@ impl Book {
     }
 
     /// "The depth d of an address is the greatest level among marks whose prefix
-    /// it begins with, or 0."
+    /// it begins with, or 0." A request's own may be another: `depth_of_request`.
     pub fn depth(&self, address: u64) -> u32 {
         let indexes = self.indexes(address);
         let begun_with = self.marks.iter().filter(|mark| indexes.starts_with(&mark.prefix));
@@ -169,13 +178,14 @@ impl Book {
 
     /// "Mapping or unmapping a guest frame drops every held path whose shadow
     /// part used its mapping."
-    pub fn drop_by_mapping(&mut self, guest: u64) -> usize {
-        self.drop_where(|_, held| held.frames.contains(&guest)).len()
+    pub fn drop_by_mapping(&mut self, guest: u64) -> Paths {
+        self.drop_where(|_, held| held.frames.contains(&guest))
     }
 
-    /// "A mark set or cleared drops the paths that begin with its prefix."
-    pub fn drop_by_prefix(&mut self, prefix: &[u64]) -> usize {
-        self.drop_where(|path, _| path.starts_with(prefix)).len()
+    /// "A mark set or cleared drops the paths that begin with its prefix." Those of large
+    /// pages are among them, though their depth may stay 0.
+    pub fn drop_by_prefix(&mut self, prefix: &[u64]) -> Paths {
+        self.drop_where(|path, _| path.starts_with(prefix))
     }
 
     /// "A root load drops all."
@@ -190,15 +200,31 @@ impl Book {
     }
 }
 
+/// The depth of a request, by the marks' depth and its walk: "If the large entry lies above
+/// the marked levels", which are those up to the marks' depth, "the request has depth 0 and a
+/// path of four indexes."
+pub fn depth_of_request(by_marks: u32, walk: &Walk) -> u32 {
+    match walk.large_level() {
+        Some(level) if level > by_marks => 0,
+        _ => by_marks,
+    }
+}
+
 /// How many steps of a plain walk the shadow part has: the root's host walk, and
 /// for each level above d the guest entry and the host walk of its frame ("the
 /// plain walk up to the host frame of the guest table at level d, or of the page
 /// when d = 0"). "At d = 5 nothing is shadowed."
-pub fn shadow_steps(levels: u32, depth: u32) -> usize {
+fn shadow_steps(levels: u32, depth: u32) -> usize {
     match levels.checked_sub(depth) {
         Some(shadowed) => 1 + 2 * shadowed as usize,
         None => 0,
     }
+}
+
+/// The steps of the shadow part, and those of the direct part. The walk of a large page at
+/// depth 0 has fewer steps, and the shadow part is all of it.
+pub fn parts(walk: &Walk, levels: u32, depth: u32) -> (&[Step], &[Step]) {
+    walk.steps.split_at(shadow_steps(levels, depth).min(walk.steps.len()))
 }
 
 /// Whether a walk meets its fault in the shadow part. "At d = 0 that includes P and W."
@@ -224,15 +250,15 @@ fn shadow_part_complete(walk: &Walk, levels: u32, depth: u32) -> bool {
 /// and of the guest bits it covers, and at d = 0 of the host bit too."
 ///
 /// If bit 6 counts, as for a load with bits on, it is among them: such a path must not let
-/// a store by that owes the bit. A depth-0 path alone covers level 1.
+/// a store by that owes the bit. A depth-0 path alone covers the entry where the walk ends.
 pub fn note_shadow_part(walk: &Walk, levels: u32, depth: u32, dirty_counts: bool) -> HeldPath {
     let mut note = HeldPath { words: Vec::new(), frames: Vec::new(), writable: true };
-    let steps = &walk.steps[..shadow_steps(levels, depth)];
+    let (steps, _) = parts(walk, levels, depth);
     for step in steps {
         match step {
             Step::GuestEntry { level, word, entry } => {
                 note.words.push(*word);
-                let clean = dirty_counts && *level == 1 && entry.lacks(DIRTY) != 0;
+                let clean = dirty_counts && entry.ends_walk(*level) && entry.lacks(DIRTY) != 0;
                 note.writable = note.writable && entry.writable() && !clean;
             }
             Step::HostWalk { frame, .. } => note.frames.push(*frame),

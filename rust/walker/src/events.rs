@@ -3,8 +3,9 @@
 
 use crate::book::{Lookup, Mark};
 use crate::numbers::{
-    device_limit, frame_of, in_upper_half, indexes, is_legal, sign_bit, WIDTHS, WORD_BYTES,
+    device_limit, frame_of, in_upper_half, indexes, is_legal, sign_bit, LARGE_LEVELS, WIDTHS, WORD_BYTES,
 };
+use crate::unit::large::size;
 use std::collections::BTreeMap;
 
 #[derive(Clone, Debug, Default)]
@@ -369,6 +370,79 @@ pub fn of_automatic(levels: u32, several: bool, overflows: bool) -> Vec<String> 
         add("no charge, the store's own fill dropped the paths".into());
         add("charge, a lower path dropped by the store's own fill".into());
     }
+    names
+}
+
+/// What many runs of so many levels with large pages must have had (document 02, 8);
+/// `overflows` if the shadow tables are few.
+pub fn of_large(levels: u32, overflows: bool) -> Vec<String> {
+    let mut names = Vec::new();
+    let mut add = |name: String| names.push(name);
+    for level in LARGE_LEVELS {
+        let size = size(level);
+        for marks in 0..=levels + 1 {
+            // "above the marked levels" or not.
+            let depth = if level > marks { 0 } else { marks };
+            let at = format!("depth {depth}, marks {marks}");
+            let ways = if depth > levels { &["no path"][..] } else { &["path held", "path not held"] };
+            for way in ways {
+                for access in ["Load", "Store"] {
+                    add(format!("{size} page, granted {access} at {at}, {way}"));
+                }
+                add(format!("forecast: {size} page, granted Load at {at}, {way}"));
+                add(format!("{size} page, fault P at {at}, {way}"));
+                add(format!("{size} page, fault W at {at}, {way}"));
+                // A held path of depth 0 has a page that is mapped.
+                if depth > 0 || *way == "path not held" {
+                    add(format!("{size} page, fault H at {at}, {way}"));
+                }
+            }
+            if marks > 0 {
+                add(format!("held {size} path dropped by setting a mark of level {marks}"));
+            }
+            // Under a mark of its level or above it no large page has a path of its own.
+            if (1..level).contains(&marks) {
+                add(format!("held {size} path dropped by clearing a mark of level {marks}"));
+            }
+        }
+        (1..level).for_each(|lower| add(format!("{size} page, index {lower} not 0")));
+        add(format!("fault P of level {level}"));
+        add(format!("malformed by low frame bits at level {level}"));
+        (0..9 * (level - 1))
+            .for_each(|bit| add(format!("malformed by bit {} alone at level {level}", 12 + bit)));
+        for name in ["map", "unmap"] {
+            add(format!("held {size} path dropped by {name} of its page"));
+            add(format!("held {size} path dropped by {name} of a table"));
+            add(format!("{name} of another frame of a held {size} page drops nothing"));
+        }
+        for name in ["Store", "DeviceStore"] {
+            add(format!("held {size} path dropped by {name} to its entry"));
+            add(format!("held {size} path dropped by {name} to an upper entry"));
+        }
+        add(format!("{size} page stored over by a table"));
+        add(format!("table stored over by a {size} page"));
+        add(format!("no charge, {size} path dropped by its entry"));
+        if overflows {
+            add(format!("overflow by a {size} page"));
+            add(format!("held {size} path dropped by overflow"));
+        }
+        // With accessed and dirty bits.
+        for depth in [0].into_iter().chain(level..=levels + 1) {
+            let ways = if depth > levels { &["no path"][..] } else { &["path held", "path not held"] };
+            ways.iter().for_each(|way| add(format!("bit 6 set at level {level}, depth {depth}, {way}")));
+        }
+        add(format!("W for bit 6 alone of level {level}"));
+        (level..=levels).for_each(|other| add(format!("W for a bit of level {other}, {size} page")));
+        let fills = ["fill by a load, bit 6 set", "fill by a load, bit 6 clear", "fill by a store"];
+        let again = [
+            "refill, bit 6 clear",
+            "refill, bit 6 set by another",
+            "load by a path that forbids stores, bit 6 set by another",
+        ];
+        fills.iter().chain(&again).for_each(|name| add(format!("{name}, {size} page")));
+    }
+    (4..=levels).for_each(|level| add(format!("malformed by bit 7 at level {level}")));
+    add("bit 7 ignored at level 1".into());
     names
 }
 

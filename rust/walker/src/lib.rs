@@ -1,4 +1,4 @@
-//! A second reading of document 01 and of requests 1 to 7 of document 02, written
+//! A second reading of document 01 and of requests 1 to 8 of document 02, written
 //! from the papers alone: the machine without shadow, its book, and the job
 //! program's records. It is meant to be plainly right and is compared with the unit
 //! on many runs.

@@ -52,6 +52,19 @@ pub struct Walk {
     pub lacking: Option<u32>,
 }
 
+impl Walk {
+    /// The level of the large entry at which the walk ended, granted or not; none if it
+    /// ended at level 1 or faulted before.
+    pub fn large_level(&self) -> Option<u32> {
+        let faulted_before = matches!(self.end, Err(Fault::Absent { .. } | Fault::Malformed { .. }));
+        let large = self.steps.iter().find_map(|step| match *step {
+            Step::GuestEntry { level, entry, .. } if entry.is_large(level) => Some(level),
+            _ => None,
+        });
+        large.filter(|_| !faulted_before)
+    }
+}
+
 /// The words that some steps read together.
 pub fn words_read(steps: &[Step]) -> u64 {
     steps.iter().map(Step::words).sum()
@@ -59,8 +72,8 @@ pub fn words_read(steps: &[Step]) -> u64 {
 
 /// The bits that a request needs in an entry of its walk (document 02, 6): accessed at
 /// every level, dirty where a store's walk ends.
-pub fn needed_bits(level: u32, access: Access) -> u64 {
-    if level == 1 && access == Access::Store {
+pub fn needed_bits(entry: Entry, level: u32, access: Access) -> u64 {
+    if entry.ends_walk(level) && access == Access::Store {
         ACCESSED | DIRTY
     } else {
         ACCESSED
@@ -78,7 +91,7 @@ pub fn lacking(steps: &[Step], access: Access) -> Vec<(u32, u64)> {
         else {
             continue;
         };
-        if !table.writable && entry.lacks(needed_bits(level, access)) != 0 {
+        if !table.writable && entry.lacks(needed_bits(entry, level, access)) != 0 {
             list.push((level, frame));
         }
     }
@@ -174,8 +187,8 @@ impl Machine {
     /// Sets the bits that a granted request needs. The walk may have read a word twice.
     pub fn set_bits(&mut self, walk: &Walk, access: Access) {
         for step in &walk.steps {
-            if let Step::GuestEntry { level, word, .. } = *step {
-                self.write(word, self.read(word) | needed_bits(level, access));
+            if let Step::GuestEntry { level, word, entry } = *step {
+                self.write(word, self.read(word) | needed_bits(entry, level, access));
             }
         }
     }
@@ -200,14 +213,19 @@ impl Machine {
             }
             all_writable = all_writable && entry.writable();
             // "For a store, once level 1 is read, any unset writable bit among
-            // the four guest entries is fault P, with level 1."
-            if level == 1 && access == Access::Store && !all_writable {
+            // the four guest entries is fault P, with level 1." A large page has the
+            // level of its entry in place of level 1.
+            let ends = entry.ends_walk(level);
+            if ends && access == Access::Store && !all_writable {
                 return Err(Fault::Protected { level });
             }
             // "Host-walk the entry's frame before the next level."
-            // At level 1: "Then host-walk the page".
-            frame = entry.frame();
+            // At the last: "Then host-walk the page", "of the single guest frame".
+            frame = entry.next_frame(level, page);
             found = self.take_host_walk(frame, steps)?;
+            if ends {
+                break;
+            }
         }
         // "for a store, a page whose level 1 host entry is not writable is fault W"
         if access == Access::Store && !found.writable {

@@ -3,7 +3,7 @@
 //! 57 bits.
 
 use std::collections::BTreeSet;
-use std::ops::Range;
+use std::ops::{Range, RangeInclusive};
 
 /// "A frame is 512 words."
 pub const FRAME_WORDS: u64 = 512;
@@ -22,6 +22,10 @@ const FRAME_FIELD_BITS: u32 = 40;
 /// The accessed bit of an entry, bit 5, and the dirty bit, bit 6 (document 02, 6).
 pub const ACCESSED: u64 = 1 << 5;
 pub const DIRTY: u64 = 1 << 6;
+/// Bit 7 of an entry, which makes its page a large one at these levels: 2 MiB at level 2,
+/// 1 GiB at level 3 (document 02, 8).
+pub const LARGE: u64 = 1 << 7;
+pub const LARGE_LEVELS: RangeInclusive<u32> = 2..=3;
 
 /// The top bit of the top level's index: bit 47, with five levels bit 56.
 pub fn sign_bit(levels: u32) -> u32 {
@@ -110,6 +114,11 @@ pub fn index(number: u64, level: u32) -> u64 {
     (number >> (INDEX_BITS * (level - 1))) % FRAME_WORDS
 }
 
+/// How many pages of 4 KiB a page has that ends the walk at this level.
+pub fn pages_at(level: u32) -> u64 {
+    1 << (INDEX_BITS * (level - 1))
+}
+
 /// The page number that has these first indexes and then zeros.
 pub fn page_from(first: &[u64], levels: u32) -> u64 {
     let below = levels - first.len() as u32;
@@ -169,11 +178,33 @@ impl Entry {
         (self.0 >> OFFSET_BITS) % (1 << FRAME_FIELD_BITS)
     }
 
-    /// "a present guest entry is malformed if any of bits 48 to 51 is set, or
-    /// bit 7 at level 2, 3 or 4". Bits 48 to 51 are the bits by which a frame
-    /// number reaches 2^36; with five levels they are ordinary frame bits.
+    /// Whether it is one of a large page, if it is present and not malformed.
+    pub fn is_large(self, level: u32) -> bool {
+        LARGE_LEVELS.contains(&level) && self.lacks(LARGE) == 0
+    }
+
+    /// "Bit 7 at level 2 or 3 now ends the guest walk there". Else it ends at level 1.
+    pub fn ends_walk(self, level: u32) -> bool {
+        level == 1 || self.is_large(level)
+    }
+
+    /// Whether it has frame bits "below the page size", "bit 12 too". At level 1 there are none.
+    pub fn misaligned(self, level: u32) -> bool {
+        self.ends_walk(level) && self.frame() % pages_at(level) != 0
+    }
+
+    /// "a present guest entry is malformed if any of bits 48 to 51 is set". They are the
+    /// bits by which a frame number reaches 2^36; with five levels they are ordinary frame
+    /// bits. "Above level 3 bit 7 stays malformed." At level 1 it is ignored.
     pub fn malformed(self, level: u32, levels: u32) -> bool {
-        self.frame() >= frame_limit(levels) || (level >= 2 && bit(self.0, 7))
+        let above = level > *LARGE_LEVELS.end() && self.lacks(LARGE) == 0;
+        self.frame() >= frame_limit(levels) || above || self.misaligned(level)
+    }
+
+    /// The guest frame that the walk of this page goes to from here: a table's, or where the
+    /// walk ends the page's own, which the lower indexes tell from its neighbours.
+    pub fn next_frame(self, level: u32, page: u64) -> u64 {
+        self.frame() + if self.ends_walk(level) { page % pages_at(level) } else { 0 }
     }
 }
 

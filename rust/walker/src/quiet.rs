@@ -4,7 +4,7 @@
 //! automatic choice does not matter to it: what drops no path is charged to nobody.
 
 use crate::answer::{Answer, Call};
-use crate::book::{note_shadow_part, Book};
+use crate::book::{depth_of_request, note_shadow_part, Book};
 use crate::machine::{Access, Walk};
 use crate::numbers::different_proper_prefixes;
 use crate::unit::Unit;
@@ -42,15 +42,10 @@ pub fn part(before: &Unit, call: &Call, answer: &Answer) -> Result<Part, End> {
         (Call::Load { .. } | Call::Store { .. }, Answer::Fault { .. }) => Err(End::Fault),
         (Call::Store { address, .. }, _) if into_watched(before, *address) => Err(End::WatchedFrame),
         (Call::Load { address, .. } | Call::Store { address, .. }, _) => {
-            Ok(Part::Request { path: path_of(before.book(), *address) })
+            Ok(Part::Request { path: before.path_of(*address) })
         }
         _ => Err(End::OtherCall),
     }
-}
-
-/// The path of an address by the marks that are set.
-pub fn path_of(book: &Book, address: u64) -> Option<Vec<u64>> {
-    book.path(address, book.depth(address))
 }
 
 /// Whether a granted store goes into a watched frame. It is asked when the store's own
@@ -64,7 +59,7 @@ fn into_watched(before: &Unit, address: u64) -> bool {
 /// fills first, then writes, then drops".
 pub fn once_translated(before: &Unit, address: u64, walk: &Walk) -> Book {
     let mut book = before.book().clone();
-    let depth = book.depth(address);
+    let depth = depth_of_request(book.depth(address), walk);
     match book.path(address, depth) {
         Some(path) if !book.held.contains_key(&path) => {
             // Quiet stretches are found in runs without bits (document 02, 6).

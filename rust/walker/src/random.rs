@@ -8,12 +8,15 @@
 //! quiet ones mostly load and store where it is granted. Those with accessed and dirty
 //! bits have more read-only tables, and entries that have some bits and lack others.
 //! Half of all runs but jobs have the automatic choice, and in runs of one more sort tables
-//! are written again and again.
+//! are written again and again. Some guests have large pages, and in runs of the last sort
+//! most calls go to them.
 
 mod automatic;
 mod bits;
+mod large;
 
 use automatic::Rewrite;
+use large::LargePage;
 
 use crate::answer::{Call, Choices};
 use crate::job::{raw_record, write_record, Record, JOB_FRAMES, JOB_LEVELS};
@@ -137,6 +140,20 @@ pub fn automatic_run(seed: u64, sizes: Sizes, calls: usize) -> Run {
     run_by(Guest::next_automatic_call, guest, calls)
 }
 
+/// A run in which most calls go to large pages. One in three has accessed and dirty bits, one
+/// in two the automatic choice.
+pub fn large_run(seed: u64, sizes: Sizes, calls: usize) -> Run {
+    let choices = by_seed(seed, Random::new(!seed).below(6) % 3 == 0);
+    let mut guest = Guest::planned(Random::new(seed), sizes, choices);
+    for planned in &mut guest.plan {
+        planned.2 = planned.2 || !guest.random.one_in(4);
+    }
+    let many = 2 + guest.random.below(4);
+    guest.choose_large_pages(many);
+    guest.find_all();
+    run_by(Guest::next_large_call, guest, calls)
+}
+
 /// A run of the calls that a job's records can make.
 pub fn job_run(seed: u64, sizes: Sizes, calls: usize) -> Run {
     run_by(Guest::next_job_call, Guest::new(Random::new(seed), sizes, Choices::default()), calls)
@@ -150,6 +167,7 @@ pub fn named_sort(name: &str) -> Sort {
     match name {
         "bits" => bits_run,
         "automatic" => automatic_run,
+        "large" => large_run,
         _ => run,
     }
 }
@@ -207,6 +225,10 @@ struct Guest {
     twins: Vec<(u64, u64, u64)>,
     /// Entries of level 1 that the guest can store to, if the run is one for that.
     rewrites: Vec<Rewrite>,
+    /// The large pages, and where the guest can store to their entries: the entry's place
+    /// and the address.
+    large: Vec<LargePage>,
+    large_stores: Vec<((u64, u64), u64)>,
     marks: Vec<(u64, u64)>,
     undo: Vec<Call>,
     /// Calls that come next, the last one first.
@@ -214,13 +236,23 @@ struct Guest {
 }
 
 impl Guest {
+    /// One in four has large pages.
     fn new(random: Random, sizes: Sizes, choices: Choices) -> Guest {
+        let mut guest = Guest::planned(random, sizes, choices);
+        if guest.random.one_in(4) {
+            let many = 1 + guest.random.below(2);
+            guest.choose_large_pages(many);
+        }
+        guest.find_all();
+        guest
+    }
+
+    fn planned(random: Random, sizes: Sizes, choices: Choices) -> Guest {
         let mut guest = Guest::unplanned(random, sizes, choices);
         guest.choose_names();
         guest.choose_indexes();
         guest.choose_entries();
         guest.choose_pages();
-        guest.find_all();
         guest
     }
 
@@ -244,6 +276,8 @@ impl Guest {
             last_page: 0,
             twins: Vec::new(),
             rewrites: Vec::new(),
+            large: Vec::new(),
+            large_stores: Vec::new(),
             marks: Vec::new(),
             undo: Vec::new(),
             soon: Vec::new(),
@@ -257,6 +291,7 @@ impl Guest {
         }
         self.find_entries();
         self.find_granted_pages();
+        self.find_large_stores();
         if self.choices.bits {
             self.find_twins();
         }
@@ -501,10 +536,13 @@ impl Guest {
         }
     }
 
-    /// The pages that have the same table of level 1 as one that calls go to.
+    /// The pages that have the same table of level 1 as one that calls go to, and those that
+    /// have an index of their own in a large page.
     fn pages_beside(&self) -> Vec<u64> {
         let tables: BTreeSet<u64> = self.pages.iter().map(|page| page - page % FRAME_WORDS).collect();
-        tables.iter().flat_map(|first| self.indexes.iter().map(move |index| first + index)).collect()
+        let beside = tables.iter().flat_map(|first| self.indexes.iter().map(move |index| first + index));
+        let own = self.pages.iter().filter(|page| !self.indexes.contains(&(*page % FRAME_WORDS)));
+        beside.chain(own.copied()).collect()
     }
 
     fn find_granted_pages(&mut self) {
@@ -519,10 +557,15 @@ impl Guest {
     fn planned_entries(&self, page: u64) -> Vec<(u64, u64)> {
         let mut places = Vec::new();
         let mut found = self.planned_host(self.names[0]);
-        for index in indexes(page, self.sizes.levels) {
-            let place = found.map(|frame| (frame, index)).filter(|place| self.entries.contains_key(place));
-            found = place.and_then(|place| self.planned_host(Entry(self.entries[&place]).frame()));
-            places.extend(place);
+        for level in (1..=self.sizes.levels).rev() {
+            let place = found.map(|frame| (frame, index(page, level)));
+            let Some(place) = place.filter(|place| self.entries.contains_key(place)) else { break };
+            places.push(place);
+            let entry = Entry(self.entries[&place]);
+            if entry.ends_walk(level) {
+                break;
+            }
+            found = self.planned_host(entry.frame());
         }
         places
     }
@@ -539,7 +582,10 @@ impl Guest {
                 return None;
             }
             all_writable = all_writable && entry.writable();
-            found = planned(entry.frame())?;
+            found = planned(entry.next_frame(level, page))?;
+            if entry.ends_walk(level) {
+                break;
+            }
         }
         Some(all_writable && found.2)
     }
@@ -548,8 +594,11 @@ impl Guest {
     /// host frame that it finds.
     fn planned_walk(&self, page: u64) -> (Places, Option<u64>) {
         let places = self.planned_entries(page);
-        let last = places.get(self.sizes.levels as usize - 1);
-        let found = last.and_then(|place| self.planned_host(Entry(self.entries[place]).frame()));
+        let found = places.last().and_then(|place| {
+            let (level, entry) = (self.sizes.levels + 1 - places.len() as u32, Entry(self.entries[place]));
+            let name = entry.ends_walk(level).then(|| entry.next_frame(level, page));
+            name.and_then(|name| self.planned_host(name))
+        });
         (places.into_iter().map(|place| (place, self.entries[&place])).collect(), found)
     }
 

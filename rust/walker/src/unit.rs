@@ -2,9 +2,12 @@
 
 mod automatic;
 mod bits;
+pub mod large;
 
 use crate::answer::*;
-use crate::book::{faults_in_shadow_part, note_shadow_part, shadow_steps, Book, Kind, ListedMark, Paths};
+use crate::book::{
+    depth_of_request, faults_in_shadow_part, note_shadow_part, parts, Book, Kind, ListedMark, Paths,
+};
 use crate::events::Events;
 use crate::machine::{words_read, Access, Machine, Mapping, Step, Walk, Word};
 use crate::numbers::*;
@@ -57,6 +60,7 @@ impl Met {
 
 /// A load or store once its walk, its counts and its fill are done.
 struct Served {
+    depth: u32,
     end: Result<Mapping, Fault>,
     /// The guest frame that was host-walked last: the page's, if granted.
     last_frame: u64,
@@ -100,7 +104,8 @@ impl Unit {
         Ok(Unit::of(machine, Book::new(levels, s).with_automatic_choice(choices.automatic)))
     }
 
-    fn of(machine: Machine, book: Book) -> Unit {
+    /// One in the middle of a run, with this state.
+    pub fn of(machine: Machine, book: Book) -> Unit {
         Unit { machine, book, events: Events::default(), changed: BTreeMap::new(), left_unfilled: None }
     }
 
@@ -176,7 +181,8 @@ impl Unit {
         let before = self.machine.mapping.insert(guest, Mapping { host, writable });
         let dropped = self.book.drop_by_mapping(guest);
         self.events.add_if(before.is_some(), "mapped anew");
-        self.events.add_many("paths dropped by map", dropped);
+        self.events.add_many("paths dropped by map", dropped.len());
+        self.note_mapping_of_large("map", guest, &dropped);
         Answer::Ok
     }
 
@@ -188,7 +194,8 @@ impl Unit {
             return Answer::No(NOT_MAPPED);
         }
         let dropped = self.book.drop_by_mapping(guest);
-        self.events.add_many("paths dropped by unmap", dropped);
+        self.events.add_many("paths dropped by unmap", dropped.len());
+        self.note_mapping_of_large("unmap", guest, &dropped);
         Answer::Ok
     }
 
@@ -222,10 +229,11 @@ impl Unit {
         let full = self.book.marks_full();
         let dropped = self.book.set_mark(mark, Kind::Operator);
         if kind.is_some() {
-            self.note_taken_over(full, dropped);
+            self.note_taken_over(full, dropped.len());
         }
         self.events.add(format!("mark of level {level} set, {}", self.half(address)));
-        self.events.add_many(format!("paths dropped by setting a mark of level {level}"), dropped);
+        self.events.add_many(format!("paths dropped by setting a mark of level {level}"), dropped.len());
+        self.note_large_drops(&format!("setting a mark of level {level}"), &dropped);
         Answer::Ok
     }
 
@@ -241,7 +249,8 @@ impl Unit {
         }
         let dropped = self.book.clear_mark(&mark);
         self.events.add(format!("mark of level {level} cleared, {}", self.half(address)));
-        self.events.add_many(format!("paths dropped by clearing a mark of level {level}"), dropped);
+        self.events.add_many(format!("paths dropped by clearing a mark of level {level}"), dropped.len());
+        self.note_large_drops(&format!("clearing a mark of level {level}"), &dropped);
         Answer::Ok
     }
 
@@ -285,10 +294,10 @@ impl Unit {
             }
             Ok(page) => {
                 let word = Word { frame: page.host, index: word_in_frame(address) };
-                self.note_own_drop(address, word);
+                self.note_own_drop(address, served.depth, word);
                 let bytes = Bytes::at(address, width);
                 let written = self.write_and_drop("Store", served.last_frame, word, bytes, value);
-                self.charge(request, &written, &served.overflowed);
+                self.charge(request, &served, &written);
                 Answer::Done { references, exits: exits + written.exits }
             }
         }
@@ -332,6 +341,7 @@ impl Unit {
         self.note_drops(name, bytes, watched, same, dropped.len());
         self.note_changed_word(word, bytes, before);
         self.note_cleared_bits(before, after, dropped.len());
+        self.note_large_entry(name, word, [before, after].map(Entry), &dropped);
         self.events.add_if(watched, "exit for a watched frame");
         self.events.add_if(watched && dropped.is_empty(), "watched frame, no path dropped");
         self.events.add_if(same && !dropped.is_empty(), "drop though the value is the same");
@@ -341,15 +351,22 @@ impl Unit {
         Written { word, exits: watched as u64, dropped }
     }
 
+    /// The path of an address, if it has one. Loads and stores have the same: they read the
+    /// same entries.
+    pub fn path_of(&self, address: u64) -> Option<Vec<u64>> {
+        let walk = self.machine.plain_walk(address, Access::Load);
+        self.book.path(address, depth_of_request(self.book.depth(address), &walk))
+    }
+
     /// The walk of a load or store, its counts, and the fill of its path.
     fn serve(&mut self, request: Request) -> Served {
         let Request { address, access, .. } = request;
         let levels = self.levels();
         let bits = self.machine.bits;
-        let depth = self.book.depth(address);
+        let walk = self.machine.plain_walk(address, access);
+        let depth = depth_of_request(self.book.depth(address), &walk);
         let path = self.book.path(address, depth);
         let held = path.as_ref().and_then(|path| self.book.held.get(path));
-        let walk = self.machine.plain_walk(address, access);
         let granted = walk.end.is_ok();
         let shadow_fault = faults_in_shadow_part(&walk, levels, depth);
 
@@ -375,6 +392,7 @@ impl Unit {
         let met = Met { depth, not_held, forbidden, shadow_fault };
         self.note_request(&walk, request, met);
         self.note_automatic_mark(&walk, request, met);
+        self.note_large(&walk, request, met);
         self.note_changed_entries(&walk);
         self.events.add_if(fills, &format!("fill at depth {depth}"));
         if bits {
@@ -387,6 +405,7 @@ impl Unit {
             overflowed = self.book.fill(path, note_shadow_part(&walk, levels, depth, dirty_counts));
             self.events.add_if(!overflowed.is_empty(), &format!("overflow at depth {depth}"));
             self.events.add_many("paths dropped by overflow", overflowed.len());
+            self.note_large_fill(&walk, &overflowed);
             self.note_own_fill(watched_before, self.watches_target(&walk, access));
         }
         self.note_half(&walk, request, depth);
@@ -395,7 +414,7 @@ impl Unit {
         if bits && granted {
             self.machine.set_bits(&walk, access);
         }
-        Served { last_frame: last_frame(&walk), end: walk.end, references, exits, overflowed }
+        Served { depth, last_frame: last_frame(&walk), end: walk.end, references, exits, overflowed }
     }
 
     // The forecast.
@@ -493,7 +512,8 @@ impl Unit {
             Ok(_) => self.events.add(format!("granted {access:?} at depth {depth}, {half}")),
         }
         let other = in_other_half(address, self.levels());
-        self.events.add_if(self.book.depth(other) != depth, "depth unlike the other half's");
+        let unlike = self.book.depth(other) != self.book.depth(address);
+        self.events.add_if(unlike, "depth unlike the other half's");
         let is_held = |path: Option<Vec<u64>>| path.is_some_and(|path| self.book.held.contains_key(&path));
         let both_held = is_held(self.book.path(address, depth)) && is_held(self.book.path(other, depth));
         self.events.add_if(both_held && depth < self.levels(), "like paths of both halves held");
@@ -630,8 +650,7 @@ impl Unit {
     /// By whom the path of an address in a forecast's list is held, before the
     /// copy serves it. An overflow drops what was held before the forecast.
     fn note_listed(&mut self, copy: &Unit, address: u64) {
-        let path = copy.book.path(address, copy.book.depth(address));
-        let (Some(path), true) = (path, copy.is_word_address(address)) else { return };
+        let (Some(path), true) = (copy.path_of(address), copy.is_word_address(address)) else { return };
         let before = self.book.held.contains_key(&path);
         let held = copy.book.held.contains_key(&path);
         let still = before && copy.events.overflows() == 0;
@@ -656,8 +675,8 @@ impl Unit {
         self.events.join_as("forecast: ", served);
     }
 
-    fn note_own_drop(&mut self, address: u64, word: Word) {
-        let path = self.book.path(address, self.book.depth(address));
+    fn note_own_drop(&mut self, address: u64, depth: u32, word: Word) {
+        let path = self.book.path(address, depth);
         let own = path.and_then(|path| self.book.held.get(&path));
         let drops = own.is_some_and(|held| held.words.contains(&word));
         self.events.add_if(drops, "store drops its own path");
@@ -687,13 +706,14 @@ fn refuse(in_range: bool, address: u64, width: u64) -> Option<u32> {
 
 /// "A granted request reads (4 - d) + 5d words. A fault in the shadow part carries
 /// the plain walk's count. A later fault carries (4 - d), or 0 at d = 5, and the
-/// words read by the direct part, which at d = 5 starts with the root's host walk."
+/// words read by the direct part, which at d = 5 starts with the root's host walk." Of a
+/// large page "each level not walked takes 5 from the count", if it is read directly.
 fn references(walk: &Walk, levels: u32, depth: u32, plain_count: bool) -> u64 {
     if plain_count {
         return words_read(&walk.steps);
     }
-    let shadow_entries = levels.saturating_sub(depth) as u64;
-    shadow_entries + words_read(&walk.steps[shadow_steps(levels, depth)..])
+    let (_, direct) = parts(walk, levels, depth);
+    levels.saturating_sub(depth) as u64 + words_read(direct)
 }
 
 /// The guest frame of a walk's last host walk.

@@ -7,7 +7,7 @@ use guest::*;
 use std::collections::BTreeSet;
 use walker::answer::{Answer, Call, Choices, Fault};
 use walker::book::{Lookup, Mark};
-use walker::quiet::{part, path_of, End, Stretch};
+use walker::quiet::{part, End, Stretch};
 use walker::Unit;
 
 /// The guest with no choice made.
@@ -795,7 +795,7 @@ fn day(unit: &mut Unit, calls: &[Call]) -> Day {
         }
         if let Call::Load { address, .. } | Call::Store { address, .. } = call {
             let granted = matches!(answer, Answer::Value { .. } | Answer::Done { .. });
-            paths.extend(path_of(before.book(), *address).filter(|_| granted));
+            paths.extend(before.path_of(*address).filter(|_| granted));
         }
         if end.is_none() {
             let taken = part(&before, call, &answer).and_then(|part| stretch.take(&part));
@@ -1106,6 +1106,7 @@ fn absent_and_malformed_and_protected_in_their_order() {
         for bit in 48..52 {
             assert_eq!(walk(0x1003 | 1 << bit, level), (malformed, malformed));
         }
+        // Bit 7 at level 4, and at levels 2 and 3 with frame bits below the page size.
         if level > 1 {
             assert_eq!(walk(0x1083, level), (malformed, malformed));
         }

@@ -10,10 +10,15 @@ use naive::{Naive, Seen};
 use std::collections::{BTreeMap, BTreeSet};
 use walker::answer::{Answer, Call, Choices};
 use walker::book::{HeldPath, Kind, ListedMark, Lookup, Mark};
-use walker::events::{of_automatic, of_bits, of_forecasts, of_halves, of_lookups, of_widths, Events};
+use walker::events::{
+    of_automatic, of_bits, of_forecasts, of_halves, of_large, of_lookups, of_widths, Events,
+};
 use walker::numbers::{address_of, page_from};
 use walker::quiet::{part, Part, Stretch};
-use walker::random::{automatic_run, bits_run, job_run, mark_run, quiet_run, run, Random, Run, Sizes, Sort};
+use walker::random::{
+    automatic_run, bits_run, job_run, large_run, mark_run, quiet_run, run, Random, Run, Sizes, Sort,
+};
+use walker::unit::large::size;
 use walker::vectors::lines;
 use walker::Unit;
 
@@ -200,7 +205,8 @@ impl Pair {
     fn charged(&self, held: &Held, host: u64, address: u64) -> Option<u64> {
         let word = (host, address / 8 % 512);
         let at_depth_0 = held.iter().filter(|(path, _)| path.len() == self.naive.levels as usize);
-        let ending = at_depth_0.filter(|(_, (words, _))| words[words.len() - 1] == word);
+        // That of a large page has no fourth word.
+        let ending = at_depth_0.filter(|(path, (words, _))| words.get(path.len() - 1) == Some(&word));
         ending.map(|(path, _)| page_from(path, self.naive.levels) / 512).min()
     }
 
@@ -309,14 +315,17 @@ impl Pair {
     fn translate(&self, address: u64, is_store: bool, held: &mut Held) -> (Seen, u64, u64) {
         let levels = self.naive.levels as u64;
         let seen = self.naive.walk(address, is_store);
-        let depth = depth(&self.marks, address, self.naive.levels);
+        let by_marks = depth(&self.marks, address, self.naive.levels);
+        let above = seen.large.is_some_and(|level| level as u64 > by_marks);
+        let depth = if above { 0 } else { by_marks };
         let (references, exits) = if depth > levels {
             (seen.reads, of_host(seen.end) as u64)
         } else {
             self.through_path(address, is_store, depth, &seen, held)
         };
         if seen.end.is_ok() {
-            assert_eq!(references, levels + levels * depth);
+            let skipped = if depth == 0 { 0 } else { seen.large.unwrap_or(1) as u64 - 1 };
+            assert_eq!(references, levels + levels * depth - (levels + 1) * skipped);
         }
         (seen, references, exits)
     }
@@ -370,10 +379,11 @@ impl Pair {
         if self.naive.bits && seen.end.is_err() && !was_held {
             return (seen.reads, exits);
         }
+        // The tables found, and at depth 0 the page.
+        let found = shadowed.min(seen.guest_words.len());
         if !was_held || forbids {
-            let words = seen.guest_words[..shadowed].to_vec();
-            let clean =
-                depth == 0 && !is_store && self.naive.bits && !self.all_have(64, &words[shadowed - 1..]);
+            let words = seen.guest_words[..found].to_vec();
+            let clean = depth == 0 && !is_store && self.naive.bits && !self.all_have(64, &words[found - 1..]);
             let writable = !clean && self.writable(address, depth as u32, &words);
             held.insert(path.clone(), (Vec::new(), false));
             if tables(held) > self.naive.s as usize {
@@ -381,7 +391,7 @@ impl Pair {
             }
             held.insert(path, (words, writable));
         }
-        (shadowed as u64 + seen.reads - seen.found_at[shadowed], exits)
+        (shadowed as u64 + seen.reads - seen.found_at[found], exits)
     }
 
     /// Whether each of the guest words has the bit.
@@ -429,15 +439,18 @@ impl Pair {
             assert!(others.into_iter().all(|other| !other.starts_with(path)));
             let address = address_of(page_from(path, levels), levels);
             let path_depth = levels - path.len() as u32;
-            assert_eq!(depth(&self.marks, address, levels), path_depth as u64);
+            let by_marks = depth(&self.marks, address, levels);
             let seen = self.naive.walk(address, false);
+            let above = path_depth == 0 && seen.large.is_some_and(|level| level as u64 > by_marks);
+            assert!(above || by_marks == path_depth as u64);
             let words: Vec<(u64, u64)> = held.words.iter().map(|word| (word.frame, word.index)).collect();
-            assert_eq!(words, seen.guest_words[..path.len()]);
-            assert_eq!(held.frames, seen.frames[..=path.len()]);
+            let many = path.len().min(seen.guest_words.len());
+            assert_eq!(words, seen.guest_words[..many]);
+            assert_eq!(held.frames, seen.frames[..=many]);
             let writable = self.writable(address, path_depth, &words);
             if self.naive.bits && path_depth == 0 {
                 // A path that allows stores has bit 6. One without may have been filled before.
-                assert!(!held.writable || writable && self.all_have(64, &words[path.len() - 1..]));
+                assert!(!held.writable || writable && self.all_have(64, &words[many - 1..]));
             } else {
                 assert_eq!(held.writable, writable);
             }
@@ -636,7 +649,7 @@ fn long_runs_with_five_levels_and_bits() {
 /// Tables that are written often. What can be rare is seen dozens of times.
 #[test]
 fn long_runs_with_tables_written_often() {
-    let events = check_small_runs(automatic_run, 4, 1000..2000, 600);
+    let events = check_small_runs(automatic_run, 4, 1000..2100, 600);
     let names = of_automatic(4, true, true);
     for name in &names {
         println!("{:>9}  {name}", events.count(name));
@@ -692,6 +705,19 @@ fn long_runs_with_five_levels_and_tables_written_often() {
     assert_all_met(of_automatic(5, true, true), &events);
 }
 
+/// Large pages: what is met at each depth and by each mark is seen ten times and more.
+#[test]
+fn long_runs_with_large_pages() {
+    for (levels, seeds) in [(4, 1000..1400), (5, 1000..1400)] {
+        let events = check_small_runs(large_run, levels, seeds, 600);
+        for name in of_large(levels, true) {
+            println!("{:>9}  {name}", events.count(&name));
+            assert!(events.count(&name) >= 10, "{} times: {name}", events.count(&name));
+        }
+        assert_all_met(of_halves(levels), &events);
+    }
+}
+
 /// With the least number of shadow frames, paths of one prefix alone fit at depth 0.
 #[test]
 fn tables_written_often_with_few_shadow_frames() {
@@ -708,7 +734,7 @@ fn tables_written_often_with_few_shadow_frames() {
 #[test]
 fn half_of_the_runs_have_the_automatic_choice() {
     let sizes = Sizes { levels: 4, frames: 16, h: 4, s: 4 };
-    for sort in [run, bits_run, mark_run, quiet_run] {
+    for sort in [run, bits_run, mark_run, quiet_run, large_run] {
         let many = (0..400).filter(|seed| sort(*seed, sizes, 1).choices.automatic).count();
         assert!((160..=240).contains(&many), "{many}");
     }
@@ -755,6 +781,11 @@ fn check_stretches(run: &Run, events: &mut Events) {
             let depth = path.as_ref().map_or(levels + 1, |path| levels - path.len() as u32);
             events.add(format!("stretch goes on at depth {depth}"));
             events.add_if(exits > 0, &format!("stretch pays at depth {depth}"));
+            let held = path.as_ref().and_then(|path| Some((path, unit.book().held.get(path)?)));
+            if let Some(level) = held.and_then(|(path, held)| held.large_level(path)) {
+                let pays = if exits > 0 { "pays" } else { "goes on" };
+                events.add(format!("stretch {pays} by a {} page", size(level)));
+            }
         }
     }
 }
@@ -771,6 +802,14 @@ fn quiet_stretches_cost_their_figure() {
             if !often.choices.bits {
                 check_stretches(&often, &mut events);
             }
+            let large = large_run(seed, sizes, 300);
+            if !large.choices.bits {
+                check_stretches(&large, &mut events);
+            }
+        }
+        for way in ["pays", "goes on"] {
+            let sizes = ["2 MiB", "1 GiB"].map(|size| format!("stretch {way} by a {size} page"));
+            assert_all_met(sizes.to_vec(), &events);
         }
         let on = (0..=levels + 1).map(|depth| format!("stretch goes on at depth {depth}"));
         let pays = (0..=levels).map(|depth| format!("stretch pays at depth {depth}"));
@@ -863,12 +902,13 @@ fn large_runs() {
         check_run(&run(seed, sizes, 1000));
         check_run(&bits_run(seed, sizes, 1000));
         check_run(&automatic_run(seed, sizes, 1000));
+        check_run(&large_run(seed, sizes, 1000));
     }
 }
 
 #[test]
 fn the_same_seed_gives_the_same_lines() {
-    for sort in [run, automatic_run] {
+    for sort in [run, automatic_run, large_run] {
         let text = || {
             let sizes = Sizes::small(&mut Random::new(8), 4);
             lines(&sort(7, sizes, 60)).unwrap().0

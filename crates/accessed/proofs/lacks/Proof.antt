@@ -49,7 +49,7 @@ word-in-requires c κs =
     let index-of = c .before .index-of in
     let loop = c .before .before .before .loop in
     let args = c .before .before .before .before .before .args in
-    (pre .1 (loop .depth), rw (index-of .ensures) (index-fits (loop .left - 1) (args .page)))
+    (pre .1 (loop .depth) (omega arith), rw (index-of .ensures) (index-fits (loop .left - 1) (args .page)))
 
 -- src/lib.rt:41:29
 ends-requires : tie.Need-ends-requires Inv-loop μ-loop

@@ -20,7 +20,7 @@ word-in-requires c κs =
     let pre = c .before .before .before .before .pre in
     let index-of = c .before .index-of in
     let args = c .before .before .before .before .args in
-    (pre .1 (args .steps - 1), rw (index-of .ensures) (index-fits 0 (args .page)))
+    (pre .1 (args .steps - 1) (omega arith), rw (index-of .ensures) (index-fits 0 (args .page)))
 
 returns-2 : tie.Need-returns-2
 returns-2 c =

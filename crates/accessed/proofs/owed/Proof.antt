@@ -19,13 +19,13 @@ use Rattle.accessed.proofs.owed.Statement.{statement}
 use Rattle.accessed.proofs.owed.Tie as tie
 
 abbrev Inv-loop : tie.InvT-loop
-Inv-loop mem space store page steps tables left₀ depth₀ at₀ left depth at =
+Inv-loop mem space store page steps below tables left₀ depth₀ at₀ left depth at =
     (left ≤ steps) × (depth + left ≡ steps)
-    × (owedOf (config (space .layout)) (space .top) mem store at (entries tables depth (indexes left page))
-    ≡ owedOf (config (space .layout)) (space .top) mem store at₀ (entries tables 0 (indexes steps page)))
+    × (owedOf (config (space .layout)) (space .top) mem store (below + left) at (entries tables depth (indexes left page))
+    ≡ owedOf (config (space .layout)) (space .top) mem store (below + steps) at₀ (entries tables 0 (indexes steps page)))
 
 abbrev μ-loop : tie.MeasureT-loop
-μ-loop mem space store page steps tables left₀ depth₀ at₀ left depth at = left
+μ-loop mem space store page steps below tables left₀ depth₀ at₀ left depth at = left
 
 -- src/lib.rt:88:5
 loop-holds : tie.Need-loop-holds Inv-loop μ-loop
@@ -54,7 +54,7 @@ word-in-requires c κs =
     let index-of = c .before .index-of in
     let loop = c .before .before .before .loop in
     let args = c .before .before .before .before .before .args in
-    (pre .2 (loop .depth), rw (index-of .ensures) (index-fits (loop .left - 1) (args .page)))
+    (pre .3 (loop .depth) (omega arith), rw (index-of .ensures) (index-fits (loop .left - 1) (args .page)))
 
 -- src/lib.rt:92:36
 ends-requires : tie.Need-ends-requires Inv-loop μ-loop
@@ -63,10 +63,6 @@ ends-requires c κs = search needs
 -- src/lib.rt:92:13
 has-or-may-requires : tie.Need-has-or-may-requires Inv-loop μ-loop
 has-or-may-requires c κs = search needs
-
--- src/lib.rt:94:24
-add-t21 : tie.Need-add-t21 Inv-loop μ-loop
-add-t21 c = search needs
 
 -- src/lib.rt:93:13
 returns : tie.Need-returns Inv-loop μ-loop
@@ -80,7 +76,7 @@ returns c =
     let loop = c .before .before .before .before .before .before .before .loop in
     let args = c .before .before .before .before .before .before .before .before .before .args in
     let word = word-in .ensures ∙ ap (wordIn (args .mem .now) (getD (args .tables .now) (loop .depth) 0)) (index-of .ensures) in
-    let turn = owed-turn (args .mem .now) (args .tables .now) (args .store) (loop .depth) (loop .left) (args .page) (loop-test .taken) (config (args .space .layout)) (args .space .top) (loop .at) in
+    let turn = owed-turn (args .mem .now) (args .tables .now) (args .store) (loop .depth) (loop .left) (args .page) (loop-test .taken) (config (args .space .layout)) (args .space .top) (args .below) (loop .at) in
     let has = has-or-may .ensures ∙ ap₂ (λ x y. hasBits x y || mayWrite (placeOf (hostWalkOf (config (args .space .layout)) (args .space .top) (args .mem .now) (loop .at)))) (ends .ensures) word in
     sym (rw (← has, not-true (has-or-may .result) (if1 .taken)) at turn) ∙ loop .inv .2
 
@@ -109,7 +105,7 @@ loop-again c =
     let loop = c .before .before .before .before .before .before .before .before .loop in
     let args = c .before .before .before .before .before .before .before .before .before .before .args in
     let word = word-in .ensures ∙ ap (wordIn (args .mem .now) (getD (args .tables .now) (loop .depth) 0)) (index-of .ensures) in
-    let turn = owed-turn (args .mem .now) (args .tables .now) (args .store) (loop .depth) (loop .left) (args .page) (loop-test .taken) (config (args .space .layout)) (args .space .top) (loop .at) in
+    let turn = owed-turn (args .mem .now) (args .tables .now) (args .store) (loop .depth) (loop .left) (args .page) (loop-test .taken) (config (args .space .layout)) (args .space .top) (args .below) (loop .at) in
     let has = has-or-may .ensures ∙ ap₂ (λ x y. hasBits x y || mayWrite (placeOf (hostWalkOf (config (args .space .layout)) (args .space .top) (args .mem .now) (loop .at)))) (ends .ensures) word in
     (omega arith, omega arith, rw (frame-of .ensures, word) (sym (rw (← has, not-false (has-or-may .result) (if1 .left)) at turn) ∙ loop .inv .2))
 
@@ -136,7 +132,8 @@ owed-spec =
     word-in-requires
     ends-requires
     has-or-may-requires
-    add-t21
+    (λ c. search needs)
+    (λ c. search needs)
     returns
     frame-of-requires
     add-depth

@@ -48,7 +48,7 @@ word-in-requires c κs =
     let index-of = c .before .before .index-of in
     let loop = c .before .before .before .before .loop in
     let args = c .before .before .before .before .before .before .args in
-    (pre .1 (loop .depth), rw (index-of .ensures) (index-fits (loop .left - 1) (args .page)))
+    (pre .1 (loop .depth) (omega arith), rw (index-of .ensures) (index-fits (loop .left - 1) (args .page)))
 
 -- src/lib.rt:108:13
 mul-set-in : tie.Need-mul-set-in Inv-loop μ-loop
@@ -73,7 +73,7 @@ set-in-requires c κs =
     let index-of = c .before .before .before .before .before .before .before .index-of in
     let loop = c .before .before .before .before .before .before .before .before .before .loop in
     let args = c .before .before .before .before .before .before .before .before .before .before .before .args in
-    (pre .1 (loop .depth), rw (index-of .ensures) (index-fits (loop .left - 1) (args .page)))
+    (pre .1 (loop .depth) (omega arith), rw (index-of .ensures) (index-fits (loop .left - 1) (args .page)))
 
 -- src/lib.rt:112:9
 add-depth : tie.Need-add-depth Inv-loop μ-loop

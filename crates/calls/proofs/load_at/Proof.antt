@@ -7,7 +7,7 @@ use Rattle.spec.specs.Refusal.{addressFits}
 use Rattle.record.specs.Record.{recordBy, configOf, headTables, headTally, fitsOf}
 use Rattle.calls.specs.Calls.{addressOk, headHeld, windowedBy, loadCall}
 use Rattle.calls.proofs.Laws.{turned-away, taken, all-taken}
-use Rattle.calls.proofs.Ranges.{fits-levels, fits-sound, fits-held, fits-inside}
+use Rattle.calls.proofs.Ranges.{fits-levels, fits-sound, fits-held, fits-turns, fits-inside}
 use borrow.Author.Needs.{needs}
 use Rattle.calls.proofs.load_at.Statement.{statement}
 use Rattle.calls.proofs.load_at.Tie as tie
@@ -49,7 +49,7 @@ load-requires c κs =
     let r = recordBy (args .head) (args .place .now) (args .ring .now) (args .order .now) in
     let told = rw pre at (request-refusal .ensures) in
     let t = all-taken (fitsOf r (length (args .mem .now))) (widthFits (args .width)) (addressOk false (configOf r) (args .address) (args .width)) (sym (if1 .left) ∙ told) in
-    rw (c .space-in .ensures, held-in .ensures) (fits-sound r _ (t .0) .0, fits-held r _ (t .0), fits-inside (addressFits (configOf r) (args .address)) (args .address) (args .width) (t .1) (t .2))
+    rw (c .space-in .ensures, held-in .ensures) (fits-sound r _ (t .0) .0, fits-held r _ (t .0), fits-inside (addressFits (configOf r) (args .address)) (args .address) (args .width) (t .1) (t .2), fits-turns r _ (t .0))
 
 same-length : tie.Need-same-length
 same-length c = search needs

@@ -9,7 +9,7 @@ use Rattle.record.specs.Record.{recordBy, configOf, fitsOf}
 use Rattle.request.proofs.Held.{plainly-keeps}
 use Rattle.calls.specs.Calls.{addressOk, heldOf, depthAt, storeCall}
 use Rattle.calls.proofs.Laws.{turned-away, taken, all-taken}
-use Rattle.calls.proofs.Ranges.{fits-levels, fits-sound, fits-held, fits-inside, fits-ready}
+use Rattle.calls.proofs.Ranges.{fits-levels, fits-sound, fits-held, fits-turns, fits-inside, fits-ready}
 use Rattle.calls.proofs.Stores.{plain-stored}
 use borrow.Author.Needs.{needs}
 use Rattle.calls.proofs.store_on.Statement.{statement}
@@ -82,7 +82,7 @@ store-translated-requires c κs =
     let r = recordBy (args .head) (args .place .now) (args .ring .now) (args .order .now) in
     let told = rw (pre .0) at (request-refusal .ensures) in
     let t = all-taken (fitsOf r (length (args .mem .now))) (widthFits (args .width)) (addressOk false (configOf r) (args .address) (args .width)) (sym (if1 .left) ∙ told) in
-    (fits-ready r _ (t .0), pre .1, fits-held r _ (t .0), fits-inside (addressFits (configOf r) (args .address)) (args .address) (args .width) (t .1) (t .2), depth .ensures)
+    (fits-ready r _ (t .0), pre .1, fits-held r _ (t .0), fits-inside (addressFits (configOf r) (args .address)) (args .address) (args .width) (t .1) (t .2), fits-turns r _ (t .0), depth .ensures)
 
 same-length-2 : tie.Need-same-length-2
 same-length-2 c = search needs

@@ -11,19 +11,19 @@ returns c =
     let present = c .present in
     let entry-at = c .before .entry-at in
     let if2 = c .before .before .if2 in
-    let guest = c .before .before .before .guest in
+    let stands-for = c .before .before .before .stands-for in
     let if1 = c .before .before .before .before .if1 in
     let level = c .before .before .before .before .before .level in
-    rw (← level .ensures, eq-eqb _ _ (if1 .taken), ← guest .ensures, eq-eqb _ _ (if2 .taken), ← entry-at .ensures) (present .ensures)
+    rw (← level .ensures, eq-eqb _ _ (if1 .taken), ← stands-for .ensures, if2 .taken, ← entry-at .ensures) (present .ensures)
 
 returns-2 : tie.Need-returns-2
 unfolding endsAt
 returns-2 c =
     let if2 = c .if2 in
-    let guest = c .before .guest in
+    let stands-for = c .before .stands-for in
     let if1 = c .before .before .if1 in
     let level = c .before .before .before .level in
-    rw (← level .ensures, eq-eqb _ _ (if1 .taken), ← guest .ensures, ne-eqb _ _ (if2 .left))
+    rw (← level .ensures, eq-eqb _ _ (if1 .taken), ← stands-for .ensures, if2 .left)
 
 returns-3 : tie.Need-returns-3
 unfolding endsAt

@@ -1,29 +1,19 @@
--- One arm for each kind of cut; a header's guest frame is small by its bits, so the word of its table can be read.
-use native.Mathlib.Omega.{arith}
+-- One arm for each kind of cut.
 use borrow.Author.Tests.{eq-eqb, ne-eqb}
-use Rattle.pool.proofs.Laws.{guest-small}
 use borrow.Author.Needs.{needs}
 use Rattle.drops.proofs.cut_at.Statement.{statement}
 use Rattle.drops.proofs.cut_at.Tie as tie
 
-word-in-requires : tie.Need-word-in-requires
-word-in-requires c κs =
-    let args = c .before .before .before .before .before .args in
-    let pre = c .before .before .before .before .before .pre in
-    let g = guest-small (args .mem .now) (args .table) in (omega (arith, c .guest2 .ensures), pre .1)
-
 returns : tie.Need-returns
 returns c =
-    let cut = c .before .before .before .before .cut in
-    rw (cut .given .1, eq-eqb _ _ (c .before .before .if1 .taken), c .before .guest .ensures)
+    let cut = c .before .before .before .cut in
+    rw (cut .given .1, eq-eqb _ _ (c .before .if1 .taken), c .stands-for .ensures)
 
 returns-2 : tie.Need-returns-2
 returns-2 c = rw (c .before .before .cut .given .1, ne-eqb _ _ (c .if1 .left))
 
 returns-3 : tie.Need-returns-3
-returns-3 c =
-    let cut2 = c .before .before .before .before .before .cut2 in
-    rw (cut2 .given .1, ← c .before .before .before .guest2 .ensures, ← c .before .before .word-in .ensures, c .before .frame-of .ensures)
+returns-3 c = rw (c .before .before .cut2 .given .1, c .leads-to .ensures)
 
 returns-4 : tie.Need-returns-4
 returns-4 c = rw (c .before .before .before .cut3 .given .1, eq-eqb _ _ (c .before .if2 .taken))
@@ -38,8 +28,6 @@ cut-at-spec =
     (λ c. search needs)
     (λ c κs. search needs)
     (λ c. search needs)
-    (λ c κs. search needs)
-    word-in-requires
     (λ c κs. search needs)
     (λ c. search needs)
     returns

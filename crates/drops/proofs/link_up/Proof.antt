@@ -9,7 +9,7 @@ use Rattle.drops.proofs.link_up.Tie as tie
 cut-at-requires : tie.Need-cut-at-requires
 cut-at-requires c κs =
     let args = c .before .before .before .before .before .args in
-    let p = parent-small (args .mem .now) (args .frame) in let s = slot-small (args .mem .now) (args .frame) in (omega (arith, c .before .before .before .parent .ensures), omega (arith, c .slot .ensures))
+    let p = parent-small (args .mem .now) (args .frame) in let s = slot-small (args .mem .now) (args .frame) in (c .before .before .before .before .before .pre .0, omega (arith, c .before .before .before .parent .ensures), omega (arith, c .slot .ensures))
 
 returns : tie.Need-returns
 unfolding linkUpOf

@@ -17,7 +17,7 @@ abbrev μ-loop : tie.MeasureT-loop
 μ-loop mem l cut k f t₀ links₀ t links = links
 
 loop-holds : tie.Need-loop-holds Inv-loop μ-loop
-loop-holds c = (c .before .pre, refl)
+loop-holds c = (c .before .pre .1, refl)
 
 link-up-requires : tie.Need-link-up-requires Inv-loop μ-loop
 link-up-requires c κs = search needs

@@ -1,10 +1,10 @@
--- By the kind of cut: the guest frame is compared, any table may be cut, or the frame itself is compared.
+-- By the kind of cut: the guest number is compared, any table may be cut, or the frame itself is compared.
 use borrow.Author.Needs.{needs}
 use Rattle.drops.proofs.touches.Statement.{statement}
 use Rattle.drops.proofs.touches.Tie as tie
 
 returns : tie.Need-returns
-returns c = rw (c .before .before .before .cut .given .1, c .before .guest .ensures)
+returns c = rw (c .before .before .cut .given .1, c .stands-for .ensures)
 
 returns-2 : tie.Need-returns-2
 returns-2 c = rw (c .before .cut2 .given .1)

@@ -1,4 +1,4 @@
--- An address that meets 4 leaves the outlook; any other is a load of the depth that its marks give.
+-- An address that meets 4 leaves the outlook; any other is a load of the depth that its marks and its walk give.
 use borrow.Author.Tests.{not-true, not-false}
 use Rattle.forecast.specs.Forecast.{addressOf}
 use borrow.Author.Needs.{needs}
@@ -14,11 +14,13 @@ returns c =
 returns-2 : tie.Need-returns-2
 unfolding addressOf
 returns-2 c =
-    let names-bytes = c .before .before .before .before .names-bytes in
-    let if1 = c .before .before .before .if1 in
-    let depth = c .before .before .depth in
-    rw (← names-bytes .ensures, not-false (names-bytes .result) (if1 .left), ← depth .ensures) (c .one-load .ensures)
+    let names-bytes = c .before .before .before .before .before .names-bytes in
+    let if1 = c .before .before .before .before .if1 in
+    let depth = c .before .before .before .depth in
+    let depth-at = c .before .before .depth-at in
+    rw (← names-bytes .ensures, not-false (names-bytes .result) (if1 .left), ← depth .ensures, ← depth-at .ensures) (c .one-load .ensures)
 
 pub one-address-spec : {M : Type 1} → statement M
 one-address-spec =
-    tie.close (tie.spec (λ c κs. search needs) returns (λ c κs. search needs) (λ c κs. search needs) returns-2)
+    tie.close
+    (tie.spec (λ c κs. search needs) returns (λ c κs. search needs) (λ c κs. search needs) (λ c κs. search needs) returns-2)

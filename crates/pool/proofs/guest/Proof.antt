@@ -1,4 +1,4 @@
--- The header's frame number in words 0 and 1, which the call reads just as the definition says.
+-- The low bits and the upper ones, put together as in the definition.
 use Rattle.pool.specs.Header.{guestOf}
 use borrow.Author.Needs.{needs}
 use Rattle.pool.proofs.guest.Statement.{statement}
@@ -6,7 +6,7 @@ use Rattle.pool.proofs.guest.Tie as tie
 
 returns : tie.Need-returns
 unfolding guestOf
-returns c = c .frame-at .ensures
+returns c = rw (← c .upper .ensures, ← c .before .frame-at .ensures)
 
 pub guest-spec : {M : Type 1} → statement M
-guest-spec = tie.close (tie.spec (λ c κs. search needs) returns)
+guest-spec = tie.close (tie.spec (λ c κs. search needs) (λ c κs. search needs) (λ c. search needs) (λ c. search needs) returns)

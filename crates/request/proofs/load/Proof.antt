@@ -1,40 +1,48 @@
--- Through a held path, to its page at depth 0; damage is 11; else it is translated without one. Assumes nothing.
+-- Beyond the levels it is translated without a path, and so where none is held and no large page can lie above; through a held path, to its
+-- page at depth 0; else by its translation. Assumes nothing.
 use mathlib.Core.Path.{sym, ap, _∙_}
-use mathlib.Core.Logic.{⊎-elim}
-use mathlib.Core.Bool.{true, false}
+use mathlib.Core.Bool.{false}
+use borrow.Author.Tests.{not-true}
 use Rattle.layout.specs.Layout.{config}
-use Rattle.translate.proofs.Fits.{held-small}
-use Rattle.request.specs.Access.{loadFrom, loadOf}
-use Rattle.request.proofs.Held.{path-small, path-missed, path-none, path-broken, load-page}
+use Rattle.request.specs.Access.{pathHeldOf, loadOf}
+use Rattle.request.proofs.Held.{path-missed, path-none}
+use Rattle.request.proofs.Depths.{depth-kept, depth-found, depth-high}
 use borrow.Author.Needs.{needs}
 use Rattle.request.proofs.load.Statement.{statement}
 use Rattle.request.proofs.load.Tie as tie
 
-path-held-requires : tie.Need-path-held-requires
-path-held-requires c κs = search needs
+load-unserved-requires : tie.Need-load-unserved-requires
+load-unserved-requires c κs =
+    let if1 = c .before .if1 in
+    let args = c .before .before .before .before .args in
+    let pre = c .before .before .before .before .pre in
+    (pre .0, pre .1, pre .2, path-none (config (args .space .layout)) (args .space .top) (args .mem .now) (args .held) (args .root .0) false (args .address .0) (args .depth) (if1 .taken))
 
-enum-known-page : tie.Need-enum-known-page
-enum-known-page c = search needs
+returns : tie.Need-returns
+returns c =
+    let load-unserved = c .before .before .load-unserved in
+    let if1 = c .before .before .before .before .if1 in
+    let args = c .before .before .before .before .before .before .before .args in
+    let pre = c .before .before .before .before .before .before .before .pre in
+    load-unserved .ensures ∙ sym (ap (loadOf (config (args .space .layout)) (args .space .top) (args .mem .now) (args .held) (args .root .0) (args .address .0) (args .width)) (depth-high (config (args .space .layout)) (args .space .top) (args .mem .now) (args .held) (args .root .0) (args .address .0) (args .depth) (pre .3) (if1 .taken)))
 
-read-bytes-requires : tie.Need-read-bytes-requires
-read-bytes-requires c κs =
+load-page-requires : tie.Need-load-page-requires
+load-page-requires c κs =
+    let if2 = c .before .if2 in
     let page = c .before .before .before .page in
     let path-held = c .before .before .before .before .before .path-held in
     let args = c .before .before .before .before .before .before .before .before .before .before .args in
     let pre = c .before .before .before .before .before .before .before .before .before .before .pre in
-    let found = sym (path-held .ensures) ∙ page .given .1 in
-    (path-small (config (args .space .layout)) (args .space .top) (args .mem .now) (args .held) (args .root .0) false (args .address .0) (args .depth) (pre .0 .3) (held-small (config (args .space .layout)) (args .held) (pre .1) (pre .0 .3)) _ _ found, pre .2)
+    (pre .0, pre .1, pre .2, ap (pathHeldOf (config (args .space .layout)) (args .mem .now) (args .held) false (args .address .0)) (sym (if2 .taken)) ∙ sym (path-held .ensures) ∙ page .given .1)
 
-same-length : tie.Need-same-length
-same-length c = search needs
-
-returns : tie.Need-returns
-returns c =
-    let page = c .before .before .before .before .page in
-    let path-held = c .before .before .before .before .before .before .path-held in
-    let args = c .before .before .before .before .before .before .before .before .before .before .before .args in
-    let found = sym (path-held .ensures) ∙ page .given .1 in
-    rw (c .read-bytes .ensures) (load-page (config (args .space .layout)) (args .space .top) (args .mem .now) (args .held) (args .root .0) (args .address .0) (args .width) (args .depth) _ _ (c .before .before .if2 .taken) found)
+returns-2 : tie.Need-returns-2
+returns-2 c =
+    let load-page = c .before .before .load-page in
+    let if2 = c .before .before .before .before .if2 in
+    let page = c .before .before .before .before .before .before .page in
+    let path-held = c .before .before .before .before .before .before .before .before .path-held in
+    let args = c .before .before .before .before .before .before .before .before .before .before .before .before .before .args in
+    load-page .ensures ∙ sym (ap (loadOf (config (args .space .layout)) (args .space .top) (args .mem .now) (args .held) (args .root .0) (args .address .0) (args .width)) (depth-found (config (args .space .layout)) (args .space .top) (args .mem .now) (args .held) (args .root .0) (args .address .0) (args .depth) false _ _ (sym (path-held .ensures) ∙ page .given .1) ∙ if2 .taken))
 
 load-through-requires : tie.Need-load-through-requires
 load-through-requires c κs =
@@ -42,65 +50,54 @@ load-through-requires c κs =
     let path-held = c .before .before .before .before .before .path-held in
     let if1 = c .before .before .before .before .before .before .before .if1 in
     let pre = c .before .before .before .before .before .before .before .before .before .before .pre in
-    (pre .0, pre .1, pre .2, if1 .taken, sym (path-held .ensures) ∙ page .given .1)
-
-same-length-2 : tie.Need-same-length-2
-same-length-2 c = search needs
-
-returns-2 : tie.Need-returns-2
-returns-2 c = search needs
-
-enum-known-reads : tie.Need-enum-known-reads
-enum-known-reads c = search needs
-
-enum-told : tie.Need-enum-told
-enum-told c = search needs
-
-refused-requires : tie.Need-refused-requires
-refused-requires c κs = search needs
-
-same-length-3 : tie.Need-same-length-3
-same-length-3 c = search needs
+    (pre .0, pre .1, pre .2, if1 .left, sym (path-held .ensures) ∙ page .given .1)
 
 returns-3 : tie.Need-returns-3
-unfolding loadOf
 returns-3 c =
-    let path-held = c .before .before .before .path-held in
-    let if1 = c .before .before .before .before .before .if1 in
-    let args = c .before .before .before .before .before .before .before .before .args in
-    let broken = sym (path-held .ensures) ∙ c .before .enum-told .given .1 in
-    rw (c .refused .ensures) (sym (ap (loadFrom (config (args .space .layout)) (args .space .top) (args .root .0) (args .held) (args .address .0) (args .width)) (path-broken (config (args .space .layout)) (args .space .top) (args .mem .now) (args .held) (args .root .0) false (args .address .0) (args .depth) (if1 .taken) broken)))
+    let load-through = c .before .before .load-through in
+    let page = c .before .before .before .before .before .before .page in
+    let path-held = c .before .before .before .before .before .before .before .before .path-held in
+    let args = c .before .before .before .before .before .before .before .before .before .before .before .before .before .args in
+    load-through .ensures ∙ sym (ap (loadOf (config (args .space .layout)) (args .space .top) (args .mem .now) (args .held) (args .root .0) (args .address .0) (args .width)) (depth-found (config (args .space .layout)) (args .space .top) (args .mem .now) (args .held) (args .root .0) (args .address .0) (args .depth) false _ _ (sym (path-held .ensures) ∙ page .given .1)))
 
-load-unserved-requires : tie.Need-load-unserved-requires
-load-unserved-requires c κs =
-    let args = c .before .before .before .before .args in
-    let pre = c .before .before .before .before .pre in
-    let none = ⊎-elim (λ w. path-missed (config (args .space .layout)) (args .space .top) (args .mem .now) (args .held) (args .root .0) false (args .address .0) (args .depth) _ (w .0 .taken) (sym (w .2 .ensures) ∙ w .4 .given .1)) (λ w. path-none (config (args .space .layout)) (args .space .top) (args .mem .now) (args .held) (args .root .0) false (args .address .0) (args .depth) (w .left)) (c .before .if1 .came) in
-    (pre .0, pre .1, pre .2, none)
-
-same-length-4 : tie.Need-same-length-4
-same-length-4 c = search needs
+load-unserved-requires-2 : tie.Need-load-unserved-requires-2
+load-unserved-requires-2 c κs =
+    let reads = c .before .before .before .before .reads in
+    let path-held = c .before .before .before .before .before .before .path-held in
+    let if1 = c .before .before .before .before .before .before .before .before .if1 in
+    let args = c .before .before .before .before .before .before .before .before .before .before .before .args in
+    let pre = c .before .before .before .before .before .before .before .before .before .before .before .pre in
+    (pre .0, pre .1, pre .2, path-missed (config (args .space .layout)) (args .space .top) (args .mem .now) (args .held) (args .root .0) false (args .address .0) (args .depth) _ (if1 .left) (sym (path-held .ensures) ∙ reads .given .1))
 
 returns-4 : tie.Need-returns-4
-returns-4 c = search needs
+returns-4 c =
+    let load-unserved2 = c .before .before .load-unserved2 in
+    let if3 = c .before .before .before .before .if3 in
+    let may-turn = c .before .before .before .before .before .may-turn in
+    let args = c .before .before .before .before .before .before .before .before .before .before .before .before .before .before .args in
+    load-unserved2 .ensures ∙ sym (ap (loadOf (config (args .space .layout)) (args .space .top) (args .mem .now) (args .held) (args .root .0) (args .address .0) (args .width)) (depth-kept (config (args .space .layout)) (args .space .top) (args .mem .now) (args .held) (args .root .0) (args .address .0) (args .depth) (sym (may-turn .ensures) ∙ not-true (may-turn .result) (if3 .taken))))
 
 pub load-spec : {M : Type 1} → statement M
 load-spec =
     tie.close
     (tie.spec
-    path-held-requires
-    enum-known-page
-    read-bytes-requires
-    same-length
-    returns
-    load-through-requires
-    same-length-2
-    returns-2
-    enum-known-reads
-    enum-told
-    refused-requires
-    same-length-3
-    returns-3
     load-unserved-requires
-    same-length-4
-    returns-4)
+    (λ c. search needs)
+    returns
+    (λ c κs. search needs)
+    (λ c. search needs)
+    load-page-requires
+    (λ c. search needs)
+    returns-2
+    load-through-requires
+    (λ c. search needs)
+    returns-3
+    (λ c. search needs)
+    (λ c κs. search needs)
+    load-unserved-requires-2
+    (λ c. search needs)
+    returns-4
+    (λ c. search needs)
+    (λ c κs. search needs)
+    (λ c. search needs)
+    (λ c. search needs))

@@ -8,7 +8,7 @@ use native.Mathlib.Omega.{arith}
 use borrow.Author.Tests.{not-true, not-false}
 use Rattle.translate.specs.Translate.{translation, exitBy, judgedBy}
 use Rattle.translate.proofs.Fits.{held-small}
-use Rattle.translate.proofs.Bits.{bitless-none, trail-came, trail-framed, trail-lacking}
+use Rattle.translate.proofs.Bits.{bitless-none, trail-came, trail-lacking}
 use Rattle.request.specs.Access.{ReachesFrame, loadBy, loadFrom, loadOf}
 use Rattle.request.proofs.Held.{path-plainly, path-judged, path-small, reaches-as, load-said, load-plainly}
 use borrow.Author.Needs.{needs}
@@ -36,7 +36,7 @@ loaded-requires c κs =
     let pre = c .before .before .before .before .before .before .before .pre in
     let none = bitless-none (config (args .space .layout)) (args .space .top) (args .mem .now) false (args .address .0) (args .depth) (args .page .0) (args .writable) (sym (bitless .ensures) ∙ if1 .taken) in
     let went = path-plainly (config (args .space .layout)) (args .space .top) (args .mem .now) (args .held) (args .root .0) false (args .address .0) (args .depth) _ _ none (pre .3) (pre .4) in
-    (subst ReachesFrame (sym (c .before .before .direct .ensures)) (reaches-as (config (args .space .layout)) (args .space .top) (args .mem .now) (args .held) (args .root .0) false (args .address .0) (args .depth) (pre .1) _ (pre .0 .3) went), pre .2)
+    (subst ReachesFrame (sym (c .before .before .direct .ensures)) (reaches-as (config (args .space .layout)) (args .space .top) (args .mem .now) (args .held) (args .root .0) false (args .address .0) (args .depth) (pre .1) (pre .0 .0) _ (pre .0 .3) went), pre .2)
 
 same-length : tie.Need-same-length
 same-length c = search needs
@@ -66,11 +66,8 @@ direct-trail-requires c κs =
 
 lacking-requires : tie.Need-lacking-requires
 lacking-requires c κs =
-    let direct-trail = c .before .before .before .direct-trail in
-    let args = c .before .before .before .before .before .before .before .before .args in
     let pre = c .before .before .before .before .before .before .before .before .pre in
-    let inside = path-small (config (args .space .layout)) (args .space .top) (args .mem .now) (args .held) (args .root .0) false (args .address .0) (args .depth) (pre .0 .3) (held-small (config (args .space .layout)) (args .held) (pre .1) (pre .0 .3)) _ _ (pre .4) in
-    (omega (arith, pre .0 .0, pre .3), trail-framed (config (args .space .layout)) (args .space .top) (args .mem .now) false (args .address .0) (args .depth) (args .page .0) (args .writable) (direct-trail .result) (direct-trail .ensures) (pre .0 .3) (omega (arith, pre .0 .0, pre .3)) inside)
+    (pre .0, omega (arith, pre .0 .0, pre .3))
 
 exit-of-requires-2 : tie.Need-exit-of-requires-2
 exit-of-requires-2 c κs = search needs
@@ -81,11 +78,10 @@ loaded-requires-2 c κs =
     let direct-trail = c .before .before .before .before .before .before .before .direct-trail in
     let args = c .before .before .before .before .before .before .before .before .before .before .before .before .args in
     let pre = c .before .before .before .before .before .before .before .before .before .before .before .before .pre in
-    let inside = path-small (config (args .space .layout)) (args .space .top) (args .mem .now) (args .held) (args .root .0) false (args .address .0) (args .depth) (pre .0 .3) (held-small (config (args .space .layout)) (args .held) (pre .1) (pre .0 .3)) _ _ (pre .4) in
-    let none = sym (lacking .ensures ∙ trail-lacking (config (args .space .layout)) (args .space .top) (args .mem .now) false (args .address .0) (args .depth) (args .page .0) (args .writable) (direct-trail .result) (direct-trail .ensures) (pre .0 .3) (omega (arith, pre .0 .0, pre .3)) inside) ∙ not-true (lacking .result) (c .before .before .if2 .taken) in
+    let none = sym (lacking .ensures ∙ trail-lacking (config (args .space .layout)) (args .space .top) (args .mem .now) false (args .address .0) (args .depth) (args .page .0) (args .writable) (direct-trail .result) (direct-trail .ensures) (omega (arith, pre .0 .0, pre .3))) ∙ not-true (lacking .result) (c .before .before .if2 .taken) in
     let came = trail-came (config (args .space .layout)) (args .space .top) (args .mem .now) false (args .address .0) (args .depth) (args .page .0) (args .writable) (direct-trail .result) (direct-trail .ensures) in
     let went = path-plainly (config (args .space .layout)) (args .space .top) (args .mem .now) (args .held) (args .root .0) false (args .address .0) (args .depth) _ _ none (pre .3) (pre .4) in
-    (subst ReachesFrame (sym came) (reaches-as (config (args .space .layout)) (args .space .top) (args .mem .now) (args .held) (args .root .0) false (args .address .0) (args .depth) (pre .1) _ (pre .0 .3) went), pre .2)
+    (subst ReachesFrame (sym came) (reaches-as (config (args .space .layout)) (args .space .top) (args .mem .now) (args .held) (args .root .0) false (args .address .0) (args .depth) (pre .1) (pre .0 .0) _ (pre .0 .3) went), pre .2)
 
 same-length-2 : tie.Need-same-length-2
 same-length-2 c = search needs
@@ -99,8 +95,7 @@ returns-2 c =
     let direct-trail = c .before .before .before .before .before .before .before .before .direct-trail in
     let args = c .before .before .before .before .before .before .before .before .before .before .before .before .before .args in
     let pre = c .before .before .before .before .before .before .before .before .before .before .before .before .before .pre in
-    let inside = path-small (config (args .space .layout)) (args .space .top) (args .mem .now) (args .held) (args .root .0) false (args .address .0) (args .depth) (pre .0 .3) (held-small (config (args .space .layout)) (args .held) (pre .1) (pre .0 .3)) _ _ (pre .4) in
-    let none = sym (lacking .ensures ∙ trail-lacking (config (args .space .layout)) (args .space .top) (args .mem .now) false (args .address .0) (args .depth) (args .page .0) (args .writable) (direct-trail .result) (direct-trail .ensures) (pre .0 .3) (omega (arith, pre .0 .0, pre .3)) inside) ∙ not-true (lacking .result) (if2 .taken) in
+    let none = sym (lacking .ensures ∙ trail-lacking (config (args .space .layout)) (args .space .top) (args .mem .now) false (args .address .0) (args .depth) (args .page .0) (args .writable) (direct-trail .result) (direct-trail .ensures) (omega (arith, pre .0 .0, pre .3))) ∙ not-true (lacking .result) (if2 .taken) in
     let came = trail-came (config (args .space .layout)) (args .space .top) (args .mem .now) false (args .address .0) (args .depth) (args .page .0) (args .writable) (direct-trail .result) (direct-trail .ensures) in
     let went = path-plainly (config (args .space .layout)) (args .space .top) (args .mem .now) (args .held) (args .root .0) false (args .address .0) (args .depth) _ _ none (pre .3) (pre .4) in
     let end = direct-trail .result .walked in
@@ -111,23 +106,19 @@ returns-2 c =
 judged-requires : tie.Need-judged-requires
 judged-requires c κs = search needs
 
-settle-requires : tie.Need-settle-requires
-settle-requires c κs = c .before .before .before .before .before .before .before .before .before .before .before .before .before .before .pre .0
-
-loaded-requires-3 : tie.Need-loaded-requires-3
-loaded-requires-3 c κs =
-    let judged = c .before .before .before .before .before .before .judged in
-    let if2 = c .before .before .before .before .before .before .before .before .if2 in
-    let lacking = c .before .before .before .before .before .before .before .before .before .lacking in
-    let direct-trail = c .before .before .before .before .before .before .before .before .before .before .before .before .before .direct-trail in
-    let args = c .before .before .before .before .before .before .before .before .before .before .before .before .before .before .before .before .before .before .args in
-    let pre = c .before .before .before .before .before .before .before .before .before .before .before .before .before .before .before .before .before .before .pre in
-    let inside = path-small (config (args .space .layout)) (args .space .top) (args .mem .now) (args .held) (args .root .0) false (args .address .0) (args .depth) (pre .0 .3) (held-small (config (args .space .layout)) (args .held) (pre .1) (pre .0 .3)) _ _ (pre .4) in
-    let some = sym (lacking .ensures ∙ trail-lacking (config (args .space .layout)) (args .space .top) (args .mem .now) false (args .address .0) (args .depth) (args .page .0) (args .writable) (direct-trail .result) (direct-trail .ensures) (pre .0 .3) (omega (arith, pre .0 .0, pre .3)) inside) ∙ not-false (lacking .result) (if2 .left) in
+load-by-requires : tie.Need-load-by-requires
+load-by-requires c κs =
+    let judged = c .before .judged in
+    let if2 = c .before .before .before .if2 in
+    let lacking = c .before .before .before .before .lacking in
+    let direct-trail = c .before .before .before .before .before .before .before .before .direct-trail in
+    let args = c .before .before .before .before .before .before .before .before .before .before .before .before .before .args in
+    let pre = c .before .before .before .before .before .before .before .before .before .before .before .before .before .pre in
+    let some = sym (lacking .ensures ∙ trail-lacking (config (args .space .layout)) (args .space .top) (args .mem .now) false (args .address .0) (args .depth) (args .page .0) (args .writable) (direct-trail .result) (direct-trail .ensures) (omega (arith, pre .0 .0, pre .3))) ∙ not-false (lacking .result) (if2 .left) in
     let came = trail-came (config (args .space .layout)) (args .space .top) (args .mem .now) false (args .address .0) (args .depth) (args .page .0) (args .writable) (direct-trail .result) (direct-trail .ensures) in
     let went = path-judged (config (args .space .layout)) (args .space .top) (args .mem .now) (args .held) (args .root .0) false (args .address .0) (args .depth) _ _ some (pre .3) (pre .4) in
     let leads = judged .ensures ∙ ap (judgedBy (args .held) true _) came in
-    (subst (λ (o : Translated). ReachesFrame (o .walked)) (sym leads) (reaches-as (config (args .space .layout)) (args .space .top) (args .mem .now) (args .held) (args .root .0) false (args .address .0) (args .depth) (pre .1) _ (pre .0 .3) went), pre .2)
+    (pre .0, subst (λ (o : Translated). ReachesFrame (o .walked)) (sym leads) (reaches-as (config (args .space .layout)) (args .space .top) (args .mem .now) (args .held) (args .root .0) false (args .address .0) (args .depth) (pre .1) (pre .0 .0) _ (pre .0 .3) went), pre .2)
 
 same-length-3 : tie.Need-same-length-3
 same-length-3 c = search needs
@@ -135,21 +126,18 @@ same-length-3 c = search needs
 returns-3 : tie.Need-returns-3
 unfolding loadOf
 returns-3 c =
-    let settle = c .before .before .before .before .settle in
-    let judged = c .before .before .before .before .before .before .before .judged in
-    let if2 = c .before .before .before .before .before .before .before .before .before .if2 in
-    let lacking = c .before .before .before .before .before .before .before .before .before .before .lacking in
-    let direct-trail = c .before .before .before .before .before .before .before .before .before .before .before .before .before .before .direct-trail in
-    let args = c .before .before .before .before .before .before .before .before .before .before .before .before .before .before .before .before .before .before .before .args in
-    let pre = c .before .before .before .before .before .before .before .before .before .before .before .before .before .before .before .before .before .before .before .pre in
-    let inside = path-small (config (args .space .layout)) (args .space .top) (args .mem .now) (args .held) (args .root .0) false (args .address .0) (args .depth) (pre .0 .3) (held-small (config (args .space .layout)) (args .held) (pre .1) (pre .0 .3)) _ _ (pre .4) in
-    let some = sym (lacking .ensures ∙ trail-lacking (config (args .space .layout)) (args .space .top) (args .mem .now) false (args .address .0) (args .depth) (args .page .0) (args .writable) (direct-trail .result) (direct-trail .ensures) (pre .0 .3) (omega (arith, pre .0 .0, pre .3)) inside) ∙ not-false (lacking .result) (if2 .left) in
+    let load-by = c .before .before .load-by in
+    let judged = c .before .before .before .before .judged in
+    let if2 = c .before .before .before .before .before .before .if2 in
+    let lacking = c .before .before .before .before .before .before .before .lacking in
+    let direct-trail = c .before .before .before .before .before .before .before .before .before .before .before .direct-trail in
+    let args = c .before .before .before .before .before .before .before .before .before .before .before .before .before .before .before .before .args in
+    let pre = c .before .before .before .before .before .before .before .before .before .before .before .before .before .before .before .before .pre in
+    let some = sym (lacking .ensures ∙ trail-lacking (config (args .space .layout)) (args .space .top) (args .mem .now) false (args .address .0) (args .depth) (args .page .0) (args .writable) (direct-trail .result) (direct-trail .ensures) (omega (arith, pre .0 .0, pre .3))) ∙ not-false (lacking .result) (if2 .left) in
     let came = trail-came (config (args .space .layout)) (args .space .top) (args .mem .now) false (args .address .0) (args .depth) (args .page .0) (args .writable) (direct-trail .result) (direct-trail .ensures) in
     let went = path-judged (config (args .space .layout)) (args .space .top) (args .mem .now) (args .held) (args .root .0) false (args .address .0) (args .depth) _ _ some (pre .3) (pre .4) in
     let leads = judged .ensures ∙ ap (judgedBy (args .held) true _) came in
-    c .loaded3 .ensures
-    ∙ ap (λ m. loadBy (args .held) (args .address .0) (args .width) (λ x. x) (yields (translation (judged .result .held) (judged .result .exits) (judged .result .walked) false) m) (judged .result .walked)) (settle .ensures)
-    ∙ load-said (config (args .space .layout)) (args .space .top) (args .root .0) (args .held) (judged .result .held) (args .address .0) (args .width) (judged .result .exits) (judged .result .walked) (judged .result .sets) (args .mem .now)
+    load-by .ensures
     ∙ ap (λ (o : Translated). loadFrom (config (args .space .layout)) (args .space .top) (args .root .0) (args .held) (args .address .0) (args .width) (yields o (args .mem .now))) leads ∙ sym (ap (loadFrom (config (args .space .layout)) (args .space .top) (args .root .0) (args .held) (args .address .0) (args .width)) went)
 
 pub load-through-spec : {M : Type 1} → statement M
@@ -169,7 +157,6 @@ load-through-spec =
     same-length-2
     returns-2
     judged-requires
-    settle-requires
-    loaded-requires-3
+    load-by-requires
     same-length-3
     returns-3)

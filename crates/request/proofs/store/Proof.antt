@@ -2,7 +2,9 @@
 use mathlib.Core.Path.{sym, ap, _∙_}
 use Rattle.words.specs.After.{yields}
 use Rattle.layout.specs.Layout.{config}
-use Rattle.request.proofs.Held.{plainly-stores, plainly-keeps}
+use Rattle.request.specs.Access.{storeOf}
+use Rattle.request.proofs.Held.{plainly-one, plainly-stores, plainly-keeps}
+use Rattle.request.proofs.Depths.{turn-none, depth-kept}
 use borrow.Author.Needs.{needs}
 use Rattle.request.proofs.store.Statement.{statement}
 use Rattle.request.proofs.store.Tie as tie
@@ -17,7 +19,9 @@ returns : tie.Need-returns
 returns c =
     let store-plainly = c .before .before .before .store-plainly in
     let args = c .before .before .before .before .before .before .args in
-    plainly-stores (config (args .space .layout)) (args .space .top) (args .mem .now) (args .held) (args .root .0) (args .address .0) (args .width) (args .depth) (args .value) _ (ap (λ b. yields b (store-plainly .last .0)) (sym (c .if1 .taken)) ∙ store-plainly .ensures)
+    let done = ap (λ b. yields b (store-plainly .last .0)) (sym (c .if1 .taken)) ∙ store-plainly .ensures in
+    plainly-stores (config (args .space .layout)) (args .space .top) (args .mem .now) (args .held) (args .root .0) (args .address .0) (args .width) (args .depth) (args .value) _ done
+    ∙ sym (ap (λ d. storeOf (config (args .space .layout)) (args .space .top) (args .mem .now) (args .held) (args .root .0) (args .address .0) (args .width) d (args .value)) (depth-kept (config (args .space .layout)) (args .space .top) (args .mem .now) (args .held) (args .root .0) (args .address .0) (args .depth) (turn-none (args .depth) (plainly-one (config (args .space .layout)) (args .mem .now) (args .held) (args .address .0) (args .width) (args .depth) (args .value) _ done .none))))
 
 store-translated-requires : tie.Need-store-translated-requires
 store-translated-requires c κs = search needs

@@ -42,7 +42,7 @@ finish-requires c κs =
     let held = c .before .before .before .before .before .before .before .before .before .before .before .before .before .before .held in
     let args = c .before .before .before .before .before .before .before .before .before .before .before .before .before .before .before .before .args in
     let pre = c .before .before .before .before .before .before .before .before .before .before .before .before .before .before .before .before .pre in
-    let left = rw (← drop-readers .ensures) at (drop-leaves (config (args .space .layout)) (args .mem .now) (args .t .held .pool) (walked .given .0 .0 .0) (wordOf (args .address .0)) (pre .1)) in
+    let left = rw (← drop-readers .ensures) at (drop-leaves (config (args .space .layout)) (args .mem .now) (args .t .held .pool) (walked .given .0 .1 .0 .0) (wordOf (args .address .0)) (pre .1)) in
     (rw (walked .given .1) at (pre .2), pre .3, pre .4, omega (arith, left .exits))
 
 enum-known-walked-2 : tie.Need-enum-known-walked-2

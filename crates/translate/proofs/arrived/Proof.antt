@@ -15,7 +15,7 @@ ruled-requires c κs =
     let direct = c .before .direct in
     let args = c .before .before .before .before .args in
     let pre = c .before .before .before .before .pre in
-    (pre .0, pre .1, pre .3, pre .4, rw (direct .ensures) (direct-reads (config (args .space .layout)) (args .space .top) (args .mem .now) (args .request .store) (args .request .address .0) (args .request .depth) (args .page .0) (args .writable) (pre .0 .0) (pre .1)))
+    (pre .0, pre .1, pre .3, rw (direct .ensures) (direct-reads (config (args .space .layout)) (args .space .top) (args .mem .now) (args .request .store) (args .request .address .0) (args .request .depth) (args .page .0) (args .writable) (pre .0 .0) (pre .1)))
 
 enum-known-lets : tie.Need-enum-known-lets
 enum-known-lets c = search needs

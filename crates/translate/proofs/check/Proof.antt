@@ -4,9 +4,9 @@ use native.Mathlib.Omega.{arith}
 use Rattle.layout.specs.Layout.{config}
 use Rattle.walk.specs.declared.Trail.{Trail}
 use Rattle.walk.specs.declared.Walked.the-variants as walked
-use Rattle.walk.specs.Memory.{walkedOf, trailFrom}
+use Rattle.walk.specs.Memory.{walkedOf, rootTrail}
 use Rattle.translate.specs.Translate.{whole as wholeWalk, checkedOf}
-use Rattle.translate.proofs.Bits.{root-frames, whole-checked}
+use Rattle.translate.proofs.Bits.{whole-checked}
 use borrow.Author.Needs.{needs}
 use Rattle.translate.proofs.check.Statement.{statement}
 use Rattle.translate.proofs.check.Tie as tie
@@ -18,14 +18,7 @@ enum-known-walked : tie.Need-enum-known-walked
 enum-known-walked c = search needs
 
 judge-requires : tie.Need-judge-requires
-unfolding trailFrom
-judge-requires c κs =
-    let walked = c .before .before .before .walked in
-    let whole = c .before .before .before .before .before .whole in
-    let args = c .before .before .before .before .before .before .before .args in
-    let pre = c .before .before .before .before .before .before .before .pre in
-    let came : walkedOf (config (args .space .layout)) (args .space .top) (args .mem .now) 0 (wholeWalk (config (args .space .layout)) (args .request .store) (args .root .0) (args .request .address .0)) ≡ _ = sym (ap (λ (t : Trail). t .walked) (whole .ensures)) ∙ walked .given .1 in
-    (pre, rw (whole .ensures) (root-frames (config (args .space .layout)) (args .space .top) (args .mem .now) (args .root .0) (args .request .store) _ _ _ _ (pre .3) came))
+judge-requires c κs = search needs
 
 enum-known-walked-2 : tie.Need-enum-known-walked-2
 enum-known-walked-2 c = search needs
@@ -37,7 +30,7 @@ enum-told : tie.Need-enum-told
 enum-told c = search needs
 
 returns : tie.Need-returns
-unfolding trailFrom
+unfolding rootTrail
 returns c =
     let judge = c .judge in
     let walked = c .before .before .before .before .walked in
@@ -45,10 +38,10 @@ returns c =
     let args = c .before .before .before .before .before .before .before .before .args in
     let pre = c .before .before .before .before .before .before .before .before .pre in
     let came : walkedOf (config (args .space .layout)) (args .space .top) (args .mem .now) 0 (wholeWalk (config (args .space .layout)) (args .request .store) (args .root .0) (args .request .address .0)) ≡ _ = sym (ap (λ (t : Trail). t .walked) (whole .ensures)) ∙ walked .given .1 in
-    judge .ensures ∙ rw (whole .ensures) (whole-checked (config (args .space .layout)) (args .space .top) (args .mem .now) (args .root .0) (args .request .store) (args .request .address .0) _ _ _ (pre .3) (omega (arith, pre .0)) came (args .request .depth))
+    judge .ensures ∙ rw (whole .ensures) (whole-checked (config (args .space .layout)) (args .space .top) (args .mem .now) (args .root .0) (args .request .store) (args .request .address .0) _ _ _ (omega (arith, pre .0)) came (args .request .depth))
 
 returns-2 : tie.Need-returns-2
-unfolding checkedOf trailFrom
+unfolding checkedOf rootTrail
 returns-2 c =
     let exit-of = c .exit-of in
     let walked2 = c .before .before .walked2 in
@@ -56,7 +49,7 @@ returns-2 c =
     rw (← ap (λ (t : Trail). t .walked) (whole .ensures), walked2 .given .1, exit-of .ensures)
 
 returns-3 : tie.Need-returns-3
-unfolding checkedOf trailFrom
+unfolding checkedOf rootTrail
 returns-3 c =
     let enum-told = c .enum-told in
     let whole = c .before .before .whole in

@@ -1,5 +1,5 @@
 -- Of the whole walk's trail only its end is used. Assumes nothing.
-use Rattle.walk.specs.Memory.{trailFrom}
+use Rattle.walk.specs.Memory.{rootTrail}
 use Rattle.translate.specs.Translate.{plainOf}
 use borrow.Author.Needs.{needs}
 use Rattle.translate.proofs.plain.Statement.{statement}
@@ -12,7 +12,7 @@ as-walked-requires : tie.Need-as-walked-requires
 as-walked-requires c κs = search needs
 
 returns : tie.Need-returns
-unfolding plainOf trailFrom
+unfolding plainOf rootTrail
 returns c =
     let as-walked = c .as-walked in
     let whole = c .before .whole in

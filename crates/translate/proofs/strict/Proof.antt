@@ -32,8 +32,8 @@ end-requires c κs =
     let args = c .before .before .before .before .before .before .before .before .before .args in
     let pre = c .before .before .before .before .before .before .before .before .before .pre in
     let once = rw (← check .ensures, fault .given .1) at (checked-once (config (args .space .layout)) (args .space .top) (args .mem .now) (args .root .0) (args .request .store) (args .request .address .0) (args .request .depth)) in
-    let reads = rw (walked .given .1) at (pre .4) in
-    (pre .1, reads .0, pre .3, reads .1, omega (arith, once))
+    let reads = rw (walked .given .1) at (pre .3) in
+    (pre .1, reads .0, pre .2, reads .1, omega (arith, once))
 
 enum-told : tie.Need-enum-told
 enum-told c = search needs
@@ -49,8 +49,8 @@ end-requires-2 c κs =
     let exit-of = c .exit-of in
     let walked2 = c .before .before .walked2 in
     let pre = c .before .before .before .before .before .before .pre in
-    let reads = rw (walked2 .given .1) at (pre .4) in
-    (pre .1, reads .0, pre .3, reads .1, rw (exit-of .ensures) (exit-few (walked.Faulted (walked2 .given .0 .0) (walked2 .given .0 .1 .0))))
+    let reads = rw (walked2 .given .1) at (pre .3) in
+    (pre .1, reads .0, pre .2, reads .1, rw (exit-of .ensures) (exit-few (walked.Faulted (walked2 .given .0 .0) (walked2 .given .0 .1 .0))))
 
 enum-told-2 : tie.Need-enum-told-2
 enum-told-2 c = search needs

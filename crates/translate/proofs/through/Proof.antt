@@ -3,7 +3,7 @@ use mathlib.Core.Path.{sym, _∙_}
 use native.Mathlib.Omega.{arith}
 use borrow.Author.Tests.{not-true, not-false}
 use Rattle.layout.specs.Layout.{config}
-use Rattle.translate.proofs.Bits.{trail-came, trail-framed, trail-lacking, through-by}
+use Rattle.translate.proofs.Bits.{trail-came, trail-lacking, through-by}
 use borrow.Author.Needs.{needs}
 use Rattle.translate.proofs.through.Statement.{statement}
 use Rattle.translate.proofs.through.Tie as tie
@@ -13,10 +13,8 @@ direct-trail-requires c κs = search needs
 
 lacking-requires : tie.Need-lacking-requires
 lacking-requires c κs =
-    let direct-trail = c .before .before .direct-trail in
-    let args = c .before .before .before .before .args in
     let pre = c .before .before .before .before .pre in
-    (omega (arith, pre .0 .0, pre .1), trail-framed (config (args .space .layout)) (args .space .top) (args .mem .now) (args .request .store) (args .request .address .0) (args .request .depth) (args .page .0) (args .writable) (direct-trail .result) (direct-trail .ensures) (pre .0 .3) (omega (arith, pre .0 .0, pre .1)) (pre .2))
+    (pre .0, omega (arith, pre .0 .0, pre .1))
 
 as-walked-requires : tie.Need-as-walked-requires
 as-walked-requires c κs = search needs
@@ -29,7 +27,7 @@ returns c =
     let direct-trail = c .before .before .before .before .before .direct-trail in
     let args = c .before .before .before .before .before .before .before .args in
     let pre = c .before .before .before .before .before .before .before .pre in
-    rw (as-walked .ensures) (sym (rw (not-true (lacking .result) (if1 .taken)) at (through-by (config (args .space .layout)) (args .space .top) (args .mem .now) (args .held) (args .root .0) (args .request .store) (args .request .address .0) (args .request .depth) (args .page .0) (args .writable) (direct-trail .result .walked) (lacking .result) (trail-came (config (args .space .layout)) (args .space .top) (args .mem .now) (args .request .store) (args .request .address .0) (args .request .depth) (args .page .0) (args .writable) (direct-trail .result) (direct-trail .ensures)) (lacking .ensures ∙ trail-lacking (config (args .space .layout)) (args .space .top) (args .mem .now) (args .request .store) (args .request .address .0) (args .request .depth) (args .page .0) (args .writable) (direct-trail .result) (direct-trail .ensures) (pre .0 .3) (omega (arith, pre .0 .0, pre .1)) (pre .2)))))
+    rw (as-walked .ensures) (sym (rw (not-true (lacking .result) (if1 .taken)) at (through-by (config (args .space .layout)) (args .space .top) (args .mem .now) (args .held) (args .root .0) (args .request .store) (args .request .address .0) (args .request .depth) (args .page .0) (args .writable) (direct-trail .result .walked) (lacking .result) (trail-came (config (args .space .layout)) (args .space .top) (args .mem .now) (args .request .store) (args .request .address .0) (args .request .depth) (args .page .0) (args .writable) (direct-trail .result) (direct-trail .ensures)) (lacking .ensures ∙ trail-lacking (config (args .space .layout)) (args .space .top) (args .mem .now) (args .request .store) (args .request .address .0) (args .request .depth) (args .page .0) (args .writable) (direct-trail .result) (direct-trail .ensures) (omega (arith, pre .0 .0, pre .1))))))
 
 judged-requires : tie.Need-judged-requires
 judged-requires c κs = search needs
@@ -42,7 +40,7 @@ returns-2 c =
     let direct-trail = c .before .before .before .before .before .direct-trail in
     let args = c .before .before .before .before .before .before .before .args in
     let pre = c .before .before .before .before .before .before .before .pre in
-    rw (judged .ensures) (sym (rw (not-false (lacking .result) (if1 .left)) at (through-by (config (args .space .layout)) (args .space .top) (args .mem .now) (args .held) (args .root .0) (args .request .store) (args .request .address .0) (args .request .depth) (args .page .0) (args .writable) (direct-trail .result .walked) (lacking .result) (trail-came (config (args .space .layout)) (args .space .top) (args .mem .now) (args .request .store) (args .request .address .0) (args .request .depth) (args .page .0) (args .writable) (direct-trail .result) (direct-trail .ensures)) (lacking .ensures ∙ trail-lacking (config (args .space .layout)) (args .space .top) (args .mem .now) (args .request .store) (args .request .address .0) (args .request .depth) (args .page .0) (args .writable) (direct-trail .result) (direct-trail .ensures) (pre .0 .3) (omega (arith, pre .0 .0, pre .1)) (pre .2)))))
+    rw (judged .ensures) (sym (rw (not-false (lacking .result) (if1 .left)) at (through-by (config (args .space .layout)) (args .space .top) (args .mem .now) (args .held) (args .root .0) (args .request .store) (args .request .address .0) (args .request .depth) (args .page .0) (args .writable) (direct-trail .result .walked) (lacking .result) (trail-came (config (args .space .layout)) (args .space .top) (args .mem .now) (args .request .store) (args .request .address .0) (args .request .depth) (args .page .0) (args .writable) (direct-trail .result) (direct-trail .ensures)) (lacking .ensures ∙ trail-lacking (config (args .space .layout)) (args .space .top) (args .mem .now) (args .request .store) (args .request .address .0) (args .request .depth) (args .page .0) (args .writable) (direct-trail .result) (direct-trail .ensures) (omega (arith, pre .0 .0, pre .1))))))
 
 pub through-spec : {M : Type 1} → statement M
 through-spec =

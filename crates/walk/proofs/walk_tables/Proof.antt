@@ -8,7 +8,7 @@ use Rattle.spec.specs.Plain.{levels}
 use Rattle.layout.specs.Layout.{config}
 use Rattle.entry.proofs.Entries.{index-fits}
 use Rattle.walk.specs.Memory.{trailFrom, trailOf}
-use Rattle.walk.proofs.Laws.{TurnFits, turn-fits}
+use Rattle.walk.proofs.Laws.{Few, StepFits, turn-fits, near-room}
 use Rattle.walk.proofs.Trails.{thenTrail, trail-step, trail-end}
 use borrow.Author.Needs.{needs}
 use Rattle.walk.proofs.walk_tables.Statement.{statement}
@@ -16,9 +16,9 @@ use Rattle.walk.proofs.walk_tables.Tie as tie
 
 abbrev Inv-loop : tie.InvT-loop
 Inv-loop mem s store path k below right read left₀ at₀ w₀ n₀ tables₀ depth₀ left at w n tables depth =
-    (left ≤ k) × (at < frameLimit) × (n + 6 * left ≤ 1024 + 6 * k) × (depth + left ≡ k)
-    × (trailFrom (config (s .layout)) (s .top) mem tables depth n (levels (config (s .layout)) store (below + left) at w (indexes left path))
-    ≡ trailFrom (config (s .layout)) (s .top) mem tables₀ 0 n₀ (levels (config (s .layout)) store (below + k) at₀ w₀ (indexes k path)))
+    (left ≤ k) × (at + 70368744177664 * left < 2199023255552 + 70368744177664 * k) × (n + 6 * left ≤ 1024 + 6 * k) × (depth + left ≡ k)
+    × (trailFrom (config (s .layout)) (s .top) mem tables depth n store (below + left) at w (indexes left path)
+    ≡ trailFrom (config (s .layout)) (s .top) mem tables₀ 0 n₀ store (below + k) at₀ w₀ (indexes k path))
 
 abbrev μ-loop : tie.MeasureT-loop
 μ-loop mem s store path k below right read left₀ at₀ w₀ n₀ tables₀ depth₀ left at w n tables depth = left
@@ -27,8 +27,8 @@ abbrev μ-loop : tie.MeasureT-loop
 turned : (c : tie.After-descend Inv-loop μ-loop) →
     let args = c .before .before .before .before .before .args in
     let loop = c .before .before .before .loop in
-    thenTrail (c .descend .result) (set (loop .tables) (loop .depth) (loop .at)) (λ u v j. trailFrom (config (args .space .layout)) (args .space .top) (args .mem .now) (set (loop .tables) (loop .depth) (loop .at)) (loop .depth + 1) j (levels (config (args .space .layout)) (args .store) (args .below + (loop .left - 1)) u v (indexes (loop .left - 1) (args .path))))
-    ≡ trailOf (config (args .space .layout)) (args .space .top) (args .mem .now) (args .read) (levels (config (args .space .layout)) (args .store) (args .below + args .steps) (args .table .0) (args .right) (indexes (args .steps) (args .path)))
+    thenTrail (c .descend .result) (set (loop .tables) (loop .depth) (loop .at)) (λ u v j. trailFrom (config (args .space .layout)) (args .space .top) (args .mem .now) (set (loop .tables) (loop .depth) (loop .at)) (loop .depth + 1) j (args .store) (args .below + (loop .left - 1)) u v (indexes (loop .left - 1) (args .path)))
+    ≡ trailOf (config (args .space .layout)) (args .space .top) (args .mem .now) (args .read) (args .store) (args .below + args .steps) (args .table .0) (args .right) (indexes (args .steps) (args .path))
 turned c =
     let args = c .before .before .before .before .before .args in
     let loop = c .before .before .before .loop in
@@ -38,7 +38,7 @@ turned c =
     rw (descend .ensures, index-of .ensures, ← trail-step (config (args .space .layout)) (args .space .top) (args .mem .now) (loop .tables) (loop .depth) (loop .n) (args .store) (args .below) (loop .left) (loop .at) (args .path) (loop .w) (loop-test .taken)) (loop .inv .4)
 
 -- where the turn arrived
-arrived : (c : tie.After-descend Inv-loop μ-loop) → TurnFits (config (c .before .before .before .before .before .args .space .layout)) (c .before .before .before .loop .n + 1) (c .descend .result)
+arrived : (c : tie.After-descend Inv-loop μ-loop) → StepFits (config (c .before .before .before .before .before .args .space .layout)) (Few (c .before .before .before .before .before .args .below + (c .before .before .before .loop .left - 1) + 1) (c .before .index-of .result)) (c .before .before .before .loop .n) (c .before .before .before .loop .at) (c .descend .result)
 arrived c =
     let args = c .before .before .before .before .before .args in
     let loop = c .before .before .before .loop in
@@ -75,10 +75,10 @@ descend-requires c κs =
     let args = c .before .before .before .before .args in
     let loop = c .before .before .loop in
     let index-of = c .index-of in
-    (pre .0, omega (arith, loop .inv .2, pre), loop .inv .1, rw (index-of .ensures) (index-fits (loop .left - 1) (args .path)))
+    (pre .0, omega (arith, loop .inv .2, pre), omega (arith, loop .inv .0, pre), omega (arith, loop .inv .0, loop .inv .1, pre), rw (index-of .ensures) (index-fits (loop .left - 1) (args .path)))
 
-enum-known-page : tie.Need-enum-known-page Inv-loop μ-loop
-enum-known-page c = search needs
+enum-known-writable : tie.Need-enum-known-writable Inv-loop μ-loop
+enum-known-writable c = search needs
 
 loop-less : tie.Need-loop-less Inv-loop μ-loop
 loop-less c = search needs
@@ -86,10 +86,13 @@ loop-less c = search needs
 loop-again : tie.Need-loop-again Inv-loop μ-loop
 loop-again c =
     let pre = c .before .before .before .before .before .before .before .before .pre in
-    let page = c .before .page in
-    let told = page .given .1 in
+    let writable = c .before .writable in
+    let loop = c .before .before .before .before .before .before .loop in
+    let index-of = c .before .before .before .before .index-of in
+    let told = writable .given .1 in
     let fits = rw told at (arrived (c .before .before .before)) in
-    (omega arith, omega (arith, fits .0 .1, pre), omega (arith, fits .1, pre), omega arith, rw told at (turned (c .before .before .before)))
+    let args = c .before .before .before .before .before .before .before .before .args in
+    (omega arith, near-room (config (args .space .layout)) (loop .at) _ (loop .left) (args .steps) (pre .0 .3) (omega arith) (loop .inv .0) (loop .inv .1) (fits .0 (omega (arith, loop .inv .0, pre), rw (index-of .ensures) (index-fits (loop .left - 1) (args .path)))), omega (arith, fits .2, pre), omega arith, rw told at (turned (c .before .before .before)))
 
 enum-known-fault : tie.Need-enum-known-fault Inv-loop μ-loop
 enum-known-fault c = search needs
@@ -125,7 +128,7 @@ walk-tables-spec =
     add-descend
     add-descend-2
     descend-requires
-    enum-known-page
+    enum-known-writable
     loop-less
     loop-again
     enum-known-fault

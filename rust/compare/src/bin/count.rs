@@ -40,7 +40,7 @@ mod counted {
 /// time costs the same.
 type Case = (&'static str, fn() -> Guest, fn(&mut Record, &mut [u64]));
 
-const CASES: [Case; 50] = [
+const CASES: [Case; 57] = [
     ("load-depth-0", || held(0, 0), load::<0>),
     ("load-depth-0-marks-8", || held(0, 8), load::<0>),
     ("load-depth-0-marks-62", || held(0, 62), load::<0>),
@@ -64,6 +64,13 @@ const CASES: [Case; 50] = [
     ("load-depth-4-bits", || held_with_bits(4), load::<4>),
     ("load-depth-5-bits", || held_with_bits(5), load::<5>),
     ("load-depth-0-choice", || held_in(guest_with(SHADOWS, AUTOMATIC), 0, 0), load::<0>),
+    ("load-2m-depth-0", || held_large(2, 0), load_large::<4>),
+    ("load-2m-mark-1", || held_large(2, 1), load_large::<4>),
+    ("load-2m-depth-2", || held_large(2, 2), load_large::<7>),
+    ("load-1g-depth-0", || held_large(3, 0), load_large::<4>),
+    ("load-1g-mark-1", || held_large(3, 1), load_large::<4>),
+    ("load-1g-mark-2", || held_large(3, 2), load_large::<4>),
+    ("load-1g-depth-3", || held_large(3, 3), load_large::<6>),
     ("depth-no-mark", || held(0, 0), |unit, _| depth(unit, 0, 0)),
     ("depth-marks-8", || held(0, 8), |unit, _| depth(unit, 0, 8)),
     ("depth-marks-62", || held(0, 62), |unit, _| depth(unit, 0, 62)),
@@ -104,6 +111,12 @@ const BYTE: u64 = 0x44;
 fn load<const DEPTH: u64>(unit: &mut Record, memory: &mut [u64]) {
     let said = counted::load(unit, memory, 0, 8);
     assert_eq!(said, Answer::Value { word: WORD, references: 4 + 4 * DEPTH, exits: 0 });
+}
+
+/// Of the page in the large page.
+fn load_large<const REFERENCES: u64>(unit: &mut Record, memory: &mut [u64]) {
+    let said = counted::load(unit, memory, PAGE << 12, 8);
+    assert_eq!(said, Answer::Value { word: WORD, references: REFERENCES, exits: 0 });
 }
 
 /// The search alone, by its depth and how many marks it reads.
@@ -301,6 +314,19 @@ fn self_mapped(choices: Choices) -> Guest {
     let Guest { unit, mut memory } = guest_with(SHADOWS, choices);
     let table = PAGE - 1;
     memory[((BASE + table) * 512 + 256) as usize] = table << 12 | 3;
+    Guest { unit, memory }
+}
+
+/// The guest with large pages of guest frames 0 on in place of the tables below this level, 2 or 3: its page is found at the address
+/// that it has as a frame. A mark of level `mark` is there (0: none), and the path is held.
+fn held_large(level: u64, mark: u64) -> Guest {
+    let Guest { mut unit, mut memory } = guest();
+    let first = ((BASE + 4 - level) * 512) as usize;
+    memory[first..first + 256].fill(0x83);
+    if mark > 0 {
+        assert_eq!(unit.set_mark(&mut memory, 0, mark), Answer::Ok);
+    }
+    assert!(matches!(unit.load(&mut memory, PAGE << 12, 8), Answer::Value { word: WORD, exits: 1, .. }));
     Guest { unit, memory }
 }
 

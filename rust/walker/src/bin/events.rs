@@ -1,10 +1,10 @@
 //! Prints what random small runs reach, and a few seeds that reach it all:
-//! `events [bits|automatic] RUNS CALLS [LEVELS [FRAMES H S]]`. With `bits` the runs have
-//! accessed and dirty bits, with `automatic` their tables are written often, and what they
-//! must reach is marked.
+//! `events [bits|automatic|large] RUNS CALLS [LEVELS [FRAMES H S]]`. With `bits` the runs have
+//! accessed and dirty bits, with `automatic` their tables are written often, with `large` they
+//! go to large pages, and what they must reach is marked.
 
 use std::collections::BTreeSet;
-use walker::events::{of_automatic, of_bits, Events};
+use walker::events::{of_automatic, of_bits, of_large, Events};
 use walker::random::{named_sort, Random, Sizes};
 use walker::vectors::lines;
 
@@ -17,7 +17,7 @@ fn main() {
         [runs, calls, levels] => (runs, calls, levels as u32, None),
         [runs, calls, levels, frames, h, s] => (runs, calls, levels as u32, Some((frames, h, s))),
         _ => {
-            eprintln!("events [bits|automatic] RUNS CALLS [LEVELS [FRAMES H S]]");
+            eprintln!("events [bits|automatic|large] RUNS CALLS [LEVELS [FRAMES H S]]");
             std::process::exit(2);
         }
     };
@@ -36,6 +36,7 @@ fn main() {
     let sought: BTreeSet<String> = match name.as_str() {
         "bits" => of_bits(levels, true).into_iter().collect(),
         "automatic" => of_automatic(levels, true, true).into_iter().collect(),
+        "large" => of_large(levels, true).into_iter().collect(),
         _ => BTreeSet::new(),
     };
     for (name, many) in &all.counts {

@@ -1,7 +1,7 @@
 //! Prints random runs as lines of text:
-//! `vectors [bits|automatic] SEED CALLS [LEVELS [FRAMES H S]]`. Without sizes the seed
+//! `vectors [bits|automatic|large] SEED CALLS [LEVELS [FRAMES H S]]`. Without sizes the seed
 //! chooses small ones. With `bits` the run has accessed and dirty bits, with `automatic`
-//! its tables are written often.
+//! its tables are written often, with `large` it goes to large pages.
 
 use walker::random::{named_sort, Random, Sizes};
 use walker::vectors::lines;
@@ -15,7 +15,7 @@ fn main() {
         [seed, calls, levels] => (seed, calls, levels as u32, None),
         [seed, calls, levels, frames, h, s] => (seed, calls, levels as u32, Some((frames, h, s))),
         _ => {
-            eprintln!("vectors [bits|automatic] SEED CALLS [LEVELS [FRAMES H S]]");
+            eprintln!("vectors [bits|automatic|large] SEED CALLS [LEVELS [FRAMES H S]]");
             std::process::exit(2);
         }
     };

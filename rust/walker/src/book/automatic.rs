@@ -107,9 +107,11 @@ impl Book {
         by_level_1.map(|(path, _)| path[..path.len() - 1].to_vec()).min()
     }
 
-    /// Whether it is a path of depth 0 whose entry of level 1 is this word.
+    /// Whether it is a path of depth 0 whose entry of level 1 is this word. That of a large
+    /// page has no such entry.
     pub fn ends_at(&self, path: &[u64], held: &HeldPath, word: Word) -> bool {
-        path.len() == self.levels as usize && held.words.last() == Some(&word)
+        let at_depth_0 = path.len() == self.levels as usize;
+        at_depth_0 && held.large_level(path).is_none() && held.words.last() == Some(&word)
     }
 
     /// A load or store that was not refused. Yields the one that leaves the window for it.

@@ -39,6 +39,10 @@ impl Guest {
             guest.choose_shared_tables(first);
         }
         guest.choose_prefixes(first);
+        // Without a draw, so that the others are the same.
+        if guest.random.clone().one_in(8) {
+            guest.choose_large_pages(1);
+        }
         guest.find_all();
         guest.find_rewrites();
         guest

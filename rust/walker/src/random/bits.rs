@@ -28,18 +28,20 @@ impl Guest {
         self.pages.push(page_from(&list, self.sizes.levels));
     }
 
-    /// Pages that have their entry of level 1 by another path too.
+    /// Pages that have their last entry by another path too: of level 1, or of a large page,
+    /// by another page in it too.
     pub(super) fn find_twins(&mut self) {
         let levels = self.sizes.levels;
         for page in self.store_pages.clone() {
-            let entry = self.planned_entry(page);
-            for place in 0..levels as usize - 1 {
+            let entry = self.planned_entries(page).pop();
+            for place in 0..levels as usize {
                 for index in &self.indexes {
                     let mut list = indexes(page, levels);
                     list[place] = *index;
                     let other = page_from(&list, levels);
-                    if other != page && self.planned_entry(other) == entry {
-                        self.twins.push((page, other, levels as u64 - 1 - place as u64));
+                    if other != page && self.planned_entries(other).pop() == entry {
+                        let most = levels as u64 - 1 - place as u64;
+                        self.twins.push((page, other, most.max(1)));
                     }
                 }
             }
@@ -125,7 +127,7 @@ impl Guest {
         let level = 1 + self.random.below(most);
         let (marks, loads) = (!self.random.one_in(3), self.random.one_in(2));
         let mut calls = Vec::new();
-        if let Some(place) = self.planned_entry(page) {
+        if let Some(place) = self.planned_entries(page).pop() {
             calls.extend(self.store_of_entry(place, self.entries[&place] & !(ACCESSED | DIRTY)));
         }
         if marks {
@@ -165,7 +167,7 @@ impl Guest {
     }
 
     /// A device's, if the table's frame is planned to be writable.
-    fn store_of_entry(&self, place: (u64, u64), entry: u64) -> Option<Call> {
+    pub(super) fn store_of_entry(&self, place: (u64, u64), entry: u64) -> Option<Call> {
         let mut names = self.plan.iter().filter(|(_, host, writable)| *host == place.0 && *writable);
         names.next().map(|name| Call::device_store_word(device_address_of(name.0) + 8 * place.1, entry))
     }

@@ -1,7 +1,7 @@
 //! The automatic choice (document 02, 7) where calls meet it. The notes of events read
 //! the state and change only the counters.
 
-use super::{Met, Request, Unit, Written};
+use super::{Met, Request, Served, Unit, Written};
 use crate::book::{Kind, Mark, Paths, CHARGES_FOR_A_MARK, WINDOW_LENGTH};
 use crate::machine::Walk;
 use crate::numbers::{address_of, page_from, WORD_BYTES};
@@ -9,9 +9,9 @@ use std::collections::BTreeSet;
 
 impl Unit {
     /// A granted store, when its own drops are done.
-    pub(super) fn charge(&mut self, request: Request, written: &Written, overflowed: &Paths) {
+    pub(super) fn charge(&mut self, request: Request, served: &Served, written: &Written) {
         let charged = self.book.charged(written.word, &written.dropped);
-        self.note_store(request, written, overflowed);
+        self.note_store(request, served, written);
         self.enter_window(charged);
     }
 
@@ -38,7 +38,8 @@ impl Unit {
         self.events.add(format!("automatic mark set, {half}"));
         self.events
             .add(format!("automatic mark set, {}", if full { "another cleared" } else { "place free" }));
-        self.events.add_many("paths dropped by setting an automatic mark", dropped);
+        self.events.add_many("paths dropped by setting an automatic mark", dropped.len());
+        self.note_large_drops("setting an automatic mark", &dropped);
     }
 
     /// Whether a mark has a place. If all are set, an automatic one is cleared for it.
@@ -49,28 +50,31 @@ impl Unit {
         let Some(mark) = self.book.first_to_go() else { return false };
         self.note_first_to_go(&mark, by);
         let dropped = self.book.clear_mark(&mark);
-        self.events.add_many("paths dropped by clearing an automatic mark", dropped);
+        self.events.add_many("paths dropped by clearing an automatic mark", dropped.len());
+        self.note_large_drops("clearing an automatic mark", &dropped);
         true
     }
 
     // Notes of events.
 
     /// A granted store: what it is charged to, or why to nobody though paths were dropped.
-    fn note_store(&mut self, request: Request, written: &Written, overflowed: &Paths) {
+    fn note_store(&mut self, request: Request, served: &Served, written: &Written) {
         if self.book.window().is_none() {
             return;
         }
         let Written { word, dropped, .. } = written;
-        let by_fill = self.prefixes_charged(written, overflowed);
+        let by_fill = self.prefixes_charged(written, &served.overflowed);
         match self.book.charged(*word, dropped) {
             Some(prefix) => {
-                self.note_charge(request, written, &prefix);
+                self.note_charge(request, served.depth, written, &prefix);
+                self.note_large_not_charged(*word, dropped, "charge to another");
                 let lower = by_fill.first().is_some_and(|other| *other < prefix);
                 self.events.add_if(lower, "charge, a lower path dropped by the store's own fill");
             }
             None => {
                 let depth_0 = dropped.iter().any(|(path, _)| path.len() == self.levels() as usize);
                 let deeper = !dropped.is_empty() && !depth_0;
+                self.note_large_not_charged(*word, dropped, "no charge");
                 self.events.add_if(depth_0, "no charge, depth 0 dropped by upper entries alone");
                 self.events.add_if(deeper, "no charge, no path of depth 0 dropped");
                 self.events.add_if(!by_fill.is_empty(), "no charge, the store's own fill dropped the paths");
@@ -84,10 +88,9 @@ impl Unit {
         by_level_1.map(|(path, _)| path[..path.len() - 1].to_vec()).collect()
     }
 
-    fn note_charge(&mut self, request: Request, written: &Written, prefix: &[u64]) {
+    fn note_charge(&mut self, request: Request, depth: u32, written: &Written, prefix: &[u64]) {
         let Written { word, dropped, .. } = written;
         let levels = self.levels();
-        let depth = self.book.depth(request.address);
         let half = self.half(address_of(page_from(prefix, levels), levels));
         self.events.add("charge");
         self.events.add(format!("charge, {half}"));
@@ -183,6 +186,7 @@ impl Unit {
         match (met.depth, walk.end) {
             (1, Ok(_)) => self.events.add(format!("granted {access:?} at an automatic mark, {way}")),
             (1, Err(_)) => self.events.add(format!("fault of a {access:?} at an automatic mark, {way}")),
+            (0, _) => self.events.add("large page at an automatic mark"),
             _ => self.events.add("automatic mark below a deeper one"),
         }
     }

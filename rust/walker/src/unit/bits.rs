@@ -1,6 +1,7 @@
 //! What loads and stores meet with accessed and dirty bits on (document 02, 6), as
 //! events. They read the state and change only the counters.
 
+use super::large::size;
 use super::{Met, Request, Unit};
 use crate::machine::{lacking, needed_bits, Access, Mapping, Step, Walk, Word};
 use crate::numbers::{different_proper_prefixes, word_in_frame, Bytes, Entry, ACCESSED, DIRTY, WORD_BYTES};
@@ -54,13 +55,14 @@ impl Unit {
         let (depth, way) = (met.depth, self.way(met));
         let mut sets = false;
         for Read { table, level, word, entry } in read {
-            let lacks = entry.lacks(needed_bits(*level, access));
+            let lacks = entry.lacks(needed_bits(*entry, *level, access));
             sets = sets || lacks != 0;
             if lacks & ACCESSED != 0 {
                 self.events.add(format!("bit 5 set at level {level}, depth {depth}, {way}"));
             }
             if lacks & DIRTY != 0 {
                 self.events.add(format!("bit 6 set at depth {depth}, {way}"));
+                self.events.add(format!("bit 6 set at level {level}, depth {depth}, {way}"));
             }
             if !table.writable {
                 self.events.add(format!("granted, table of level {level} read-only, its bits set before"));
@@ -89,7 +91,8 @@ impl Unit {
         let Request { address, width, access } = request;
         let word = Word { frame: page.host, index: word_in_frame(address) };
         let own = read.iter().filter(|read| read.word == word);
-        let set = own.fold(0, |set, read| set | read.entry.lacks(needed_bits(read.level, access)));
+        let set =
+            own.fold(0, |set, read| set | read.entry.lacks(needed_bits(read.entry, read.level, access)));
         if set == 0 {
             return;
         }
@@ -114,22 +117,29 @@ impl Unit {
         let dirty = last.entry.lacks(DIRTY) == 0;
         let path = self.book.path(request.address, 0);
         let held = path.and_then(|path| self.book.held.get(&path));
-        match (request.access, held.map(|held| held.writable)) {
-            (Access::Load, None) if dirty => self.events.add("fill by a load, bit 6 set"),
-            (Access::Load, None) => self.events.add("fill by a load, bit 6 clear"),
+        let name = match (request.access, held.map(|held| held.writable)) {
+            (Access::Load, None) if dirty => "fill by a load, bit 6 set",
+            (Access::Load, None) => "fill by a load, bit 6 clear",
             (Access::Load, Some(false)) if dirty => {
-                self.events.add("load by a path that forbids stores, bit 6 set by another")
+                "load by a path that forbids stores, bit 6 set by another"
             }
-            (Access::Store, None) => self.events.add("fill by a store"),
+            (Access::Store, None) => "fill by a store",
             (Access::Store, Some(false)) => {
-                let by = if dirty { "bit 6 set by another" } else { "bit 6 clear" };
-                self.events.add(format!("refill, {by}"));
                 let full = self.book.tables_in_use() == self.machine.shadow_frames;
                 self.events.add_if(full, "refill, every shadow table in use");
                 self.events.add_if(self.book.held.len() > 1, "refill, other paths held");
                 self.events.add_if(self.book.watched(page.host), "refill by a store into a watched frame");
+                if dirty {
+                    "refill, bit 6 set by another"
+                } else {
+                    "refill, bit 6 clear"
+                }
             }
-            _ => {}
+            _ => return,
+        };
+        self.events.add(name);
+        if last.level > 1 {
+            self.events.add(format!("{name}, {} page", size(last.level)));
         }
     }
 
@@ -138,8 +148,12 @@ impl Unit {
         let (depth, part, way) = (met.depth, met.part(), self.way(met));
         self.events.add(format!("W for a bit of level {level} at depth {depth}, {part} part, {way}"));
         let Some(own) = read.iter().find(|read| read.level == level) else { return };
-        if own.entry.lacks(needed_bits(level, request.access)) == DIRTY {
+        if own.entry.lacks(needed_bits(own.entry, level, request.access)) == DIRTY {
             self.events.add(format!("W for bit 6 alone at depth {depth}, {way}"));
+            self.events.add(format!("W for bit 6 alone of level {level}"));
+        }
+        if let Some(large) = walk.large_level() {
+            self.events.add(format!("W for a bit of level {level}, {} page", size(large)));
         }
         let many = lacking(&walk.steps, request.access).len();
         self.events.add_if(many > 1, "W for a bit, a lower table lacks one too");

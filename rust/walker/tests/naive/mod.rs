@@ -15,12 +15,14 @@ pub struct Naive {
 }
 
 /// What a walk yields: the page's host frame or the fault's letter, level and
-/// frame; the level of the entry that lacks a bit, if that is the fault; the number of
-/// all words read, and of those read when each table, and last the page, was found; the
-/// guest words among them, by host frame and index; and the guest frames host-walked.
+/// frame; the level of the entry that lacks a bit, if that is the fault; the level of the
+/// entry of a large page, if it got there; the number of all words read, and of those read
+/// when each table, and last the page, was found; the guest words among them, by host frame
+/// and index; and the guest frames host-walked.
 pub struct Seen {
     pub end: Result<u64, (char, u32, u64)>,
     pub lacks: Option<u32>,
+    pub large: Option<u32>,
     pub reads: u64,
     pub found_at: Vec<u64>,
     pub guest_words: Vec<(u64, u64)>,
@@ -115,7 +117,8 @@ impl Naive {
     pub fn walk(&self, address: u64, is_store: bool) -> Seen {
         let mut seen = self.walk_without_bits(address, is_store);
         if self.bits && seen.end.is_ok() {
-            seen.lacks = (1..=self.levels).rev().find(|level| self.is_stuck(&seen, *level, is_store));
+            let last = seen.large.unwrap_or(1);
+            seen.lacks = (last..=self.levels).rev().find(|level| self.is_stuck(&seen, *level, is_store));
             if let Some(level) = seen.lacks {
                 seen.end = Err(('W', 0, seen.frames[(self.levels - level) as usize]));
             }
@@ -126,7 +129,7 @@ impl Naive {
     /// The same as if no bit were needed.
     pub fn walk_without_bits(&self, address: u64, is_store: bool) -> Seen {
         let (found_at, guest_words, frames) = (vec![], vec![], vec![]);
-        let mut seen = Seen { end: Ok(0), lacks: None, reads: 0, found_at, guest_words, frames };
+        let mut seen = Seen { end: Ok(0), lacks: None, large: None, reads: 0, found_at, guest_words, frames };
         seen.end = self.walk_into(address, is_store, &mut seen);
         seen
     }
@@ -136,7 +139,8 @@ impl Naive {
         let place = (self.levels - level) as usize;
         let (frame, index) = seen.guest_words[place];
         let entry = self.memory[(frame * 512 + index) as usize];
-        let complete = entry / 32 % 2 == 1 && (level > 1 || !is_store || entry / 64 % 2 == 1);
+        let is_last = place + 1 == seen.guest_words.len();
+        let complete = entry / 32 % 2 == 1 && (!is_last || !is_store || entry / 64 % 2 == 1);
         let (table, _) = self.host_walk(seen.frames[place]);
         !complete && table.is_some_and(|table| table & 2 == 0)
     }
@@ -155,13 +159,14 @@ impl Naive {
         let mut frame = self.root;
         let mut level = self.levels;
         let mut rights = 2;
+        let mut is_page = false;
         loop {
             let (host_entry, words) = self.host_walk(frame);
             seen.reads += words;
             seen.frames.push(frame);
             let Some(host_entry) = host_entry else { return Err(('H', 0, frame)) };
             seen.found_at.push(seen.reads);
-            if level == 0 {
+            if is_page {
                 if is_store && host_entry & 2 == 0 {
                     return Err(('W', 0, frame));
                 }
@@ -171,19 +176,27 @@ impl Naive {
             let entry = self.memory[slot];
             seen.reads += 1;
             seen.guest_words.push((slot as u64 / 512, slot as u64 % 512));
-            let reserved: u64 = if self.levels == 4 { 0x000F_0000_0000_0000 } else { 0 };
-            let large: u64 = if level == 1 { 0 } else { 0x80 };
+            let high: u64 = if self.levels == 4 { 0x000F_0000_0000_0000 } else { 0 };
+            // What must be 0, and the frame's bits that the address has.
+            let (reserved, by_address): (u64, u64) = match (level, entry & 0x80) {
+                (2, 0x80) => (high | 0x001F_F000, 0x1FF),
+                (3, 0x80) => (high | 0x3FFF_F000, 0x3_FFFF),
+                (4 | 5, _) => (high | 0x80, 0),
+                _ => (high, 0),
+            };
             if entry & 1 == 0 {
                 return Err(('A', level, 0));
             }
-            if entry & (reserved | large) != 0 {
+            if entry & reserved != 0 {
                 return Err(('M', level, 0));
             }
+            is_page = level == 1 || by_address != 0;
+            seen.large = Some(level).filter(|_| by_address != 0);
             rights &= entry;
-            if level == 1 && is_store && rights == 0 {
-                return Err(('P', 1, 0));
+            if is_page && is_store && rights == 0 {
+                return Err(('P', level, 0));
             }
-            frame = (entry & 0x000F_FFFF_FFFF_F000) / 4096;
+            frame = (entry & 0x000F_FFFF_FFFF_F000) / 4096 + ((address / 4096) & by_address);
             level -= 1;
         }
     }
