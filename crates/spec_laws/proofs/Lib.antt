@@ -20,6 +20,7 @@ pub mod Charges
 pub mod Choice
 pub mod Lower
 pub mod Leaving
+pub mod Ages
 pub mod Least
 pub mod Runs
 pub mod Rules

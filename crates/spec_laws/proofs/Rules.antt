@@ -93,7 +93,7 @@ module _ (c : Config) (ms : List Mark) (ps : List (List ℕ)) (i : MarkRules c m
     once = i .once;
   }
 
-  in-has : (p : List ℕ) → T (any (same p) ps) → T (isSet (leafMark p) ms)
+  pub in-has : (p : List ℕ) → T (any (same p) ps) → T (isSet (leafMark p) ms)
   in-has p h =
       any-has (λ q. T (isSet (leafMark q) ms)) (same p) ps (i .set) h (λ q s t. subst (λ r. T (isSet (leafMark r) ms)) (sym (same-is p q t)) s)
 
@@ -283,7 +283,7 @@ request-rules c m b st a d i =
     request-book (BookRules c) c m b st a d i
     (λ r l e g. fill-book c b (heldBy (upper c d is) s (rightOf c w st d s (r .1))) (all-take (λ j. j < 512) (c .levels - d) is (indexes-all (c .levels) (pageOf a))) i)
 
-storing-book : (c : Config) (i : ℕ) (r : Result Fault Place) (k : Counted) → BookRules c (k .book) → BookRules c ((storing i r k) .book)
+pub storing-book : (c : Config) (i : ℕ) (r : Result Fault Place) (k : Counted) → BookRules c (k .book) → BookRules c ((storing i r k) .book)
 unfolding storing
 storing-book c i (failed x) k h = h
 storing-book c i (granted p) k h = held-book c (k .book) _ (all-kept SmallPath (λ y. not (readsWord (p .0) i y)) (k .book .held) (h .paths)) h
