@@ -7,7 +7,7 @@ use mathlib.Core.Bool.{Bool, true, false, not}
 use mathlib.Core.List.{List, [], _∷_, _++_}
 use mathlib.Core.Option.{Option, none, some}
 use lib.Dec.{T}
-use lib.ListN.{length, replicate}
+use lib.ListN.{length}
 use Rattle.spec.specs.Answer.{Line, ok, value, done, no}
 use Rattle.spec.specs.Config.{Config}
 use Rattle.spec.specs.Prefix.{same, any, keep}
@@ -16,7 +16,7 @@ use Rattle.spec.specs.Book.{Book}
 use Rattle.spec.specs.Choice.{choosing, owned, roomFor}
 use Rattle.spec.specs.Call.{Call, root, map, unmap, setMark, clearMark, load, store, device, forecast, loadWord, storeWord, deviceWord}
 use Rattle.spec.specs.Count.{bookStep}
-use Rattle.spec.specs.Refusal.{tests, refusal, openRefusal}
+use Rattle.spec.specs.Refusal.{tests, refusal}
 use Rattle.spec.specs.Run.{State, told, answered, step, run, opened}
 use Rattle.spec.specs.Computing.{specifying}
 use Rattle.spec.specs.Guest.{code, equal}
@@ -25,12 +25,12 @@ use Rattle.spec.specs.Heard.{bare}
 use Rattle.spec_laws.proofs.Lists.{all-map, keep-all, is-true}
 use Rattle.spec_laws.proofs.Choice.{all-in}
 use Rattle.record.specs.Record.{configBy}
-use Rattle.record.specs.Open.{refusalOf}
 use Rattle.claims.specs.Run.{machineRun}
 use Rattle.wrong_units.specs.Unit.{MemoryUnit, runBy, afterBy, specified, Demand-3, ChoiceUnseen}
 use Rattle.wrong_units.specs.WrongChoice.{toldBy, answeredBy, stepBy, keeping, ourEnters, ourCharges, loadChoosing, storeChoosing, faultsLeftOut, rootKeepsWindow, countedBefore, toTheHighest, chargedForOverflow, devicesCharge, exitForAMark, neverLeaves, orderStep, ordering, ourOrder, lowestLeaves, newestLeaves, ageKept, setRefused, clearRefused, sevenTooEarly, automaticIsSet, clearsAutomatic}
 use Rattle.wrong_units.proofs.Ours.{demand-3-unseen}
-use Rattle.wrong_units.proofs.Refute.{demand-last, unseen-last, differ}
+use Rattle.wrong_units.proofs.Refute.{unseen-last, differ}
+use Rattle.wrong_units.proofs.Zeros.{memory, grants, allMapped, refuted-after}
 
 -- ---- with our own rules machine and book meet the demand: so what is refused below is the change
 
@@ -104,17 +104,9 @@ clear-refused-ours c a n m b = refl
 
 -- ---- the guest
 
--- 14 frames of zeros: 4 for host tables, 5 for shadow tables, so that paths by two tables of level 1 fit and by three do not, 5 for the guest
-abbrev memory : List ℕ
-memory = replicate 7168 0
-
-grants : refusalOf (length memory) 4 5 false ≡ 0
-unfolding refusalOf openRefusal
-grants = refl
-
 -- each run begins so: the guest's frames are mapped, and its tables are written by device stores
 begin : List Call
-begin = mapped (configBy (length memory) 4 5 false) 5 0 ++ guest
+begin = allMapped ++ guest
 
 -- n marks of the operator's, at prefixes that the guest does not use
 operators : ℕ → List Call
@@ -133,7 +125,7 @@ booking = 0
 -- a unit that after such a beginning and the calls xs says one line to the call x, and the specification another
 refuted : (u : MemoryUnit) (xs : List Call) (x : Call) (wrong right : Line) → (u .call x (afterBy u (begin ++ xs) (u .opens memory 4 5 false true))) .0 ≡ wrong
     → (step x (specified memory 4 5 false true (begin ++ xs))) .0 ≡ right → T (not (equal (code wrong) (code right))) → Demand-3 u → ⊥
-refuted u xs x wrong right w r t d = differ wrong right t (sym w ∙ demand-last u d memory 4 5 false true (begin ++ xs) x grants ∙ r)
+refuted u xs = refuted-after true u (begin ++ xs)
 
 -- ---- the window
 
