@@ -18,8 +18,8 @@ use Rattle.spec.specs.Prefix.{All, same, any, keep}
 use Rattle.spec.specs.Walk.{Result, granted, failed}
 use Rattle.spec.specs.Plain.{Place}
 use Rattle.spec.specs.Machine.{Machine}
-use Rattle.spec.specs.Book.{Mark, Book, Window, markAt, isSet}
-use Rattle.spec.specs.Choice.{charges, chargeOf, leafMark, isAutomatic, leaving, withdrawn, roomMade, entered, observed, operated}
+use Rattle.spec.specs.Book.{Mark, Book, Window, markAt}
+use Rattle.spec.specs.Choice.{charges, chargeOf, isAutomatic, leaving, withdrawn, roomMade, entered, observed, operated}
 use Rattle.spec.specs.Call.{Call, root, map, unmap, setMark, clearMark, load, store, device, forecast, addressIndexes, verdict}
 use Rattle.spec.specs.Count.{Counted, requestDepth, request, storing, bookStep}
 use Rattle.spec.specs.Refusal.{refusal}

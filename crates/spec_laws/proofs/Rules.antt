@@ -18,7 +18,7 @@ use Rattle.spec.specs.Prefix.{All, begins, same, any, keep}
 use Rattle.spec.specs.Walk.{Result, granted, failed, trace}
 use Rattle.spec.specs.Plain.{Place, upper, shadowPart}
 use Rattle.spec.specs.Machine.{Machine, world}
-use Rattle.spec.specs.Book.{Mark, Held, Book, Window, markAt, sameMark, isSet, depth, marking, unmarking, holding, fill, readsWord, usesMapping}
+use Rattle.spec.specs.Book.{Mark, Held, Book, Window, markAt, sameMark, isSet, marking, unmarking, holding, fill, readsWord, usesMapping}
 use Rattle.spec.specs.Choice.{windowRoom, chargeOf, leafMark, isAutomatic, owned, full, leaving, withdrawn, withdrawnBy, roomMade, appointed, entered, observed, operated, isSome, roomFor}
 use Rattle.spec.specs.Call.{Call, root, map, unmap, setMark, clearMark, load, store, device, forecast, addressIndexes, verdict}
 use Rattle.spec.specs.Count.{Counted, heldBy, rightOf, others, requestDepth, request, storing, bookStep}

@@ -3,11 +3,10 @@
 use mathlib.Core.Path.{_≡_, refl, sym, _∙_}
 use Prim.Native.Nat.{ℕ}
 use mathlib.Core.Bool.{Bool, false, not}
-use mathlib.Core.List.{List, _++_}
+use mathlib.Core.List.{List}
 use lib.Dec.{T}
 use lib.ListN.{length, replicate}
 use Rattle.spec.specs.Answer.{Line}
-use Rattle.spec.specs.Config.{Config}
 use Rattle.spec.specs.Call.{Call}
 use Rattle.spec.specs.Refusal.{openRefusal}
 use Rattle.spec.specs.Run.{step}

@@ -552,7 +552,10 @@ fn the_oldest_makes_room() {
     };
     for again in [false, true] {
         let (mut unit, mut memory) = guest_with(AUTOMATIC);
-        assert_eq!(unit.device_store(&mut memory, 0x2010, 8, 0x3003), Answer::Done { references: 4, exits: 0 });
+        assert_eq!(
+            unit.device_store(&mut memory, 0x2010, 8, 0x3003),
+            Answer::Done { references: 4, exits: 0 }
+        );
         let mut order = [0x20_0000, 0, 0x40_0000];
         for page in order {
             (0..3).for_each(|_| charge(&mut unit, &mut memory, page));
