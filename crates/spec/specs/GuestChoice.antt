@@ -97,9 +97,13 @@ lowestLines =
     answers (start true (config 4 5 64) guest) (times 3 (loadWord 0 ∷ loadWord 0x200000 ∷ low ∷ []) ++ (loadWord 0 ∷ loadWord 0x200000 ∷ []))
     (value 0 4 1 ∷ value 0 4 1 ∷ done 4 2 ∷ times 2 (value 0 4 1 ∷ value 0 4 1 ∷ done 4 1 ∷ []) ++ (value 0 8 1 ∷ value 0 4 1 ∷ []))
 
+-- three charges by the store x to the prefix of the page a
+unfoldable pub thrice : Call → ℕ → List Call
+thrice x a = times 3 (loadWord a ∷ x ∷ [])
+
 -- with a mark for the prefix of the store x, three charges to that of a and to that of b
 unfoldable pub charging : Call → ℕ → ℕ → List Call
-charging x a b = times 3 (loadWord a ∷ x ∷ []) ++ times 3 (loadWord b ∷ x ∷ []) ++ (loadWord 0 ∷ loadWord 0x200000 ∷ [])
+charging x a b = thrice x a ++ thrice x b ++ (loadWord 0 ∷ loadWord 0x200000 ∷ [])
 
 unfoldable pub chargingLines : List Line
 chargingLines = value 0 4 1 ∷ done 8 2 ∷ times 5 (value 0 4 1 ∷ done 8 1 ∷ [])
@@ -119,7 +123,7 @@ roomLines =
 
 -- three charges each to (0, 0, 1), (0, 0, 0) and (0, 0, 2) in turn set their marks, that of the middle address first
 unfoldable pub three : List Call
-three = times 3 (loadWord 0x200000 ∷ high ∷ []) ++ times 3 (loadWord 0 ∷ high ∷ []) ++ times 3 (loadWord 0x400000 ∷ high ∷ [])
+three = thrice high 0x200000 ++ thrice high 0 ++ thrice high 0x400000
 
 -- that first one becomes the operator's, is cleared, and is set again at its next charge; then the root load leaves none of them a charge
 unfoldable pub again : List Call
@@ -135,7 +139,7 @@ leavingLines =
     let two : State = start true (config 4 4 2) guest in
     let ties : State = after three (start true (config 4 4 3) guest) in
     -- three charges each: the mark that was set first leaves, whether its address is the higher or the lower one
-    answers two (times 3 (loadWord 0x200000 ∷ high ∷ []) ++ charging high 0 0x400000) (thriceLines ++ chargingLines ++ (value 0 8 1 ∷ value 0 4 1 ∷ []))
+    answers two (thrice high 0x200000 ++ charging high 0 0x400000) (thriceLines ++ chargingLines ++ (value 0 8 1 ∷ value 0 4 1 ∷ []))
     && answers two (charges 3 ++ charging low 0x200000 0x400000) (thriceLines ++ chargingLines ++ (value 0 4 1 ∷ value 0 8 1 ∷ []))
     -- of three too; one that is set again is the newest, and the next one leaves
     && answers ties pressing (ok ∷ value 0 8 1 ∷ value 0 4 1 ∷ value 0 8 1 ∷ [])
@@ -172,7 +176,7 @@ deepLines =
 
 -- what has to be opened to compute the lines
 choosing : ℕ
-unfolding specifying answers config mapped start guest times low high charges thriceLines afterwards chargeLines windowLines lowestLines charging chargingLines roomLines three again pressing leavingLines ruleLines deepLines
+unfolding specifying answers config mapped start guest times low high charges thriceLines afterwards chargeLines windowLines lowestLines thrice charging chargingLines roomLines three again pressing leavingLines ruleLines deepLines
 choosing = 0
 
 pub charges-hold : T (chargeLines (start true (config 4 4 64) guest) (start false (config 4 4 64) guest))

@@ -15,7 +15,7 @@ use Rattle.spec.specs.declared.Fault.{Fault}
 use Rattle.spec.specs.Config.{Config}
 use Rattle.spec.specs.Entry.{wordOf}
 use Rattle.spec.specs.Prefix.{All, same, any, keep}
-use Rattle.spec.specs.Walk.{Result, granted, failed}
+use Rattle.spec.specs.Walk.{Result}
 use Rattle.spec.specs.Plain.{Place}
 use Rattle.spec.specs.Machine.{Machine}
 use Rattle.spec.specs.Book.{Mark, Book, Window, markAt}
@@ -27,9 +27,9 @@ use Rattle.spec.specs.Run.{State, answered, step, after, opened}
 use Rattle.spec_laws.proofs.Lists.{all-any, all-map, all-both, keep-all, all-append, all-right, all-kept, is-true, is-false}
 use Rattle.spec_laws.proofs.Charges.{IfSome, bare-unset}
 use Rattle.spec_laws.proofs.Choice.{all-in, room-has, observed-has}
-use Rattle.spec_laws.proofs.Runs.{BookFits, request-book, request-keeps, step-fits, opened-fits}
-use Rattle.spec_laws.proofs.Rules.{BookRules, ChargeRules, in-has, request-rules, storing-book, stored-charge, step-rules, opened-rules}
-use Rattle.spec_laws.proofs.Leaving.{LastLeast, leaving-oldest}
+use Rattle.spec_laws.proofs.Runs.{BookFits, request-book, stored-book, request-keeps, step-fits, opened-fits}
+use Rattle.spec_laws.proofs.Rules.{BookRules, ChargeRules, in-has, request-rules, storing-rules, stored-charge, step-rules, opened-rules}
+use Rattle.spec_laws.proofs.Least.{LastLeast, last-least}
 
 -- ---- ages
 
@@ -157,9 +157,7 @@ observed-turns c x b f =
     record { stays = r .stays; new = some p; fresh = subst (IfSome (λ p. any (same p) (b .automatic) ≡ false)) e f; is = ap (λ qs. p ∷ qs) (r .is) })
 
 storing-automatic : (i : ℕ) (r : Result Fault Place) (k : Counted) → (storing i r k) .book .automatic ≡ k .book .automatic
-unfolding storing
-storing-automatic i (failed x) k = refl
-storing-automatic i (granted p) k = refl
+storing-automatic i r k = stored-book (λ b. b .automatic ≡ k .book .automatic) i r k refl (λ t. refl)
 
 request-automatic : (c : Config) (m : Machine) (b : Book) (st : Bool) (a d : ℕ) → (request c m b st a d) .book .automatic ≡ b .automatic
 request-automatic c m b st a d = request-book (λ k. k .automatic ≡ b .automatic) c m b st a d refl (λ r l e g. refl)
@@ -199,7 +197,7 @@ step-turns x s f i = go (refusal c x m b)
         let d = (storing (wordOf a) r k) .book in
         let x = chargeOf c (wordOf a) r (k .book .held) in
         subst (λ ps. Turns ps ((observed c x d) .automatic)) (storing-automatic (wordOf a) r k ∙ request-automatic c m b true a (requestDepth c m b a))
-        (observed-turns c x d (charge-fresh c d x (storing-book c (wordOf a) r k rules) (stored-charge c (wordOf a) r k (request-keeps c m b true a f) rules)))
+        (observed-turns c x d (charge-fresh c d x (storing-rules c (wordOf a) r k rules) (stored-charge c (wordOf a) r k (request-keeps c m b true a f) rules)))
     by (device a w v) = subst (λ ps. Turns (b .automatic) ps) (sym (storing-automatic (wordOf a) _ _)) (unmoved (b .automatic))
     by (forecast xs) = unmoved (b .automatic)
 
@@ -235,7 +233,7 @@ pub oldest-leaves : (c : Config) (on : Bool) (memory : List ℕ) (xs : List Call
     → let s = opened c on memory in
     let ps = (after xs s) .book .automatic in
     IfSome (Oldest w (pastOf xs s []) ps) (leaving w ps)
-oldest-leaves c on memory xs w = go (leaving w ps) (leaving-oldest w ps)
+oldest-leaves c on memory xs w = go (leaving w ps) (last-least (λ q. charges q w) ps)
   where
     past : Past
     past = pastOf xs (opened c on memory) []

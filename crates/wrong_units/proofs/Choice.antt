@@ -20,7 +20,7 @@ use Rattle.spec.specs.Refusal.{tests, refusal}
 use Rattle.spec.specs.Run.{State, told, answered, step, run, opened}
 use Rattle.spec.specs.Computing.{specifying}
 use Rattle.spec.specs.Guest.{code, equal}
-use Rattle.spec.specs.GuestChoice.{mapped, guest, times, low, high, charges, three, again}
+use Rattle.spec.specs.GuestChoice.{mapped, guest, times, low, high, charges, thrice, three, again}
 use Rattle.spec.specs.Heard.{bare}
 use Rattle.spec_laws.proofs.Lists.{all-map, keep-all, is-true}
 use Rattle.spec_laws.proofs.Choice.{all-in}
@@ -119,7 +119,7 @@ beside n = charges 3 ++ operators n
 
 -- what has to be opened to compute a run
 booking : ℕ
-unfolding specifying afterBy stepBy loadChoosing storeChoosing orderStep setRefused clearRefused mapped guest times low high charges three again begin operators beside
+unfolding specifying afterBy stepBy loadChoosing storeChoosing orderStep setRefused clearRefused mapped guest times low high charges thrice three again begin operators beside
 booking = 0
 
 -- a unit that after such a beginning and the calls xs says one line to the call x, and the specification another

@@ -206,9 +206,10 @@ fn mark_set_clear(unit: &mut Record, memory: &mut [u64]) {
 /// The operator's mark finds the table full, and the oldest of three automatic marks with three charges each leaves. Then all three
 /// are set anew, in their order.
 fn mark_makes_room(unit: &mut Record, memory: &mut [u64]) {
-    assert_eq!(counted::set_mark(unit, memory, elsewhere(61), 1), Answer::Ok);
+    let more = elsewhere(unit.place.len() as u64);
+    assert_eq!(counted::set_mark(unit, memory, more, 1), Answer::Ok);
     assert_eq!(unit.depth(MARKED[0]).depth, 0);
-    assert_eq!(unit.clear_mark(memory, elsewhere(61), 1), Answer::Ok);
+    assert_eq!(unit.clear_mark(memory, more, 1), Answer::Ok);
     for address in &MARKED[1..] {
         assert_eq!(unit.set_mark(memory, *address, 1), Answer::Ok);
         assert_eq!(unit.clear_mark(memory, *address, 1), Answer::Ok);
@@ -350,8 +351,8 @@ fn set_automatic(unit: &mut Record, memory: &mut [u64]) {
 fn three_automatic() -> Guest {
     let Guest { mut unit, mut memory } = self_mapped(AUTOMATIC);
     set_automatic(&mut unit, &mut memory);
-    for number in 0..61 {
-        assert_eq!(unit.set_mark(&mut memory, elsewhere(number), 1), Answer::Ok);
+    for number in MARKED.len()..unit.place.len() {
+        assert_eq!(unit.set_mark(&mut memory, elsewhere(number as u64), 1), Answer::Ok);
     }
     Guest { unit, memory }
 }
