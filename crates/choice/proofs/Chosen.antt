@@ -24,7 +24,6 @@ use Rattle.spec.specs.Call.{setMark, clearMark, addressIndexes}
 use Rattle.spec.specs.Refusal.{firstFailed, addressFits, levelFits, tests, refusal}
 use Rattle.spec_laws.proofs.Lists.{all-map, all-any, all-both, all-kept, all-append, and-first, and-second}
 use Rattle.spec_laws.proofs.Indexes.{eqb-sym, indexes-low, indexes-same}
-use Rattle.spec_laws.proofs.Lower.{lower-is}
 use Rattle.spec_laws.proofs.Charges.{IfSome, first-has}
 use Rattle.spec_laws.proofs.Choice.{keep-same, keep-most, any-gone}
 use Rattle.entry.specs.Levels.{ofLevels}
@@ -41,7 +40,7 @@ use Rattle.marks.proofs.Book.{keysOf, marks-count, Sorted, sorted-fits, its-mar
 use Rattle.choice.specs.declared.Tally.{Tally}
 use Rattle.choice.specs.declared.Choice.{Choice}
 use Rattle.choice.specs.Window.{room, shifted, requestedOf, emptiedOf, tallyCharged, chargedOf, withCharged, unroll, prefixIn, chargesOf}
-use Rattle.choice.specs.Order.{orderFits, automaticAt, prefixAt, leavesBefore, leavingOf, placeBy, withOrder, ordered, withoutOf, withOf, movedOf}
+use Rattle.choice.specs.Order.{orderFits, automaticAt, chargesAt, leavesBefore, leavingOf, placeBy, withOrder, ordered, withoutOf, withOf, movedOf}
 use Rattle.choice.specs.Refusal.{ownedIn, roomIn, setTests, setRefusal, clearTests, clearRefusal}
 use Rattle.choice.proofs.Ring.{keep-reverse, map-reverse, map-take, map-set, map-unroll, keep-map}
 use Rattle.choice.proofs.Automatic.{indexesAt, LeafPlace, all-made, all-reverse, any-mapped, eqb-agree, in-has, kept-set, leaf-is, apart, mapped-two, kept-apart, more-apart, none-equal, still-placed, key-in, same-key, placed-each, placed-apart, placed-from, placed-few, with-keys, first-mapped, each-in, without-found, place-self, leaf-at, prefix-small, prefixes-same}
@@ -368,22 +367,16 @@ leaving-some none l = absurd (omega arith)
 leaving-some (some i) l = refl
 
 module _ (c : Config) (x : Choice) (t : Marks) (b : Book) (h : Chosen c x t b) (fits : keysFit (c .levels) (keysOf t) ≡ true) where
-  abbrev count-of : ℕ → ℕ
-  count-of p = chargesOf (c .levels) (x .ring) (x .tally) p
-
-  before-by : (p q : ℕ) → p < 2 ^ (9 * (c .levels - 1)) → q < 2 ^ (9 * (c .levels - 1))
-      → goesBefore (b .window) (indexes (c .levels - 1) p) (indexes (c .levels - 1) q)
-      ≡ (ltb (count-of p) (count-of q) || (eqb (count-of p) (count-of q) && ltb p q))
-  before-by p q lp lq =
-      rw (← charges-are c x t b h p lp, ← charges-are c x t b h q lq, lower-is (c .levels - 1) p q lp lq)
+  count-at : (i : ℕ) → LeafPlace (t .place) (t .set) i
+      → charges (indexesAt (c .levels) (t .place) i) (b .window) ≡ chargesAt (c .levels) (x .ring) (x .tally) (t .place) i
+  count-at i p =
+      sym (charges-are c x t b h (getD (t .place) i 0 / 8) (prefix-small (c .levels) t fits i p))
+      ∙ ap (λ m. chargesOf (c .levels) (x .ring) (x .tally) (getD (t .place) m 0 / 8)) (sym (mod-eq-of-lt (p .inside)))
 
   before-is : (i j : ℕ) → LeafPlace (t .place) (t .set) i → LeafPlace (t .place) (t .set) j
       → goesBefore (b .window) (indexesAt (c .levels) (t .place) i) (indexesAt (c .levels) (t .place) j)
       ≡ leavesBefore (c .levels) (x .ring) (x .tally) (t .place) i j
-  before-is i j p q =
-      let at : (l : ℕ) → l < room → getD (t .place) l 0 / 8 ≡ prefixAt (t .place) l = λ l g. ap (λ m. getD (t .place) m 0 / 8) (sym (mod-eq-of-lt g)) in
-      before-by (getD (t .place) i 0 / 8) (getD (t .place) j 0 / 8) (prefix-small (c .levels) t fits i p) (prefix-small (c .levels) t fits j q)
-      ∙ ap₂ (λ m n. ltb (count-of m) (count-of n) || (eqb (count-of m) (count-of n) && ltb m n)) (at i (p .inside)) (at j (q .inside))
+  before-is i j p q = ap₂ ltb (count-at i p) (count-at j q)
 
   pub leaving-is : leaving (b .window) (b .automatic)
       ≡ Option·map (indexesAt (c .levels) (t .place)) (leavingOf (c .levels) (x .ring) (x .tally) (x .order) (t .place))

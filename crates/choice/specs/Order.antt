@@ -42,12 +42,12 @@ automaticAt count order i = any (eqb i) (take count order)
 abbrev pub prefixAt : List ℕ → ℕ → ℕ
 prefixAt place i = getD place (i % room) 0 / 8
 
--- does the mark at i leave before that at j? It has fewer charges, or as many and the lower address
+abbrev pub chargesAt : ℕ → List ℕ → Tally → List ℕ → ℕ → ℕ
+chargesAt n ring t place i = chargesOf n ring t (prefixAt place i)
+
+-- does the mark at i leave before that at j? It has fewer charges; of two with as many the one that was set before the other leaves
 abbrev pub leavesBefore : ℕ → List ℕ → Tally → List ℕ → ℕ → ℕ → Bool
-leavesBefore n ring t place i j =
-    let a : ℕ = chargesOf n ring t (prefixAt place i) in
-    let b : ℕ = chargesOf n ring t (prefixAt place j) in
-    ltb a b || (eqb a b && ltb (prefixAt place i) (prefixAt place j))
+leavesBefore n ring t place i j = ltb (chargesAt n ring t place i) (chargesAt n ring t place j)
 
 unfoldable pub leavingOf : ℕ → List ℕ → Tally → List ℕ → List ℕ → Option ℕ
 leavingOf n ring t order place = firstOf (leavesBefore n ring t place) (reverse (take (t .count) order))

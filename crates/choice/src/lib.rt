@@ -5,7 +5,7 @@ ghost use mathlib.Core.Path.{_≡_};
 ghost use Prim.Native.Nat.{_<_, _≤_, _%_};
 ghost use lib.ListN.{length, take, set, getD};
 ghost use Rattle.choice.specs.Window.{room, shifted, requestedOf, emptiedOf, tallyCharged, prefixIn, chargesOf};
-ghost use Rattle.choice.specs.Order.{entryFits, orderFits, choiceFits, automaticAt, prefixAt, leavesBefore, leavingOf, placeBy, withCount, but, fronted, countWith, orderWith, relocated};
+ghost use Rattle.choice.specs.Order.{entryFits, orderFits, choiceFits, automaticAt, prefixAt, chargesAt, leavingOf, placeBy, withCount, but, fronted, countWith, orderWith, relocated};
 ghost use Rattle.choice.specs.Refusal.{ownedIn, roomIn, setRefusal, clearRefusal};
 ghost use Rattle.marks.specs.Table.{number};
 
@@ -190,32 +190,16 @@ pub fn prefix_at(place: &[u64; 64], at: u64) -> u64
     place[(at % 64) as usize] / 8
 }
 
-// Does the mark at one place leave before that at another?
-fn leaves_before(
-    ring: &[u64; 64],
-    t: Tally,
-    place: &[u64; 64],
-    levels: u64,
-    one: u64,
-    other: u64,
-) -> bool
+// How many charges the mark of level 1 at a place has.
+fn charges_at(ring: &[u64; 64], t: Tally, place: &[u64; 64], levels: u64, at: u64) -> u64
     requires { ⌜ levels < 6 ⌝ }
-    ensures { λ r. ⌜ r ≡ leavesBefore levels (now (ring .entry)) t (now (place .entry)) one other ⌝ }
+    ensures { λ r. ⌜ r ≡ chargesAt levels (now (ring .entry)) t (now (place .entry)) at ⌝ }
 {
-    let p = prefix_at(place, one);
-    let q = prefix_at(place, other);
-    let a = charges(ring, t, levels, p);
-    let b = charges(ring, t, levels, q);
-    if a < b {
-        return true;
-    }
-    if a == b {
-        return p < q;
-    }
-    false
+    charges(ring, t, levels, prefix_at(place, at))
 }
 
-// The place of the automatic mark that leaves where room is needed; 64 where there is none.
+// The place of the automatic mark that leaves where room is needed, 64 where there is none. From the oldest on, each has to have fewer
+// charges than those before it: so of those with the fewest the oldest leaves.
 pub fn leaving<'a>(
     ring: &'a [u64; 64],
     t: Tally,
@@ -232,11 +216,14 @@ pub fn leaving<'a>(
     whole(order);
     let end = t.count as usize;
     let mut best = order[0];
+    let mut fewest = charges_at(ring, t, place, levels, best);
     let mut i: usize = 1;
     while i < end {
         let at = order[i];
-        if leaves_before(ring, t, place, levels, at, best) {
+        let many = charges_at(ring, t, place, levels, at);
+        if many < fewest {
             best = at;
+            fewest = many;
         }
         i += 1;
     }

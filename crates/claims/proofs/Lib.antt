@@ -23,6 +23,7 @@ pub mod Safety
 pub mod Plain
 pub mod ByDepth
 pub mod Lookups
+pub mod Oldest
 pub mod Bytes
 pub mod Numbers
 pub mod Serving

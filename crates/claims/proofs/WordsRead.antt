@@ -22,7 +22,7 @@ use Rattle.spec.specs.Plain.{Place, Lead, to, into, isSpan, must, hosted, entry
 use Rattle.spec.specs.Bits.{isLast, withBits, lacks, owed}
 use Rattle.spec.specs.Refusal.{inGuestArea}
 use Rattle.spec.specs.Prefix.{All}
-use Rattle.spec_laws.proofs.Lists.{all-map, all-any, all-left, is-true, is-false, all-append}
+use Rattle.spec_laws.proofs.Lists.{all-map, all-any, all-left, is-true, is-false, all-append, all-right}
 use Rattle.spec_laws.proofs.Indexes.{indexes-length, indexes-all, indexes-split}
 use Rattle.spec_laws.proofs.Asks.{AnswerIn, Guest}
 use Rattle.spec_laws.proofs.Local as answers
@@ -71,10 +71,6 @@ use Rattle.words.specs.After.{After, yields}
 use Rattle.spec_laws.proofs.Keeps.{InGuestArea, area-real}
 
 -- ---- lists of words
-
-all-rest : {A : Type 0} (P : A → Type 0) (xs ys : List A) → All P (xs ++ ys) → All P ys
-all-rest P [] ys h = h
-all-rest P (x ∷ xs) ys h = all-rest P xs ys (h .1)
 
 -- equal words have equal entries
 same-entries : (m n : List ℕ) (xs : List Word) → SameWords m n xs → All (SameEntry m n) xs
@@ -201,7 +197,7 @@ walk-local c ht m n (done a) j h s = walked-done c ht n j (a .0) (a .1) ∙ sym 
 walk-local c ht m n (fail x) j h s = walked-fail c ht n j x h ∙ sym (walked-fail c ht m j x h)
 walk-local c ht m n (host g k) j h s =
     walked-host c ht n j g k (h .0) ∙ ap (onHost c ht n j g k) (host-local c ht m n g (all-left _ (hostWords c ht m g) (walkWords c ht m (k (placeOf (hostWalkOf c ht m g)))) s))
-    ∙ go (hostWalkOf c ht m g) (all-rest _ (hostWords c ht m g) (walkWords c ht m (k (placeOf (hostWalkOf c ht m g)))) s) (λ r q. walk-local c ht m n (k (some r)) (j + c .levels) (h .1 r) q)
+    ∙ go (hostWalkOf c ht m g) (all-right _ (hostWords c ht m g) (walkWords c ht m (k (placeOf (hostWalkOf c ht m g)))) s) (λ r q. walk-local c ht m n (k (some r)) (j + c .levels) (h .1 r) q)
     ∙ sym (walked-host c ht m j g k (h .0))
   where
     go : (x : HostWalk) → SameWords m n (walkWords c ht m (k (placeOf x)))
@@ -222,7 +218,7 @@ trace-alike c ht m n (done a) s = record { hosts = tt; words = tt }
 trace-alike c ht m n (fail x) s = record { hosts = tt; words = tt }
 trace-alike c ht m n (host g k) s =
     let x = host-local c ht m n g (all-left _ (hostWords c ht m g) (walkWords c ht m (k (placeOf (hostWalkOf c ht m g)))) s) in
-    let ih = trace-alike c ht m n (k (placeOf (hostWalkOf c ht m g))) (all-rest _ (hostWords c ht m g) (walkWords c ht m (k (placeOf (hostWalkOf c ht m g)))) s) in
+    let ih = trace-alike c ht m n (k (placeOf (hostWalkOf c ht m g))) (all-right _ (hostWords c ht m g) (walkWords c ht m (k (placeOf (hostWalkOf c ht m g)))) s) in
     record { hosts = ((ap placeOf x, ap (readsOf c) x), ih .hosts); words = ih .words }
 trace-alike c ht m n (word t i k) s =
     let ih = trace-alike c ht m n (k (wordIn m t i)) (s .1) in
@@ -745,19 +741,19 @@ module _ (r : Record) (st : Bool) (a d : ℕ) where
 
   -- ---- and there it has the same depth
 
-  abbrev μ : ℕ
-  μ = depthAt r a
+  abbrev marked : ℕ
+  marked = depthAt r a
 
   abbrev upward : List ℕ
-  upward = pathIndexes c μ a
+  upward = pathIndexes c marked a
 
   abbrev top : ℕ
   top = r .pools .shadow .top
 
-  whole-path : μ ≤ c .levels → pathIndexes c 0 a ≡ upward ++ indexes μ (pageOf a)
+  whole-path : marked ≤ c .levels → pathIndexes c 0 a ≡ upward ++ indexes marked (pageOf a)
   whole-path l =
-      let k : c .levels - 0 ≡ c .levels - μ + μ = omega (arith, l) in
-      ap₂ indexes k (div-one (pageOf a)) ∙ indexes-split (c .levels - μ) μ (pageOf a)
+      let k : c .levels - 0 ≡ c .levels - marked + marked = omega (arith, l) in
+      ap₂ indexes k (div-one (pageOf a)) ∙ indexes-split (c .levels - marked) marked (pageOf a)
 
   in-shadow : (m : List ℕ) (k : ℕ) → k < c .levels → foundOf c m hold a k ≡ namedBy c (lookupOf (c .hosts) (c .shadows) m top (pathIndexes c k a) 0)
   unfolding foundOf shadowed
@@ -768,38 +764,38 @@ module _ (r : Record) (st : Bool) (a d : ℕ) where
   shadow-words m k l = ap (λ b. cond b (entriesRead (c .hosts) (c .shadows) m top (pathIndexes c k a)) []) (lt-ltb k (c .levels) l)
 
   abbrev turned : List ℕ → HostWalk → ℕ
-  turned m = depthBy c ht m rt a μ
+  turned m = depthBy c ht m rt a marked
 
-  module _ (m n : List ℕ) (t : HostPhysical) (w : Bool) (f : foundIn m ≡ hosts.Found t w) (s : SameWords m n (pathWords r m a d)) (up : μ < c .levels) where
+  module _ (m n : List ℕ) (t : HostPhysical) (w : Bool) (f : foundIn m ≡ hosts.Found t w) (s : SameWords m n (pathWords r m a d)) (up : marked < c .levels) where
     -- what the shorter path of a large page meets is met again
-    upward-local : d ≡ 0 → foundOf c n hold a μ ≡ foundOf c m hold a μ
+    upward-local : d ≡ 0 → foundOf c n hold a marked ≡ foundOf c m hold a marked
     upward-local e =
         let words = subst (λ is. SameWords m n (entriesRead (c .hosts) (c .shadows) m top is)) (whole-path (omega (arith, up)))
         (subst (SameWords m n) (shadow-words m 0 (omega (arith, up))) (subst (λ k. SameWords m n (pathWords r m a k)) e s)) in
-        in-shadow n μ up
+        in-shadow n marked up
         ∙ ap (namedBy c) (look-local (c .hosts) (c .shadows) m n upward top 0 (same-entries m n (entriesRead (c .hosts) (c .shadows) m top upward)
-        (shorter-read _ (c .hosts) (c .shadows) m upward (indexes μ (pageOf a)) top words)))
-        ∙ sym (in-shadow m μ up)
+        (shorter-read _ (c .hosts) (c .shadows) m upward (indexes marked (pageOf a)) top words)))
+        ∙ sym (in-shadow m marked up)
 
     -- and something is met
-    absent-none : (k : ℕ) → d ≡ 0 → foundOf c m hold a μ ≡ hosts.Absent k → ⊥
+    absent-none : (k : ℕ) → d ≡ 0 → foundOf c m hold a marked ≡ hosts.Absent k → ⊥
     absent-none k e q =
-        absent-above c (lookupOf (c .hosts) (c .shadows) m top upward 0) k (sym (in-shadow m μ up) ∙ q)
-        (shown-above (c .hosts) (c .shadows) m upward (indexes μ (pageOf a)) top 0
+        absent-above c (lookupOf (c .hosts) (c .shadows) m top upward 0) k (sym (in-shadow m marked up) ∙ q)
+        (shown-above (c .hosts) (c .shadows) m upward (indexes marked (pageOf a)) top 0
         (subst (λ is. Ended (lookupOf (c .hosts) (c .shadows) m top is 0)) (whole-path (omega (arith, up)))
         (ended c (lookupOf (c .hosts) (c .shadows) m top (pathIndexes c 0 a) 0) t w (sym (in-shadow m 0 (omega (arith, up))) ∙ ap (foundOf c m hold a) (sym e) ∙ f))))
 
     -- a walk in place of a held path says the marks' depth, or 0
-    soon : (x : Walked) → (soonBy c μ x ≡ μ) ⊎ (soonBy c μ x ≡ 0)
+    soon : (x : Walked) → (soonBy c marked x ≡ marked) ⊎ (soonBy c marked x ≡ 0)
     soon (walked.Arrived v p k) = go (isSpan c (p .0))
       where
-        go : (b : Bool) → (cond b 0 μ ≡ μ) ⊎ (cond b 0 μ ≡ 0)
+        go : (b : Bool) → (cond b 0 marked ≡ marked) ⊎ (cond b 0 marked ≡ 0)
         go true = inr refl
         go false = inl refl
     soon (walked.Faulted y k) = inl refl
     soon walked.Damaged = inl refl
 
-    turned-local : (x : HostWalk) → foundOf c m hold a μ ≡ x → turned m x ≡ d → turned n (foundOf c n hold a μ) ≡ d
+    turned-local : (x : HostWalk) → foundOf c m hold a marked ≡ x → turned m x ≡ d → turned n (foundOf c n hold a marked) ≡ d
     unfolding walkedDepth
     turned-local (hosts.Found p v) q e = ap (turned n) (subst (λ k. foundOf c n hold a k ≡ foundOf c m hold a k) (sym e) (found-local m n s) ∙ q) ∙ e
     turned-local (hosts.Absent k) q e = elim (soon (walkedOf c ht m 0 (walk c false rt upward))) [
@@ -810,43 +806,43 @@ module _ (r : Record) (st : Bool) (a d : ℕ) where
 
   depth-local : (m n : List ℕ) → 3 ≤ c .levels → At m → (t : HostPhysical) (w : Bool) → foundIn m ≡ hosts.Found t w → SameWords m n (pathWords r m a d) → At n
   unfolding depthOf mayTurn
-  depth-local m n three at t w f s = go (eqb μ 0) (ltb μ 3) refl at
+  depth-local m n three at t w f s = go (eqb marked 0) (ltb marked 3) refl at
     where
-      go : (z l : Bool) → ltb μ 3 ≡ l → cond (cond z false l) (turned m (foundOf c m hold a μ)) μ ≡ d → cond (cond z false l) (turned n (foundOf c n hold a μ)) μ ≡ d
+      go : (z l : Bool) → ltb marked 3 ≡ l → cond (cond z false l) (turned m (foundOf c m hold a marked)) marked ≡ d → cond (cond z false l) (turned n (foundOf c n hold a marked)) marked ≡ d
       go true l q e = e
       go false false q e = e
-      go false true q e = turned-local m n t w f s (omega (arith, ltb-true μ 3 q, three)) (foundOf c m hold a μ) refl e
+      go false true q e = turned-local m n t w f s (omega (arith, ltb-true marked 3 q, three)) (foundOf c m hold a marked) refl e
 
   -- at depth N + 1 the marks say it
   marks-local : (m n : List ℕ) → 3 ≤ c .levels → c .levels < d → At m → At n
   unfolding depthOf mayTurn walkedDepth
-  marks-local m n three l at = go (eqb μ 0) (ltb μ 3) refl at
+  marks-local m n three l at = go (eqb marked 0) (ltb marked 3) refl at
     where
-      low : (x : Walked) → soonBy c μ x ≤ μ
+      low : (x : Walked) → soonBy c marked x ≤ marked
       low (walked.Arrived v p k) = by (isSpan c (p .0))
         where
-          by : (b : Bool) → cond b 0 μ ≤ μ
+          by : (b : Bool) → cond b 0 marked ≤ marked
           by true = omega arith
           by false = omega arith
       low (walked.Faulted y k) = omega arith
       low walked.Damaged = omega arith
 
-      most : (x : HostWalk) → turned m x ≤ μ
+      most : (x : HostWalk) → turned m x ≤ marked
       most (hosts.Found p v) = omega arith
       most (hosts.Absent k) = low (walkedOf c ht m 0 (walk c false rt upward))
       most hosts.Damaged = omega arith
 
-      go : (z b : Bool) → ltb μ 3 ≡ b → cond (cond z false b) (turned m (foundOf c m hold a μ)) μ ≡ d → cond (cond z false b) (turned n (foundOf c n hold a μ)) μ ≡ d
+      go : (z b : Bool) → ltb marked 3 ≡ b → cond (cond z false b) (turned m (foundOf c m hold a marked)) marked ≡ d → cond (cond z false b) (turned n (foundOf c n hold a marked)) marked ≡ d
       go true b q e = e
       go false false q e = e
-      go false true q e = absurd (omega (arith, most (foundOf c m hold a μ), e, ltb-true μ 3 q, three, l))
+      go false true q e = absurd (omega (arith, most (foundOf c m hold a marked), e, ltb-true marked 3 q, three, l))
 
   pub alike : (m n : List ℕ) → 3 ≤ c .levels → At m → Reaches m → SetsNone r m st a → SameWords m n (countedOf r m st a) → Alike m n
   unfolding SetsNone settledOf
   alike m n three at (held t w l f s) b h =
       let k : SameWords m n (pathWords r m a d ++ directly m (t .0) w) = subst (SameWords m n) (held-counted m at t w l f) h in
       let p = all-left _ (pathWords r m a d) (directly m (t .0) w) k in
-      let q = all-rest _ (pathWords r m a d) (directly m (t .0) w) k in
+      let q = all-right _ (pathWords r m a d) (directly m (t .0) w) k in
       let clear : Clear m (t .0) w = λ on. subst (LacksNone c ht m st a d) f (subst (λ k. k ≤ c .levels → LacksNone c ht m st a k (foundOf c m hold a k)) at (b on) l) in
       let there = depth-local m n three at t w f p in
       record {

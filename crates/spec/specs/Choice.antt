@@ -1,5 +1,5 @@
--- The automatic choice of marks. Document 02, 7): a guest store that drops paths of depth 0 by their level 1 word is charged to a prefix, and a
--- prefix that was charged often of late gets a level 1 mark, so that its table is read directly and stores to it cost no exit.
+-- The automatic choice of marks. Document 02, 7) and 9): a guest store that drops paths of depth 0 by their level 1 word is charged to a prefix,
+-- and a prefix that was charged often of late gets a level 1 mark, so that its table is read directly and stores to it cost no exit.
 -- Assumes nothing.
 use Prim.Native.Nat.{ℕ, _-_}
 use mathlib.Core.Bool.{Bool, true, false, not, _&&_, _||_, cond}
@@ -77,9 +77,10 @@ owned b = keep (λ x. not (isAutomatic (b .automatic) x)) (b .marks)
 abbrev pub full : Config → Book → Bool
 full c b = leb (c .markRoom) (length (b .marks))
 
--- which automatic mark leaves where room is needed: the one with the fewest charges, of these the one of the lowest address
+-- Which automatic mark leaves where room is needed: the one with the fewest charges. They stand in the order of setting, the newest first, and
+-- `firstOf` takes the later of two alike: so of these the one that was set longest ago. A mark that is set again goes to the front, as a new one
 abbrev pub goesBefore : Window → List ℕ → List ℕ → Bool
-goesBefore w p q = ltb (charges p w) (charges q w) || (eqb (charges p w) (charges q w) && lower p q)
+goesBefore w p q = ltb (charges p w) (charges q w)
 
 abbrev pub leaving : Window → List (List ℕ) → Option (List ℕ)
 leaving w ps = firstOf (goesBefore w) ps

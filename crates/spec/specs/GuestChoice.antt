@@ -1,4 +1,4 @@
--- Lines with the automatic choice on, on a guest like document 01's, as a test that the checker computes (document 02, 7). Its table of
+-- Lines with the automatic choice on, on a guest like document 01's, as a test that the checker computes (document 02, 7 and 9). Its table of
 -- level 1, in guest frame 3, hangs at three places: a load of 0, of 0x200000 and of 0x400000 reads its entry 0, by the prefixes (0, 0, 0),
 -- (0, 0, 1) and (0, 0, 2); its entry 4 maps the table itself, its entry 5 the table of level 2.
 -- Assumes nothing.
@@ -97,9 +97,13 @@ lowestLines =
     answers (start true (config 4 5 64) guest) (times 3 (loadWord 0 ∷ loadWord 0x200000 ∷ low ∷ []) ++ (loadWord 0 ∷ loadWord 0x200000 ∷ []))
     (value 0 4 1 ∷ value 0 4 1 ∷ done 4 2 ∷ times 2 (value 0 4 1 ∷ value 0 4 1 ∷ done 4 1 ∷ []) ++ (value 0 8 1 ∷ value 0 4 1 ∷ []))
 
+-- three charges by the store x to the prefix of the page a
+unfoldable pub thrice : Call → ℕ → List Call
+thrice x a = times 3 (loadWord a ∷ x ∷ [])
+
 -- with a mark for the prefix of the store x, three charges to that of a and to that of b
 unfoldable pub charging : Call → ℕ → ℕ → List Call
-charging x a b = times 3 (loadWord a ∷ x ∷ []) ++ times 3 (loadWord b ∷ x ∷ []) ++ (loadWord 0 ∷ loadWord 0x200000 ∷ [])
+charging x a b = thrice x a ++ thrice x b ++ (loadWord 0 ∷ loadWord 0x200000 ∷ [])
 
 unfoldable pub chargingLines : List Line
 chargingLines = value 0 4 1 ∷ done 8 2 ∷ times 5 (value 0 4 1 ∷ done 8 1 ∷ [])
@@ -107,7 +111,6 @@ chargingLines = value 0 4 1 ∷ done 8 2 ∷ times 5 (value 0 4 1 ∷ done 8 1 �
 unfoldable pub roomLines : Bool
 roomLines =
     let one : State = start true (config 4 4 1) guest in
-    let two : State = start true (config 4 4 2) guest in
     let full : State = after (charges 3) one in
     -- full of the operator's marks: none is set
     answers one (setMark (2 ^ 39) 1 ∷ charges 3 ++ (loadWord 0 ∷ [])) (ok ∷ thriceLines ++ (value 0 4 1 ∷ []))
@@ -117,9 +120,31 @@ roomLines =
     && answers full (loadWord 0 ∷ setMark (2 ^ 39) 6 ∷ loadWord 0 ∷ []) (value 0 8 1 ∷ no 5 ∷ value 0 8 0 ∷ [])
     -- the operator takes over an automatic mark in a full table
     && answers full (setMark 0 1 ∷ setMark (2 ^ 40) 1 ∷ []) (ok ∷ no 7 ∷ [])
-    -- three charges each: of the marks for (0, 0, 1) and (0, 0, 0) the one of the lower address leaves
-    && answers two (times 3 (loadWord 0x200000 ∷ high ∷ []) ++ charging high 0 0x400000) (thriceLines ++ chargingLines ++ (value 0 4 1 ∷ value 0 8 0 ∷ []))
-    -- four charges against three: the other leaves. Charges stay when a mark goes
+
+-- three charges each to (0, 0, 1), (0, 0, 0) and (0, 0, 2) in turn set their marks, that of the middle address first
+unfoldable pub three : List Call
+three = thrice high 0x200000 ++ thrice high 0 ++ thrice high 0x400000
+
+-- that first one becomes the operator's, is cleared, and is set again at its next charge; then the root load leaves none of them a charge
+unfoldable pub again : List Call
+again = setMark 0x200000 1 ∷ clearMark 0x200000 1 ∷ loadWord 0x200000 ∷ high ∷ root 0 ∷ []
+
+-- an operator's mark that finds the table full, and what it did to each
+unfoldable pub pressing : List Call
+pressing = setMark (2 ^ 39) 1 ∷ loadWord 0 ∷ loadWord 0x200000 ∷ loadWord 0x400000 ∷ []
+
+-- which automatic mark leaves (document 02, 9)
+unfoldable pub leavingLines : Bool
+leavingLines =
+    let two : State = start true (config 4 4 2) guest in
+    let ties : State = after three (start true (config 4 4 3) guest) in
+    -- three charges each: the mark that was set first leaves, whether its address is the higher or the lower one
+    answers two (thrice high 0x200000 ++ charging high 0 0x400000) (thriceLines ++ chargingLines ++ (value 0 8 1 ∷ value 0 4 1 ∷ []))
+    && answers two (charges 3 ++ charging low 0x200000 0x400000) (thriceLines ++ chargingLines ++ (value 0 4 1 ∷ value 0 8 1 ∷ []))
+    -- of three too; one that is set again is the newest, and the next one leaves
+    && answers ties pressing (ok ∷ value 0 8 1 ∷ value 0 4 1 ∷ value 0 8 1 ∷ [])
+    && answers ties (again ++ pressing) (ok ∷ ok ∷ value 0 4 1 ∷ done 4 2 ∷ ok ∷ ok ∷ value 0 4 1 ∷ value 0 8 1 ∷ value 0 8 1 ∷ [])
+    -- four charges against three: the newer one leaves. Charges stay when a mark goes
     && answers two (charges 3 ++ (setMark 0 1 ∷ clearMark 0 1 ∷ loadWord 0 ∷ low ∷ []) ++ charging low 0x200000 0x400000)
     (thriceLines ++ (ok ∷ ok ∷ value 0 4 1 ∷ done 4 2 ∷ []) ++ chargingLines ++ (value 0 8 0 ∷ value 0 4 1 ∷ []))
 
@@ -149,12 +174,35 @@ deepLines =
     answers (start true (config 5 5 64) tables) (times 3 (loadWord 0 ∷ storeWord 0x4000 0x5003 ∷ []) ++ (loadWord 0 ∷ loadWord 0x200000 ∷ []))
     (value 0 5 1 ∷ done 5 2 ∷ times 2 (value 0 5 1 ∷ done 5 1 ∷ []) ++ (value 0 10 1 ∷ absent 2 24 1 ∷ []))
 
-unfoldable pub choiceLines : Bool
-choiceLines =
-    let c : Config = config 4 4 64 in
-    let s : State = start true c guest in
-    chargeLines s (start false c guest) && windowLines s && lowestLines && roomLines && ruleLines && deepLines
+-- what has to be opened to compute the lines
+choosing : ℕ
+unfolding specifying answers config mapped start guest times low high charges thriceLines afterwards chargeLines windowLines lowestLines thrice charging chargingLines roomLines three again pressing leavingLines ruleLines deepLines
+choosing = 0
 
-pub choice-holds : T choiceLines
-unfolding specifying answers config mapped start guest times low high charges thriceLines afterwards chargeLines windowLines lowestLines charging chargingLines roomLines ruleLines deepLines choiceLines
-choice-holds = tt
+pub charges-hold : T (chargeLines (start true (config 4 4 64) guest) (start false (config 4 4 64) guest))
+unfolding choosing
+charges-hold = tt
+
+pub window-holds : T (windowLines (start true (config 4 4 64) guest))
+unfolding choosing
+window-holds = tt
+
+pub lowest-holds : T lowestLines
+unfolding choosing
+lowest-holds = tt
+
+pub room-holds : T roomLines
+unfolding choosing
+room-holds = tt
+
+pub leaving-holds : T leavingLines
+unfolding choosing
+leaving-holds = tt
+
+pub rules-hold : T ruleLines
+unfolding choosing
+rules-hold = tt
+
+pub deep-holds : T deepLines
+unfolding choosing
+deep-holds = tt

@@ -19,10 +19,10 @@ pub mod Search
 pub mod Charges
 pub mod Choice
 pub mod Lower
-pub mod Leaving
 pub mod Least
 pub mod Runs
 pub mod Rules
+pub mod Ages
 pub mod Unseen
 pub mod Asks
 pub mod Trail

@@ -18,7 +18,7 @@ use Rattle.spec.specs.Prefix.{All, begins, same, any, keep}
 use Rattle.spec.specs.Walk.{Result, granted, failed, trace}
 use Rattle.spec.specs.Plain.{Place, upper, shadowPart}
 use Rattle.spec.specs.Machine.{Machine, world}
-use Rattle.spec.specs.Book.{Mark, Held, Book, Window, markAt, sameMark, isSet, depth, marking, unmarking, holding, fill, readsWord, usesMapping}
+use Rattle.spec.specs.Book.{Mark, Held, Book, Window, markAt, sameMark, isSet, marking, unmarking, holding, fill, readsWord, usesMapping}
 use Rattle.spec.specs.Choice.{windowRoom, chargeOf, leafMark, isAutomatic, owned, full, leaving, withdrawn, withdrawnBy, roomMade, appointed, entered, observed, operated, isSome, roomFor}
 use Rattle.spec.specs.Call.{Call, root, map, unmap, setMark, clearMark, load, store, device, forecast, addressIndexes, verdict}
 use Rattle.spec.specs.Count.{Counted, heldBy, rightOf, others, requestDepth, request, storing, bookStep}
@@ -29,7 +29,7 @@ use Rattle.spec_laws.proofs.Indexes.{indexes-all}
 use Rattle.spec_laws.proofs.Refill.{others-all}
 use Rattle.spec_laws.proofs.Charges.{IfSome, Bare, charge-has, charge-bare, bare-unset}
 use Rattle.spec_laws.proofs.Choice.{keep-most, keep-fewer, any-kept, any-gone, mark-is, mark-refl, set-kept, set-passes, auto-leaf, auto-prefix, leaving-in, room-has, room-unset, observed-has}
-use Rattle.spec_laws.proofs.Runs.{BookFits, all-passed, mark-fits, fill-all, request-book, request-keeps, step-fits, run-fits, opened-fits}
+use Rattle.spec_laws.proofs.Runs.{BookFits, all-passed, mark-fits, fill-all, request-book, stored-book, request-keeps, step-fits, run-fits, opened-fits}
 
 -- ---- the marks
 
@@ -93,7 +93,7 @@ module _ (c : Config) (ms : List Mark) (ps : List (List ℕ)) (i : MarkRules c m
     once = i .once;
   }
 
-  in-has : (p : List ℕ) → T (any (same p) ps) → T (isSet (leafMark p) ms)
+  pub in-has : (p : List ℕ) → T (any (same p) ps) → T (isSet (leafMark p) ms)
   in-has p h =
       any-has (λ q. T (isSet (leafMark q) ms)) (same p) ps (i .set) h (λ q s t. subst (λ r. T (isSet (leafMark r) ms)) (sym (same-is p q t)) s)
 
@@ -283,10 +283,9 @@ request-rules c m b st a d i =
     request-book (BookRules c) c m b st a d i
     (λ r l e g. fill-book c b (heldBy (upper c d is) s (rightOf c w st d s (r .1))) (all-take (λ j. j < 512) (c .levels - d) is (indexes-all (c .levels) (pageOf a))) i)
 
-storing-book : (c : Config) (i : ℕ) (r : Result Fault Place) (k : Counted) → BookRules c (k .book) → BookRules c ((storing i r k) .book)
-unfolding storing
-storing-book c i (failed x) k h = h
-storing-book c i (granted p) k h = held-book c (k .book) _ (all-kept SmallPath (λ y. not (readsWord (p .0) i y)) (k .book .held) (h .paths)) h
+pub storing-rules : (c : Config) (i : ℕ) (r : Result Fault Place) (k : Counted) → BookRules c (k .book) → BookRules c ((storing i r k) .book)
+storing-rules c i r k h =
+    stored-book (BookRules c) i r k h (λ t. held-book c (k .book) _ (all-kept SmallPath (λ y. not (readsWord t i y)) (k .book .held) (h .paths)) h)
 
 -- a store's drops change no mark
 pub stored-charge : (c : Config) (i : ℕ) (r : Result Fault Place) (k : Counted) → BookFits c (k .book) → BookRules c (k .book)
@@ -329,8 +328,8 @@ step-rules x s f i = go (refusal (s .config) x (s .machine) (s .book)) refl
         let k = request c m b true a (requestDepth c m b a) in
         let r = verdict c m true a in
         let j = request-rules c m b true a _ i in
-        observed-book c (chargeOf c (wordOf a) r (k .book .held)) _ (stored-charge c (wordOf a) r k (request-keeps c m b true a f) j) (storing-book c (wordOf a) r k j)
-    by (device a w v) e = storing-book c (wordOf a) _ _ i
+        observed-book c (chargeOf c (wordOf a) r (k .book .held)) _ (stored-charge c (wordOf a) r k (request-keeps c m b true a f) j) (storing-rules c (wordOf a) r k j)
+    by (device a w v) e = storing-rules c (wordOf a) _ _ i
     by (forecast xs) e = i
 
     go : (r : Option ℕ) → refusal c x m b ≡ r → BookRules ((answered x s r) .1 .config) ((answered x s r) .1 .book)

@@ -1,7 +1,7 @@
 -- What the book keeps over a run: every held path has the depth that the marks say or, where its walk ended above the marked levels, all indexes.
 -- Assumes nothing.
 use mathlib.Core.Path.{_≡_, refl, sym, ap, _∙_, subst}
-use Prim.Native.Nat.{ℕ, suc, _+_, _*_, _-_, _≤_}
+use Prim.Native.Nat.{ℕ, suc, _-_, _≤_}
 use native.Mathlib.Omega.{arith}
 use mathlib.Core.Bool.{Bool, true, false, not, _&&_, _||_, cond}
 use mathlib.Core.List.{List, [], _∷_}
@@ -18,7 +18,7 @@ use Rattle.spec.specs.Walk.{World, Trace, Result, granted, failed, trace}
 use Rattle.spec.specs.Plain.{Place, isSpan, walk, upper, shadowPart, directPart}
 use Rattle.spec.specs.Machine.{Machine, world}
 use Rattle.spec.specs.Bits.{owes, judged}
-use Rattle.spec.specs.Book.{Mark, Held, Book, markAt, sameMark, depth, find, holding, marking, unmarking, fill, shadowTables, dropPrefix, usesMapping, readsWord}
+use Rattle.spec.specs.Book.{Mark, Held, Book, markAt, sameMark, depth, find, holding, marking, unmarking, fill, shadowTables, dropWord, dropPrefix, usesMapping, readsWord}
 use Rattle.spec.specs.Choice.{leafMark, isAutomatic, withdrawn, roomMade, entered, observed, operated}
 use Rattle.spec.specs.Call.{Call, root, map, unmap, setMark, clearMark, load, store, device, forecast, addressIndexes, plain, verdict}
 use Rattle.spec.specs.Count.{Counted, depthBy, depthIn, serves, heldBy, isGranted, rightOf, others, shadowed, unshadowed, requestDepth, request, storing, bookStep}
@@ -202,10 +202,15 @@ pub request-keeps : (c : Config) (m : Machine) (b : Book) (st : Bool) (a : ℕ) 
 request-keeps c m b st a i =
     request-book (BookFits c) c m b st a (requestDepth c m b a) i (λ r l e g. fill-keeps c b _ (request-fits c m (b .marks) st a r (i .marks) l e) i)
 
-storing-keeps : (c : Config) (i : ℕ) (x : Result Fault Place) (k : Counted) → BookFits c (k .book) → BookFits c ((storing i x k) .book)
+-- a store leaves the book as it is, or drops paths by the word that it came to
+pub stored-book : (P : Book → Type 0) (i : ℕ) (x : Result Fault Place) (k : Counted)
+    → P (k .book) → ((t : ℕ) → P (holding (k .book) (dropWord t i (k .book .held)))) → P ((storing i x k) .book)
 unfolding storing
-storing-keeps c i (failed x) k h = h
-storing-keeps c i (granted p) k h = kept-fits c (k .book) (λ y. not (readsWord (p .0) i y)) h
+stored-book P i (failed x) k same drops = same
+stored-book P i (granted p) k same drops = drops (p .0)
+
+storing-keeps : (c : Config) (i : ℕ) (x : Result Fault Place) (k : Counted) → BookFits c (k .book) → BookFits c ((storing i x k) .book)
+storing-keeps c i x k h = stored-book (BookFits c) i x k h (λ t. kept-fits c (k .book) (λ y. not (readsWord t i y)) h)
 
 -- ---- the automatic choice
 

@@ -15,10 +15,10 @@ use Rattle.spec.specs.Answer.{Line}
 use Rattle.spec.specs.Config.{Config}
 use Rattle.spec.specs.Entry.{wordOf}
 use Rattle.spec.specs.Prefix.{keep}
-use Rattle.spec.specs.Walk.{Result, granted, failed}
+use Rattle.spec.specs.Walk.{Result}
 use Rattle.spec.specs.Plain.{Place}
 use Rattle.spec.specs.Machine.{Machine}
-use Rattle.spec.specs.Book.{Mark, Book, Window, markAt, sameMark, isSet, depth}
+use Rattle.spec.specs.Book.{Mark, Book, Window, markAt, sameMark, isSet}
 use Rattle.spec.specs.Choice.{chargeOf, leafMark, isAutomatic, owned, leaving, isSome}
 use Rattle.spec.specs.Call as call
 use Rattle.spec.specs.Call.{Call, Outcome, root, map, unmap, setMark, clearMark, load, store, device, forecast, addressIndexes, verdict, machineStep}
@@ -29,7 +29,7 @@ use Rattle.spec.specs.Heard.{bare}
 use Rattle.spec_laws.proofs.Lists.{all-any, keep-all, or-left, is-false}
 use Rattle.spec_laws.proofs.Charges.{IfSome, bare-unset}
 use Rattle.spec_laws.proofs.Choice.{keep-fewer, any-map, owned-observed, owned-operated, owned-unmarking}
-use Rattle.spec_laws.proofs.Runs.{BookFits, request-book, request-keeps, step-config, step-fits, opened-fits}
+use Rattle.spec_laws.proofs.Runs.{BookFits, request-book, stored-book, request-keeps, step-config, step-fits, opened-fits}
 use Rattle.spec_laws.proofs.Rules.{MarkRules, BookRules, ChargeRules, stored-charge, request-rules, step-rules, opened-rules}
 
 -- ---- the refusals go by the operator's marks alone
@@ -89,9 +89,7 @@ request-owned : (c : Config) (m : Machine) (b : Book) (st : Bool) (a d : ℕ) �
 request-owned c m b st a d = request-book (λ k. owned k ≡ owned b) c m b st a d refl (λ r l e g. refl)
 
 storing-owned : (i : ℕ) (r : Result Fault Place) (k : Counted) → owned ((storing i r k) .book) ≡ owned (k .book)
-unfolding storing
-storing-owned i (failed x) k = refl
-storing-owned i (granted p) k = refl
+storing-owned i r k = stored-book (λ b. owned b ≡ owned (k .book)) i r k refl (λ t. refl)
 
 pub owned-step : (c : Config) (x : Call) (m : Machine) (b : Book) → BookFits c b → BookRules c b → owned ((bookStep c x m b) .book) ≡ ownedAfter c x (owned b)
 unfolding bookStep

@@ -1,33 +1,36 @@
--- Units that misread the automatic choice of marks (document 02, 7). Each is refused by demand 3, on a guest of zeros whose tables are mapped
+-- Units that misread the automatic choice of marks (document 02, 7 and 9). Each is refused by demand 3, on a guest of zeros whose tables are mapped
 -- and written by the run itself; three of them also by the claim that the choice is not seen.
 -- Assumes nothing.
 use mathlib.Core.Path.{_≡_, refl, sym, ap, _∙_}
 use Prim.Native.Nat.{ℕ, zero, suc, _*_, _^_}
-use mathlib.Core.Bool.{Bool, true, false, not}
+use mathlib.Core.Bool.{true, false, not}
 use mathlib.Core.List.{List, [], _∷_, _++_}
 use mathlib.Core.Option.{Option, none, some}
 use lib.Dec.{T}
-use lib.ListN.{length, replicate}
+use lib.ListN.{length}
 use Rattle.spec.specs.Answer.{Line, ok, value, done, no}
 use Rattle.spec.specs.Config.{Config}
+use Rattle.spec.specs.Prefix.{same, any, keep}
 use Rattle.spec.specs.Machine.{Machine}
 use Rattle.spec.specs.Book.{Book}
-use Rattle.spec.specs.Choice.{owned, roomFor}
+use Rattle.spec.specs.Choice.{choosing, owned, roomFor}
 use Rattle.spec.specs.Call.{Call, root, map, unmap, setMark, clearMark, load, store, device, forecast, loadWord, storeWord, deviceWord}
 use Rattle.spec.specs.Count.{bookStep}
-use Rattle.spec.specs.Refusal.{tests, refusal, openRefusal}
+use Rattle.spec.specs.Refusal.{tests, refusal}
 use Rattle.spec.specs.Run.{State, told, answered, step, run, opened}
 use Rattle.spec.specs.Computing.{specifying}
 use Rattle.spec.specs.Guest.{code, equal}
-use Rattle.spec.specs.GuestChoice.{mapped, guest, times, low, charges}
+use Rattle.spec.specs.GuestChoice.{mapped, guest, times, low, high, charges, thrice, three, again}
 use Rattle.spec.specs.Heard.{bare}
+use Rattle.spec_laws.proofs.Lists.{all-map, keep-all, is-true}
+use Rattle.spec_laws.proofs.Choice.{all-in}
 use Rattle.record.specs.Record.{configBy}
-use Rattle.record.specs.Open.{refusalOf}
 use Rattle.claims.specs.Run.{machineRun}
 use Rattle.wrong_units.specs.Unit.{MemoryUnit, runBy, afterBy, specified, Demand-3, ChoiceUnseen}
-use Rattle.wrong_units.specs.WrongChoice.{toldBy, answeredBy, stepBy, keeping, ourEnters, ourCharges, loadChoosing, storeChoosing, faultsLeftOut, rootKeepsWindow, countedBefore, toTheHighest, chargedForOverflow, devicesCharge, exitForAMark, neverLeaves, setRefused, clearRefused, sevenTooEarly, automaticIsSet, clearsAutomatic}
+use Rattle.wrong_units.specs.WrongChoice.{toldBy, answeredBy, stepBy, keeping, ourEnters, ourCharges, loadChoosing, storeChoosing, faultsLeftOut, rootKeepsWindow, countedBefore, toTheHighest, chargedForOverflow, devicesCharge, exitForAMark, neverLeaves, orderStep, ordering, ourOrder, lowestLeaves, newestLeaves, ageKept, setRefused, clearRefused, sevenTooEarly, automaticIsSet, clearsAutomatic}
 use Rattle.wrong_units.proofs.Ours.{demand-3-unseen}
-use Rattle.wrong_units.proofs.Refute.{demand-last, unseen-last, differ}
+use Rattle.wrong_units.proofs.Refute.{unseen-last, differ}
+use Rattle.wrong_units.proofs.Zeros.{memory, grants, allMapped, refuted-after}
 
 -- ---- with our own rules machine and book meet the demand: so what is refused below is the change
 
@@ -62,6 +65,22 @@ pub keeping-ours : Demand-3 (keeping bookStep refusal)
 unfolding Demand-3
 keeping-ours m h s bits on xs g = run-ours xs (opened (configBy (length m) h s bits) on m)
 
+-- brought into our own order the automatic marks stay as they are
+order-ours : (xs : List Call) (s : State) (before : List (List ℕ)) → runBy (ordering ourOrder) xs (s, before) ≡ machineRun (run xs s)
+unfolding runBy run orderStep
+order-ours [] s before = refl
+order-ours (x ∷ xs) s before =
+    let t = (step x s) .1 in
+    let ps = t .book .automatic in
+    let same-marks : keep (λ p. any (same p) ps) ps ≡ ps = keep-all (λ p. any (same p) ps) ps (all-map _ _ ps (λ p h. is-true (any (same p) ps) h) (all-in ps)) in
+    let with-marks : List (List ℕ) → State = λ qs. record { config = t .config; machine = t .machine; book = choosing (t .book) qs (t .book .window) } in
+    ap (λ qs. ((step x s) .0, t .machine .area) ∷ runBy (ordering ourOrder) xs (with-marks qs, ps)) same-marks
+    ∙ ap (λ os. ((step x s) .0, t .machine .area) ∷ os) (order-ours xs t ps)
+
+pub ordering-ours : Demand-3 (ordering ourOrder)
+unfolding Demand-3
+ordering-ours m h s bits on xs g = order-ours xs (opened (configBy (length m) h s bits) on m) []
+
 -- nor is the choice seen in them
 pub keeping-unseen : ChoiceUnseen (keeping bookStep refusal)
 keeping-unseen = demand-3-unseen (keeping bookStep refusal) keeping-ours
@@ -85,32 +104,28 @@ clear-refused-ours c a n m b = refl
 
 -- ---- the guest
 
--- 14 frames of zeros: 4 for host tables, 5 for shadow tables, so that paths by two tables of level 1 fit and by three do not, 5 for the guest
-abbrev memory : List ℕ
-memory = replicate 7168 0
-
-grants : refusalOf (length memory) 4 5 false ≡ 0
-unfolding refusalOf openRefusal
-grants = refl
-
 -- each run begins so: the guest's frames are mapped, and its tables are written by device stores
 begin : List Call
-begin = mapped (configBy (length memory) 4 5 false) 5 0 ++ guest
+begin = allMapped ++ guest
 
--- (0, 0, 0) has an automatic mark, and n marks of the operator's are at prefixes that the guest does not use; with 63 the table is full
+-- n marks of the operator's, at prefixes that the guest does not use
+operators : ℕ → List Call
+operators zero = []
+operators (suc n) = operators n ++ (setMark (suc n * 2 ^ 39) 1 ∷ [])
+
+-- (0, 0, 0) has an automatic mark beside them; with 63 of them the table is full
 beside : ℕ → List Call
-beside zero = charges 3
-beside (suc n) = beside n ++ (setMark (suc n * 2 ^ 39) 1 ∷ [])
+beside n = charges 3 ++ operators n
 
 -- what has to be opened to compute a run
 booking : ℕ
-unfolding specifying afterBy stepBy loadChoosing storeChoosing setRefused clearRefused mapped guest times low charges begin beside
+unfolding specifying afterBy stepBy loadChoosing storeChoosing orderStep setRefused clearRefused mapped guest times low high charges thrice three again begin operators beside
 booking = 0
 
 -- a unit that after such a beginning and the calls xs says one line to the call x, and the specification another
 refuted : (u : MemoryUnit) (xs : List Call) (x : Call) (wrong right : Line) → (u .call x (afterBy u (begin ++ xs) (u .opens memory 4 5 false true))) .0 ≡ wrong
     → (step x (specified memory 4 5 false true (begin ++ xs))) .0 ≡ right → T (not (equal (code wrong) (code right))) → Demand-3 u → ⊥
-refuted u xs x wrong right w r t d = differ wrong right t (sym w ∙ demand-last u d memory 4 5 false true (begin ++ xs) x grants ∙ r)
+refuted u xs = refuted-after true u (begin ++ xs)
 
 -- ---- the window
 
@@ -166,6 +181,21 @@ pub never-leaves-refuted : Demand-3 neverLeaves → ⊥
 unfolding booking neverLeaves
 never-leaves-refuted =
     refuted neverLeaves (beside 63 ++ times 3 (loadWord 0x200000 ∷ low ∷ [])) (loadWord 0x200000) (value 0 4 1) (value 0 8 1) refl refl tt
+
+-- (0, 0, 1), (0, 0, 0) and (0, 0, 2) have automatic marks, set in that order, with three charges each; the last of 62 marks of the operator's finds
+-- the table full, and the first of the three leaves: a load of 0x200000 says 0 4 1. If the lowest leaves, or the newest, it says 0 8 0
+pub lowest-leaves-refuted : Demand-3 lowestLeaves → ⊥
+unfolding booking lowestLeaves
+lowest-leaves-refuted = refuted lowestLeaves (three ++ operators 62) (loadWord 0x200000) (value 0 8 0) (value 0 4 1) refl refl tt
+
+pub newest-leaves-refuted : Demand-3 newestLeaves → ⊥
+unfolding booking newestLeaves
+newest-leaves-refuted = refuted newestLeaves (three ++ operators 62) (loadWord 0x200000) (value 0 8 0) (value 0 4 1) refl refl tt
+
+-- but that first one was cleared and set again, and none has a charge: it stays, and a load of 0x200000 says 0 8 1. With its old age it leaves
+pub age-kept-refuted : Demand-3 ageKept → ⊥
+unfolding booking ageKept
+age-kept-refuted = refuted ageKept (three ++ again ++ operators 62) (loadWord 0x200000) (value 0 4 1) (value 0 8 1) refl refl tt
 
 -- ---- the operator's marks among them
 

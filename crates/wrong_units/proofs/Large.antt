@@ -1,13 +1,12 @@
 -- Units that misread large pages (document 02, 8). Each is refused by demand 3, on a guest of zeros whose tables are mapped and written by the
 -- run itself.
 -- Assumes nothing.
-use mathlib.Core.Path.{_≡_, refl, sym, ap, _∙_}
+use mathlib.Core.Path.{_≡_, refl, ap}
 use Prim.Native.Nat.{ℕ, pred, _^_}
-use mathlib.Core.Bool.{Bool, true, false, not, _&&_, cond}
+use mathlib.Core.Bool.{Bool, true, false, not}
 use mathlib.Core.List.{List, [], _∷_, _++_}
-use mathlib.Core.Option.{Option, none, some}
 use lib.Dec.{T}
-use lib.ListN.{length, replicate}
+use lib.ListN.{length}
 use Rattle.spec.specs.declared.Fault.{Fault}
 use Rattle.spec.specs.Answer.{Line, value, fault}
 use Rattle.spec.specs.Config.{Config}
@@ -15,18 +14,16 @@ use Rattle.spec.specs.Entry.{malformed}
 use Rattle.spec.specs.Walk.{Walk, _>>=_}
 use Rattle.spec.specs.Plain.{Place, hosted, entry, entryLead, onward, turn, levels, walk}
 use Rattle.spec.specs.Call.{Call, map, setMark, loadWord, storeWord, deviceWord}
-use Rattle.spec.specs.Refusal.{openRefusal}
 use Rattle.spec.specs.Run.{State, step, run, opened}
 use Rattle.spec.specs.Computing.{specifying}
 use Rattle.spec.specs.Guest.{code, equal}
 use Rattle.spec.specs.GuestChoice.{mapped}
 use Rattle.record.specs.Record.{configBy}
-use Rattle.record.specs.Open.{refusalOf}
 use Rattle.claims.specs.Run.{machineRun}
 use Rattle.wrong_units.specs.Unit.{MemoryUnit, runBy, afterBy, specified, Demand-3}
 use Rattle.wrong_units.specs.WrongChoice.{stepBy}
 use Rattle.wrong_units.specs.WrongLarge.{sayStep, saying, turnBy, levelsBy, walkBy, endsAtFour, lowBitsIgnored, protectedAtOne, shallow, wholeStep, wholePage}
-use Rattle.wrong_units.proofs.Refute.{demand-last, differ}
+use Rattle.wrong_units.proofs.Zeros.{memory, allMapped, refuted-after}
 
 -- ---- what is refused below is the change: a unit that says what machine and book say meets the demand,
 
@@ -51,18 +48,10 @@ walk-ours c st root is = ap (λ (k : Place → Walk Fault Place). hosted root >>
 
 -- ---- the guest
 
--- 14 frames of zeros: 4 for host tables, 5 for shadow tables, 5 for the guest
-abbrev memory : List ℕ
-memory = replicate 7168 0
-
-grants : refusalOf (length memory) 4 5 false ≡ 0
-unfolding refusalOf openRefusal
-grants = refl
-
 -- each run begins so: the guest's frames are mapped, and its tables of levels 4, 3 and 2, in the guest frames 0, 1 and 2, lead to a 2 MiB page
 -- of the guest frames from 0 on, for the addresses from 0x200000 on. Guest frame 4 begins with 0x77
 begin : List Call
-begin = mapped (configBy (length memory) 4 5 false) 5 0
+begin = allMapped
     ++ (deviceWord 0 0x1003 ∷ deviceWord 0x1000 0x2003 ∷ deviceWord 0x2008 0x83 ∷ deviceWord 0x4000 0x77 ∷ [])
 
 -- what has to be opened to compute a run
@@ -73,7 +62,7 @@ walking-on = 0
 -- a unit that after such a beginning and the calls xs says one line to the call x, and the specification another
 refuted : (u : MemoryUnit) (xs : List Call) (x : Call) (wrong right : Line) → (u .call x (afterBy u (begin ++ xs) (u .opens memory 4 5 false false))) .0 ≡ wrong
     → (step x (specified memory 4 5 false false (begin ++ xs))) .0 ≡ right → T (not (equal (code wrong) (code right))) → Demand-3 u → ⊥
-refuted u xs x wrong right w r t d = differ wrong right t (sym w ∙ demand-last u d memory 4 5 false false (begin ++ xs) x grants ∙ r)
+refuted u xs = refuted-after false u (begin ++ xs)
 
 -- ---- the walk
 

@@ -4,6 +4,7 @@ pub mod Computing
 pub mod Mapped
 pub mod Filled
 pub mod Refute
+pub mod Zeros
 pub mod Answers
 pub mod Halves
 pub mod Drops

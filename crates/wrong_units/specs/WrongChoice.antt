@@ -1,4 +1,4 @@
--- Units that misread the automatic choice of marks (document 02, 7). What the choice does shows in references, exits and refusals alone, and
+-- Units that misread the automatic choice of marks (document 02, 7 and 9). What the choice does shows in references, exits and refusals alone, and
 -- those are the book's: so each of these units is machine and book, with one change in a step of the book or in a refusal.
 -- Assumes nothing.
 use Prim.Native.Nat.{ℕ, _+_}
@@ -11,16 +11,16 @@ use Rattle.spec.specs.Answer as say
 use Rattle.spec.specs.Answer.{Line}
 use Rattle.spec.specs.Config.{Config}
 use Rattle.spec.specs.Entry.{wordOf}
-use Rattle.spec.specs.Prefix.{any, keep}
+use Rattle.spec.specs.Prefix.{same, any, keep}
 use Rattle.spec.specs.Walk.{Result, granted, failed}
 use Rattle.spec.specs.Plain.{Place}
 use Rattle.spec.specs.Machine.{Machine}
 use Rattle.spec.specs.Book.{Mark, Held, Book, markAt, isSet, holding, unmarking, dropAll}
-use Rattle.spec.specs.Choice.{firstOf, lower, readsLeaf, leafPrefixes, chargeOf, chargedTo, isAutomatic, owned, full, withdrawn, charged, entered, roomFor}
+use Rattle.spec.specs.Choice.{firstOf, lower, readsLeaf, leafPrefixes, chargeOf, chargedTo, isAutomatic, owned, full, choosing, withdrawn, charged, entered, roomFor}
 use Rattle.spec.specs.Call.{Call, device, forecast, addressIndexes, verdict, deviceWalk, machineStep}
 use Rattle.spec.specs.Count.{Counted, one, isGranted, requestDepth, request, storing, free, windowed, bookStep}
 use Rattle.spec.specs.Refusal.{firstFailed, levelFits, addressFits, refusal}
-use Rattle.spec.specs.Run.{State, lineOf, told, opened}
+use Rattle.spec.specs.Run.{State, lineOf, told, step, opened}
 use Rattle.record.specs.Record.{configBy}
 use Rattle.wrong_units.specs.Unit.{MemoryUnit}
 use Rattle.wrong_units.specs.Changed.{onLoads, onStores, onDevices, onRoots, onSets, onClears, onForecasts}
@@ -140,6 +140,60 @@ exitForAMark = entering (λ c r x k. costing x (windowed c x k))
 -- none leaves for a charged prefix
 unfoldable pub neverLeaves : MemoryUnit
 neverLeaves = entering (observing (λ c x b. cond (full c b) (entered x b) (charged c x (entered x b))))
+
+-- ---- which one leaves: units that keep an order of their own, and bring the automatic marks into it after each call
+
+-- the order after a call: by the one before it, and by the automatic marks that there are now, the newest first
+abbrev pub Orders : Type 0
+Orders = List (List ℕ) → List (List ℕ) → List (List ℕ)
+
+abbrev pub inThis : List (List ℕ) → State → State
+inThis order s = record {
+  config = s .config;
+  machine = s .machine;
+  book = choosing (s .book) (keep (λ p. any (same p) (s .book .automatic)) order) (s .book .window);
+}
+
+unfoldable pub orderStep : Orders → Call → State × List (List ℕ) → Line × (State × List (List ℕ))
+orderStep orders x i =
+    let o : Line × State = step x (i .0) in
+    let next : List (List ℕ) = orders (i .1) (o .1 .book .automatic) in
+    (o .0, (inThis next (o .1), next))
+
+abbrev pub ordering : Orders → MemoryUnit
+ordering orders = record {
+  Inner = State × List (List ℕ);
+  opens = λ m h s bits on. (opened (configBy (length m) h s bits) on m, []);
+  call = orderStep orders;
+  area = λ i. i .0 .machine .area;
+}
+
+abbrev pub ourOrder : Orders
+ourOrder before ps = ps
+
+-- those that an order does not have yet
+abbrev pub newTo : List (List ℕ) → List (List ℕ) → List (List ℕ)
+newTo before ps = keep (λ p. not (any (same p) before)) ps
+
+-- of a tie the lowest address: the highest is kept in front
+abbrev pub downward : List ℕ → List (List ℕ) → List (List ℕ)
+downward p [] = p ∷ []
+downward p (q ∷ qs) = cond (lower q p) (p ∷ q ∷ qs) (q ∷ downward p qs)
+
+abbrev pub sorted : List (List ℕ) → List (List ℕ)
+sorted [] = []
+sorted (p ∷ ps) = downward p (sorted ps)
+
+unfoldable pub lowestLeaves : MemoryUnit
+lowestLeaves = ordering (λ before ps. sorted ps)
+
+-- the newest: a new one is put behind the others
+unfoldable pub newestLeaves : MemoryUnit
+newestLeaves = ordering (λ before ps. keep (λ p. any (same p) ps) before ++ newTo before ps)
+
+-- one that is set again has the age that it had: its place is not given up when it is cleared
+unfoldable pub ageKept : MemoryUnit
+ageKept = ordering (λ before ps. newTo before ps ++ before)
 
 -- ---- the operator's marks among them. Set mark and clear mark are ours with what they know of automatic marks as an argument
 

@@ -142,8 +142,8 @@ _Static_assert(sizeof(struct cangrieb_mark) == 4 * sizeof(uint64_t), "a mark has
    a store to it costs no exit. A store that drops paths of depth 0 by their entries of level 1 is charged to the lowest prefix of
    three indexes among theirs; one that has three charges or more in the window then gets its mark. The window holds the last 64
    loads and stores that were not refused, and a root load empties it. If 64 marks are set, the automatic one with the fewest
-   charges makes room, of several the one of the lowest address; if none is automatic, none is set. No value, fault or refusal is
-   another by it; references, exits and the figures of forecasts may be. */
+   charges makes room, of several the one set longest ago, and one that is set again counts as new; if none is automatic, none is
+   set. No value, fault or refusal is another by it; references, exits and the figures of forecasts may be. */
 struct cangrieb_answer cangrieb_open(struct cangrieb_head *head, uint64_t place[64], uint64_t ring[64], uint64_t order[64],
                                      uint64_t *memory, size_t words, uint64_t hosts, uint64_t shadows, bool bits,
                                      bool automatic);

@@ -123,8 +123,8 @@ pub struct Choices {
     /// directly and a store to it costs no exit. A store that drops paths of depth 0 by their entries of level 1 is charged to
     /// the lowest prefix of three indexes among theirs; one that has three charges or more in the window then gets its mark. The
     /// window holds the last 64 loads and stores that were not refused, and a root load empties it. If 64 marks are set, the
-    /// automatic one with the fewest charges makes room, of several the one of the lowest address; if none is automatic, none
-    /// is set.
+    /// automatic one with the fewest charges makes room, of several the one set longest ago, and one that is set again counts
+    /// as new; if none is automatic, none is set.
     ///
     /// No value, fault or refusal is another by it; references, exits and the figures of forecasts may be. [`Record::marks`]
     /// tells automatic marks from the operator's.

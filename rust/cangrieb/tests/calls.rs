@@ -542,6 +542,48 @@ fn all_marks_set() {
     assert_eq!(listed(&unit)[..2], [automatic(0, 7), mark(far(0), 1)]);
 }
 
+/// Of 64 marks three are automatic, and none has a charge. The operator's next ones take their places in the order in which they
+/// were set, whatever their addresses; one that was taken over, cleared and set again is the last.
+#[test]
+fn the_oldest_makes_room() {
+    let charge = |unit: &mut Record, memory: &mut [u64], page: u64| {
+        assert!(matches!(unit.load(memory, page, 8), Answer::Value { .. }));
+        assert!(matches!(unit.store(memory, 0x20_4000, 8, 0x4003), Answer::Done { .. }));
+    };
+    for again in [false, true] {
+        let (mut unit, mut memory) = guest_with(AUTOMATIC);
+        assert_eq!(
+            unit.device_store(&mut memory, 0x2010, 8, 0x3003),
+            Answer::Done { references: 4, exits: 0 }
+        );
+        let mut order = [0x20_0000, 0, 0x40_0000];
+        for page in order {
+            (0..3).for_each(|_| charge(&mut unit, &mut memory, page));
+        }
+        if again {
+            assert_eq!(unit.set_mark(&mut memory, order[0], 1), Answer::Ok);
+            assert_eq!(unit.clear_mark(&mut memory, order[0], 1), Answer::Ok);
+            charge(&mut unit, &mut memory, order[0]);
+            order.rotate_left(1);
+        }
+        assert_eq!(unit.root(&mut memory, 0), Answer::Ok);
+        let far = |number: u64| UPPER + (number << 21);
+        for number in 0..61 {
+            assert_eq!(unit.set_mark(&mut memory, far(number), 1), Answer::Ok);
+        }
+        for (number, gone) in (61..).zip(0..order.len()) {
+            let mut left = order[gone..].to_vec();
+            left.sort();
+            let left: Vec<Mark> = left.into_iter().map(|page| automatic(page, 0)).collect();
+            assert_eq!(listed(&unit)[..left.len()], left);
+            assert_eq!(listed(&unit).len(), 64);
+            assert_eq!(unit.set_mark(&mut memory, far(number), 1), Answer::Ok);
+        }
+        assert_eq!(listed(&unit)[0], mark(far(0), 1));
+        assert_eq!(unit.set_mark(&mut memory, far(64), 1), refused(7));
+    }
+}
+
 /// 16 goes before 14 and after 3.
 #[test]
 fn no_forecast_with_bits() {

@@ -1,7 +1,7 @@
 //! Random runs, half of them with accessed and dirty bits, half with the automatic choice: every answer of the proved unit, with
 //! its counts, is the second walker's, and so are the guest words, with their bits. Each forecast is also what the unit takes to
-//! serve its list, and changes nothing. The unit's places hold the walker's marks, of the same kinds and with the same charges, and
-//! lookups about them are the walker's.
+//! serve its list, and changes nothing. The unit's places hold the walker's marks, of the same kinds, with the same charges and the
+//! automatic ones in the same order, and lookups about them are the walker's.
 //! TIMES sets how many times as many runs there are; `-- --nocapture` shows how often each thing happened.
 
 use cangrieb::Record;
@@ -9,9 +9,9 @@ use compare::{
     address_in, answer, automatic_marks, first_guest_word, listed_marks, lookup, memory_before, open, places,
     served, window, window_of,
 };
-use walker::book::{Kind, Mark};
+use walker::book::Mark;
 use walker::events::{
-    of_automatic, of_bits, of_forecasts, of_halves, of_large, of_lookups, of_widths, Events,
+    of_automatic, of_bits, of_forecasts, of_halves, of_large, of_lookups, of_ties, of_widths, Events,
 };
 use walker::numbers::{address_of, different_proper_prefixes, indexes, page_from, sign_bit};
 use walker::random::{automatic_run, bits_run, large_run, mark_run, run, Random, Run, Sizes, Sort};
@@ -29,7 +29,6 @@ fn same(seed: u64, run: &Run) -> Events {
     assert!(memory[first..] == *walker.guest_words(), "seed {seed}, {:?}: the opening", run.sizes);
     let mut copy = memory.clone();
     let mut lookups = Events::default();
-    let mut in_order = Vec::new();
     for (number, call) in run.calls.iter().enumerate() {
         let before = record;
         if matches!(call, Call::Forecast { .. }) {
@@ -54,7 +53,7 @@ fn same(seed: u64, run: &Run) -> Events {
         let charged = record.head.choice.at != before.head.choice.at;
         if number % 17 == 16 || marks_changed || charged {
             let after = format!("seed {seed}, {:?}, after call {number}: {call:?}", run.sizes);
-            same_marks(&record, &walker, &mut in_order, &after);
+            same_marks(&record, &walker, &after);
             if number % 17 == 16 || marks_changed {
                 same_lookups(&record, &walker, call, number as u64, &mut lookups, &after);
             }
@@ -76,20 +75,14 @@ fn marks_of(record: &Record) -> impl PartialEq + '_ {
     (record.head.set, record.head.choice.count, &record.place, &record.order)
 }
 
-/// The marks with their kinds and charges, and the window. The automatic marks stand in the order of their setting: those of the
-/// last time that still are, and behind them a new one.
-fn same_marks(record: &Record, walker: &Unit, in_order: &mut Vec<Mark>, after: &str) {
+/// The marks with their kinds and charges, and the window. The automatic marks stand in the order of their setting.
+fn same_marks(record: &Record, walker: &Unit, after: &str) {
     let mut listed = listed_marks(record);
     listed.sort();
     assert_eq!(listed, walker.listed_marks(), "{after}: the marks");
     assert_eq!(window(record), window_of(walker), "{after}: the window");
-    let automatic = listed.into_iter().filter(|mark| mark.kind == Kind::Automatic);
-    let automatic: Vec<Mark> = automatic.map(|listed| listed.mark).collect();
-    in_order.retain(|mark| automatic.contains(mark));
-    let new: Vec<Mark> = automatic.into_iter().filter(|mark| !in_order.contains(mark)).collect();
-    assert!(new.len() <= 1, "{after}: {new:?}");
-    in_order.extend(new);
-    assert_eq!(automatic_marks(record), *in_order, "{after}: the order of the automatic marks");
+    let in_order = walker.book().automatic_marks();
+    assert_eq!(automatic_marks(record), in_order, "{after}: the order of the automatic marks");
 }
 
 /// Some lookups after a call. They leave the record. The unit has its marks in ascending order, where of each lower level only
@@ -225,19 +218,19 @@ fn all_same(first_seed: u64, runs: u64, overflows: bool, sizes: fn(&mut Random) 
     println!("{forecast:>9} overflows in forecasts");
     assert!(!overflows || forecast >= 1000, "{forecast} overflows in forecasts");
     // Each byte of a word, each width and each way to be refused: not by chance alone.
-    assert_often(of_widths(4), &all);
+    assert_often(of_widths(4), 10, &all);
     println!("With accessed and dirty bits:");
     let all = same_with(&events(true, overflows), first_seed + BITS_SEEDS, runs / 2, bits_run, sizes);
-    assert_often(of_widths(4), &all);
-    assert_often(of_bits(4, overflows), &all);
+    assert_often(of_widths(4), 10, &all);
+    assert_often(of_bits(4, overflows), 10, &all);
 }
 
 /// Far above the seeds of runs without bits, however many times as many there are.
 const BITS_SEEDS: u64 = 1 << 32;
 
-fn assert_often(names: Vec<String>, all: &Events) {
+fn assert_often(names: Vec<String>, least: u64, all: &Events) {
     for event in names {
-        assert!(all.count(&event) >= 10, "{} times: {event}", all.count(&event));
+        assert!(all.count(&event) >= least, "{} times: {event}", all.count(&event));
     }
 }
 
@@ -284,7 +277,8 @@ const MOVES: [&str; 5] = [
 ];
 
 /// Where tables are written often: S is the least, so that paths of one prefix alone fit at depth 0; little more; and so much
-/// that no fill overflows, or nearly none.
+/// that no fill overflows, or nearly none. Of several automatic marks with the fewest charges the oldest leaves, often where other
+/// rules would clear another one.
 #[test]
 fn tables_written_often() {
     let mut all = Events::default();
@@ -297,9 +291,9 @@ fn tables_written_often() {
     add(80_000, true, false, |random| Sizes::large(random, 4));
     add(90_000, true, true, |random| Sizes { levels: 4, frames: 80, h: 12, s: 4 + random.below(4) });
     println!("In all of them:");
-    for event in MOVES {
-        println!("{:>9} {event}", all.count(event));
-        assert!(all.count(event) >= 1000, "{} times: {event}", all.count(event));
+    for (names, least) in [(MOVES.map(String::from).to_vec(), 1000), (of_ties(), 100)] {
+        names.iter().for_each(|event| println!("{:>9} {event}", all.count(event)));
+        assert_often(names, least, &all);
     }
 }
 
@@ -312,7 +306,7 @@ fn large_pages() {
         println!("Large pages, {:?} and the like:", sizes(&mut Random::new(first_seed)));
         let names = of_large(4, overflows);
         let all = same_with(&names, first_seed, 250, large_run, sizes);
-        assert_often(names, &all);
+        assert_often(names, 10, &all);
     };
     add(110_000, true, |_| Sizes { levels: 4, frames: 16, h: 4, s: 4 });
     add(120_000, true, |random| Sizes::small(random, 4));

@@ -53,8 +53,8 @@ pub struct Book {
     shadow_frames: u64,
     /// All that are set, automatic ones too.
     pub marks: BTreeSet<Mark>,
-    /// Those of them that are automatic. All are of level 1.
-    automatic: BTreeSet<Mark>,
+    /// Those of them that are automatic, the one set longest ago first. All are of level 1.
+    automatic: Vec<Mark>,
     /// None if the automatic choice is off.
     window: Option<Window>,
     /// A path is the first N - d indexes of an address.
@@ -68,7 +68,7 @@ impl Book {
             levels,
             shadow_frames,
             marks: BTreeSet::new(),
-            automatic: BTreeSet::new(),
+            automatic: Vec::new(),
             window: None,
             held: BTreeMap::new(),
         }
@@ -93,10 +93,10 @@ impl Book {
     /// dropped paths.
     pub fn set_mark(&mut self, mark: Mark, kind: Kind) -> Paths {
         let dropped = self.drop_by_prefix(&mark.prefix);
-        match kind {
-            Kind::Operator => self.automatic.remove(&mark),
-            Kind::Automatic => self.automatic.insert(mark.clone()),
-        };
+        self.forget_age(&mark);
+        if kind == Kind::Automatic {
+            self.automatic.push(mark.clone());
+        }
         self.marks.insert(mark);
         dropped
     }
@@ -104,7 +104,7 @@ impl Book {
     /// Clears a mark, whosever it is. Yields the dropped paths.
     pub fn clear_mark(&mut self, mark: &Mark) -> Paths {
         self.marks.remove(mark);
-        self.automatic.remove(mark);
+        self.forget_age(mark);
         self.drop_by_prefix(&mark.prefix)
     }
 

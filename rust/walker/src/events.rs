@@ -302,9 +302,20 @@ pub fn of_bits(levels: u32, overflows: bool) -> Vec<String> {
     names
 }
 
+/// What happens where automatic marks tie and the oldest is cleared (document 02, 9). By
+/// each but the first two, some other rule clears another one: by address, or by an age that
+/// is kept when a mark is set again.
+pub const OF_TIES: [&str; 5] = [
+    "older of two in a tie",
+    "oldest of three or more in a tie",
+    "lower and higher ones of the tie stay",
+    "one older but for being cleared stays",
+    "one older but for being taken over stays",
+];
+
 /// What many runs of so many levels with tables that are written often must have had
-/// (document 02, 7); `several` if paths of several prefixes fit at depth 0, `overflows` if
-/// the shadow tables are few.
+/// (document 02, 7 and 9); `several` if paths of several prefixes fit at depth 0, `overflows`
+/// if the shadow tables are few.
 pub fn of_automatic(levels: u32, several: bool, overflows: bool) -> Vec<String> {
     let mut names = Vec::new();
     let mut add = |name: String| names.push(name);
@@ -315,6 +326,11 @@ pub fn of_automatic(levels: u32, several: bool, overflows: bool) -> Vec<String> 
     // Marks of level N and N + 1 leave no address at depth 0.
     (0..levels).for_each(|depth| add(format!("charge by a store at depth {depth}")));
     (0..=3).for_each(|charges| add(format!("automatic mark cleared, {charges} charges")));
+    // None is left, or a mark was just set for the first time, or again.
+    for charges in [0, 3, 4] {
+        add(format!("automatic mark cleared, a tie at {charges} charges"));
+    }
+    of_ties().into_iter().for_each(&mut add);
     for access in ["Load", "Store"] {
         for way in ["path held", "path not held"] {
             add(format!("granted {access} at an automatic mark, {way}"));
@@ -348,8 +364,8 @@ pub fn of_automatic(levels: u32, several: bool, overflows: bool) -> Vec<String> 
         "automatic mark cleared for the operator",
         "automatic mark cleared, the only one",
         "automatic mark cleared, fewest charges",
-        "automatic mark cleared, lowest of a tie",
         "automatic mark cleared, a lower one has more charges",
+        "automatic mark cleared, an older one has more charges",
         "automatic mark taken over",
         "automatic mark taken over, all marks set",
         "paths dropped by taking an automatic mark over",
@@ -371,6 +387,14 @@ pub fn of_automatic(levels: u32, several: bool, overflows: bool) -> Vec<String> 
         add("charge, a lower path dropped by the store's own fill".into());
     }
     names
+}
+
+/// The same where a charge needs room, and where the operator does.
+pub fn of_ties() -> Vec<String> {
+    let for_each_need = |what: &&str| {
+        ["a store", "the operator"].map(|by| format!("automatic mark cleared for {by}, {what}"))
+    };
+    OF_TIES.iter().flat_map(for_each_need).collect()
 }
 
 /// What many runs of so many levels with large pages must have had (document 02, 8);

@@ -15,10 +15,11 @@ mod automatic;
 mod bits;
 mod large;
 
-use automatic::Rewrite;
+use automatic::{Rewrite, LAST_FAR_MARKS};
 use large::LargePage;
 
 use crate::answer::{Call, Choices};
+use crate::book::MOST_MARKS;
 use crate::job::{raw_record, write_record, Record, JOB_FRAMES, JOB_LEVELS};
 use crate::numbers::*;
 use crate::unit::Unit;
@@ -52,6 +53,14 @@ impl Random {
 
     pub fn pick<T: Copy>(&mut self, from: &[T]) -> T {
         from[self.below(from.len() as u64) as usize]
+    }
+
+    /// Brings the list in any order.
+    pub fn shuffle<T>(&mut self, list: &mut [T]) {
+        for place in 1..list.len() {
+            let other = self.below(place as u64 + 1) as usize;
+            list.swap(place, other);
+        }
     }
 }
 
@@ -609,8 +618,8 @@ impl Guest {
 
     // The calls.
 
-    /// Maps of the planned frames, the root, some marks, and at times nearly 64
-    /// marks far from the pages in use.
+    /// Maps of the planned frames, the root, some marks, and at times nearly as many
+    /// marks as can be set, far from the pages in use.
     fn setup(&mut self, calls: usize) -> Vec<Call> {
         let mut list: Vec<Call> = self.plan.iter().map(planned_map).collect();
         list.push(Call::Root { frame: self.names[0] });
@@ -625,12 +634,14 @@ impl Guest {
     /// Where tables are written often, just enough at times that few automatic marks, or
     /// none, have a place.
     fn far_marks_at_first(&mut self, calls: usize) -> u64 {
+        let most = MOST_MARKS as u64;
         if calls < 200 {
             0
         } else if !self.rewrites.is_empty() {
-            self.random.pick(&[0, 58, 60, 60, 61, 61, 62, 62, 63, 64])
+            let unset = self.random.pick(&[most, 6, 4, 4, 3, 3, 2, 2, 1, 0]);
+            most - unset
         } else if self.random.one_in(3) {
-            60
+            most - 4
         } else {
             0
         }
@@ -1060,7 +1071,7 @@ impl Guest {
             13 => Call::Map { guest, host: self.odd_host_frame(), writable: true },
             14 => self.odd_frame_call(far_guest),
             _ => {
-                let number = self.random.below(70);
+                let number = self.random.below(LAST_FAR_MARKS.end);
                 self.far_mark(number)
             }
         }

@@ -11,6 +11,7 @@ use crate::book::{
 use crate::events::Events;
 use crate::machine::{words_read, Access, Machine, Mapping, Step, Walk, Word};
 use crate::numbers::*;
+use automatic::KeptAges;
 use std::collections::BTreeMap;
 
 /// How many addresses a forecast takes (document 02, request 2).
@@ -27,6 +28,8 @@ pub struct Unit {
     /// The path of the request before, if it was not held and a fault behind its shadow
     /// part left it so. Only events rest on it.
     left_unfilled: Option<Vec<u64>>,
+    /// Ages that automatic marks do not have. Only events rest on them.
+    kept_ages: KeptAges,
 }
 
 /// A load or store of a guest-virtual address that is not refused.
@@ -106,7 +109,14 @@ impl Unit {
 
     /// One in the middle of a run, with this state.
     pub fn of(machine: Machine, book: Book) -> Unit {
-        Unit { machine, book, events: Events::default(), changed: BTreeMap::new(), left_unfilled: None }
+        Unit {
+            machine,
+            book,
+            events: Events::default(),
+            changed: BTreeMap::new(),
+            left_unfilled: None,
+            kept_ages: KeptAges::default(),
+        }
     }
 
     /// The words of the guest area, in order.
@@ -227,9 +237,9 @@ impl Unit {
             return Answer::No(MARKS_FULL);
         }
         let full = self.book.marks_full();
-        let dropped = self.book.set_mark(mark, Kind::Operator);
+        let dropped = self.book.set_mark(mark.clone(), Kind::Operator);
         if kind.is_some() {
-            self.note_taken_over(full, dropped.len());
+            self.note_taken_over(&mark, full, dropped.len());
         }
         self.events.add(format!("mark of level {level} set, {}", self.half(address)));
         self.events.add_many(format!("paths dropped by setting a mark of level {level}"), dropped.len());

@@ -1,5 +1,5 @@
-//! Request 7 of document 02, tables that are written often. The numbers are worked out by
-//! hand from the papers.
+//! Requests 7 and 9 of document 02, tables that are written often and the oldest automatic
+//! mark. The numbers are worked out by hand from the papers.
 //!
 //! The guest is like document 01's, with more entries. Frames 0 to 2 are the tables of
 //! levels 4 to 2. Entries 0 to 3 of frame 2 name frame 3, entry 4 names frame 6, and entry
@@ -89,6 +89,20 @@ fn loads(unit: &mut Unit, many: usize) {
 /// The operator sets so many marks of level 3 that hold for no address used here.
 fn set_others(unit: &mut Unit, many: u64) {
     (1..=many).for_each(|index| assert_eq!(set_mark(unit, index << 39, 3), Answer::Ok));
+}
+
+/// All marks are set, those of these prefixes automatic: in this order, with three charges each.
+fn all_set(prefixes: &[u64]) -> Unit {
+    let mut unit = guest();
+    set_others(&mut unit, 64 - prefixes.len() as u64);
+    prefixes.iter().for_each(|prefix| charge_times(&mut unit, *prefix, 3));
+    unit
+}
+
+/// The operator sets one more mark, which needs a place.
+fn set_another(unit: &mut Unit, index: u64) {
+    assert_eq!(set_mark(unit, index << 39, 3), Answer::Ok);
+    assert_eq!(unit.listed_marks().len(), 64);
 }
 
 /// The last indexes of the automatic marks below 0, 0, each with its charges.
@@ -607,74 +621,143 @@ fn a_charge_clears_the_only_automatic_mark() {
     assert_eq!(automatic(&unit), [(1, 4)]);
 }
 
+/// Whether its address is lower or higher.
 #[test]
-fn of_a_tie_the_lowest_goes() {
-    for order in [[0, 1, 2], [2, 1, 0], [1, 2, 0]] {
-        let mut unit = guest();
-        set_others(&mut unit, 61);
-        order.iter().for_each(|prefix| charge_times(&mut unit, *prefix, 3));
-        assert_eq!(automatic(&unit), [(0, 3), (1, 3), (2, 3)]);
-        charge_times(&mut unit, 3, 3);
-        assert_eq!(automatic(&unit), [(1, 3), (2, 3), (3, 3)]);
-        // The lowest of the others for the operator, and with no charge left the same.
-        assert_eq!(set_mark(&mut unit, 100 << 39, 3), Answer::Ok);
-        assert_eq!(automatic(&unit), [(2, 3), (3, 3)]);
-        load_root(&mut unit);
-        assert_eq!(set_mark(&mut unit, 101 << 39, 3), Answer::Ok);
-        assert_eq!(automatic(&unit), [(3, 0)]);
-    }
-    // The upper half is higher here, too.
-    let mut unit = guest();
-    set_others(&mut unit, 62);
-    for address in [UPPER, at(3)] {
-        for _ in 0..3 {
-            load(&mut unit, address);
-            store(&mut unit, address + TABLE, 0x4003);
-        }
-    }
-    charge_times(&mut unit, 2, 3);
-    let listed = unit.listed_marks().into_iter().filter(|listed| listed.kind == Kind::Automatic);
-    let prefixes: Vec<Vec<u64>> = listed.map(|listed| listed.mark.prefix).collect();
-    assert_eq!(prefixes, [vec![0, 0, 2], vec![256, 0, 0]]);
-}
-
-/// Prefix 1 has its charges first, as requests 2, 4 and 6. The third charge to prefix 2 is 18
-/// requests and those in between: with 48 in between the 66th, for which request 2 leaves.
-#[test]
-fn the_fewest_charges_go_first() {
-    for (between, left) in [(46, 3), (47, 3), (48, 2), (49, 2), (50, 1), (51, 1), (52, 0)] {
-        let mut unit = guest();
-        set_others(&mut unit, 62);
-        charge_times(&mut unit, 1, 3);
-        loads(&mut unit, between);
-        charge_times(&mut unit, 0, 3);
+fn of_two_in_a_tie_the_older_goes() {
+    for (older, newer) in [(0, 1), (1, 0)] {
+        let mut unit = all_set(&[older, newer]);
         assert_eq!(automatic(&unit), [(0, 3), (1, 3)]);
         charge_times(&mut unit, 2, 3);
-        let marks = if left == 3 { [(1, 3), (2, 3)] } else { [(0, 3), (2, 3)] };
-        assert_eq!((automatic(&unit), charges(&unit, 1)), (marks.to_vec(), left), "{between}");
+        assert_eq!(automatic(&unit), [(newer, 3), (2, 3)]);
+        // For the operator by the same choice.
+        let mut unit = all_set(&[older, newer]);
+        set_another(&mut unit, 100);
+        assert_eq!(automatic(&unit), [(newer, 3)]);
+    }
+    // The half says nothing, either.
+    for (older, newer) in [(UPPER, at(3)), (at(3), UPPER)] {
+        let mut unit = guest();
+        set_others(&mut unit, 62);
+        for address in [older, newer, at(2)] {
+            for _ in 0..3 {
+                load(&mut unit, address);
+                store(&mut unit, address + TABLE, 0x4003);
+            }
+        }
+        let in_order = unit.book().automatic_marks().iter().map(|mark| mark.prefix.clone());
+        let newer = if newer == UPPER { vec![256, 0, 0] } else { vec![0, 0, 3] };
+        assert_eq!(in_order.collect::<Vec<_>>(), [newer, vec![0, 0, 2]]);
+    }
+}
+
+#[test]
+fn of_three_in_a_tie_the_oldest_goes() {
+    for order in [[0, 1, 2], [0, 2, 1], [1, 0, 2], [1, 2, 0], [2, 0, 1], [2, 1, 0]] {
+        let mut unit = all_set(&order);
+        assert_eq!(automatic(&unit), [(0, 3), (1, 3), (2, 3)]);
+        charge_times(&mut unit, 3, 3);
+        let [_, second, third] = order;
+        let two = [second.min(third), second.max(third)];
+        assert_eq!(automatic(&unit), [(two[0], 3), (two[1], 3), (3, 3)]);
+        // The oldest of these for the operator, and with no charge left the same.
+        set_another(&mut unit, 100);
+        assert_eq!(automatic(&unit), [(third, 3), (3, 3)]);
+        load_root(&mut unit);
+        set_another(&mut unit, 101);
+        assert_eq!(automatic(&unit), [(3, 0)]);
+    }
+}
+
+/// The first of three is withdrawn: for a mark of the operator's that is then cleared, or as
+/// the operator takes it over and clears it. Its charges are in the window still, so that one
+/// more sets it again.
+#[test]
+fn a_mark_set_again_is_new() {
+    let far = 100 << 39;
+    for (address, level) in [(far, 3), (at(1), 1)] {
+        let mut unit = all_set(&[1, 0, 2]);
+        assert_eq!(set_mark(&mut unit, address, level), Answer::Ok);
+        assert_eq!(automatic(&unit), [(0, 3), (2, 3)]);
+        assert_eq!(clear_mark(&mut unit, address, level), Answer::Ok);
+        charge(&mut unit, 1);
+        assert_eq!(automatic(&unit), [(0, 3), (1, 4), (2, 3)]);
+        // With no charges left the others are older.
+        load_root(&mut unit);
+        charge_times(&mut unit, 3, 3);
+        assert_eq!(automatic(&unit), [(1, 0), (2, 0), (3, 3)]);
+        set_another(&mut unit, 101);
+        assert_eq!(automatic(&unit), [(1, 0), (3, 3)]);
+    }
+}
+
+/// Three prefixes and two places: each charge sets the mark that was cleared before it.
+#[test]
+fn marks_leave_by_turns() {
+    let mut unit = all_set(&[0, 1]);
+    charge_times(&mut unit, 2, 3);
+    assert_eq!(automatic(&unit), [(1, 3), (2, 3)]);
+    charge(&mut unit, 0);
+    assert_eq!(automatic(&unit), [(0, 4), (2, 3)]);
+    // Prefix 2 has the fewest.
+    charge(&mut unit, 1);
+    assert_eq!(automatic(&unit), [(0, 4), (1, 4)]);
+    charge(&mut unit, 2);
+    assert_eq!(automatic(&unit), [(1, 4), (2, 4)]);
+    charge(&mut unit, 0);
+    assert_eq!(automatic(&unit), [(0, 5), (2, 4)]);
+}
+
+/// All marks are set. Requests 2, 4 and 12 are charged to prefix 1, and 6, 8 and 10 to prefix
+/// 0: so its mark is the older.
+fn older_with_later_charges() -> Unit {
+    let mut unit = guest();
+    set_others(&mut unit, 62);
+    charge_times(&mut unit, 1, 2);
+    charge_times(&mut unit, 0, 3);
+    charge(&mut unit, 1);
+    assert_eq!(automatic(&unit), [(0, 3), (1, 3)]);
+    unit
+}
+
+/// The third charge to prefix 2 is 18 requests and those in between: with 48 in between the
+/// 66th, for which request 2 leaves. The older mark goes only where the two have as many, or
+/// it has fewer.
+#[test]
+fn the_fewest_charges_go_first() {
+    let cases = [
+        (47, [3, 3], (1, 3)),
+        (48, [3, 2], (0, 3)),
+        (50, [3, 1], (0, 3)),
+        (52, [2, 1], (0, 2)),
+        (53, [2, 1], (0, 2)),
+        (54, [1, 1], (1, 1)),
+        (56, [0, 1], (1, 1)),
+        (57, [0, 1], (1, 1)),
+        (58, [0, 0], (1, 0)),
+    ];
+    for (between, left, stays) in cases {
+        let mut unit = older_with_later_charges();
+        loads(&mut unit, between);
+        charge_times(&mut unit, 2, 3);
+        assert_eq!([0, 1].map(|prefix| charges(&unit, prefix)), left, "{between}");
+        assert_eq!(automatic(&unit), [stays, (2, 3)], "{between}");
     }
 }
 
 /// The store enters before the choice is made: the charge that leaves for it is gone.
 #[test]
 fn the_choice_is_by_the_window_with_the_store_in_it() {
-    // Requests 2, 4 and 6 charge prefix 1, then three prefix 0 and two prefix 2. These are
-    // 16, and 49 loads more make 65: the store is the 66th, for which request 2 leaves.
-    let mut unit = guest();
-    set_others(&mut unit, 62);
-    charge_times(&mut unit, 1, 3);
-    charge_times(&mut unit, 0, 3);
+    // Two charges to prefix 2 make 16 requests, and 49 loads more 65: the store is the 66th,
+    // for which request 2 leaves.
+    let mut unit = older_with_later_charges();
     charge_times(&mut unit, 2, 2);
     loads(&mut unit, 48);
     load(&mut unit, at(2));
     assert_eq!(automatic(&unit), [(0, 3), (1, 3)]);
     store(&mut unit, at(2) + TABLE, 0x4003);
     assert_eq!(automatic(&unit), [(0, 3), (2, 3)]);
-    // One request earlier the two have as many, and the lower goes.
-    let mut unit = guest();
-    set_others(&mut unit, 62);
-    charge_times(&mut unit, 1, 3);
-    charge_times(&mut unit, 0, 3);
+    // One request earlier the two have as many, and the older goes.
+    let mut unit = older_with_later_charges();
     charge_times(&mut unit, 2, 2);
     loads(&mut unit, 47);
     charge(&mut unit, 2);

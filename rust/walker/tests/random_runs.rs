@@ -127,7 +127,7 @@ impl Pair {
     }
 
     fn is_automatic(&self, mark: (u64, u64)) -> bool {
-        mark.0 == 1 && self.automatic.as_ref().is_some_and(|automatic| automatic.marks.contains(&mark.1))
+        mark.0 == 1 && self.automatic.as_ref().is_some_and(|automatic| automatic.has(mark.1))
     }
 
     /// What setting or clearing a mark must answer, from the operator's marks so far.
@@ -168,7 +168,7 @@ impl Pair {
             (Call::SetMark { address, level }, Answer::Ok) => {
                 let mark = mark(address, level, levels);
                 if self.is_automatic(mark) {
-                    self.automatic.iter_mut().for_each(|automatic| assert!(automatic.marks.remove(&mark.1)));
+                    self.automatic.iter_mut().for_each(|automatic| automatic.clear(mark.1));
                 } else {
                     self.set(address, level);
                 }
@@ -197,7 +197,7 @@ impl Pair {
     // Automatic marks.
 
     fn clear_automatic(&mut self, prefix: u64) {
-        self.automatic.iter_mut().for_each(|automatic| assert!(automatic.marks.remove(&prefix)));
+        self.automatic.iter_mut().for_each(|automatic| automatic.clear(prefix));
         self.clear(prefix << 21, 1);
     }
 
@@ -221,12 +221,13 @@ impl Pair {
             self.clear_automatic(cleared);
             held.retain(|path, _| !begins(path, cleared, levels));
         }
-        self.automatic.iter_mut().for_each(|automatic| assert!(automatic.marks.insert(prefix)));
+        self.automatic.iter_mut().for_each(|automatic| automatic.set(prefix));
         self.set(prefix << 21, 1);
         held.retain(|path, _| !begins(path, prefix, levels));
     }
 
-    /// The book's marks are these, each with its kind and its charges.
+    /// The book's marks are these, each with its kind and its charges, and the automatic ones
+    /// in the order of their setting.
     fn check_marks(&self) {
         let listed = |entry: ListedMark| {
             let levels = self.naive.levels;
@@ -240,6 +241,10 @@ impl Pair {
             assert_eq!(charges, automatic.map_or(0, |automatic| automatic.charges(mark.1)));
             assert_eq!(kind == Kind::Automatic, self.is_automatic(mark));
         }
+        let in_order = self.unit.book().automatic_marks().iter();
+        let in_order: Vec<u64> =
+            in_order.map(|mark| page_from(&mark.prefix, self.naive.levels) / 512).collect();
+        assert_eq!(in_order, self.automatic.as_ref().map_or(Vec::new(), Automatic::in_order));
     }
 
     /// The book's window has just these charges, in their order.

@@ -1,7 +1,7 @@
 //! Makes one of the main calls so many times, for callgrind to count: `count CASE CALLS`. `count` alone names the cases.
 //! tests/counts.rs counts what runs from entry to return of the functions of `counted`, and nothing around them.
 
-use cangrieb::{Answer, Choices, Lookup, Record};
+use cangrieb::{Answer, Choices, Kind, Lookup, Record};
 
 /// One call of the wrapper each. As they are exported, they are compiled for any arguments and callers, not for those here.
 mod counted {
@@ -40,7 +40,7 @@ mod counted {
 /// time costs the same.
 type Case = (&'static str, fn() -> Guest, fn(&mut Record, &mut [u64]));
 
-const CASES: [Case; 57] = [
+const CASES: [Case; 58] = [
     ("load-depth-0", || held(0, 0), load::<0>),
     ("load-depth-0-marks-8", || held(0, 8), load::<0>),
     ("load-depth-0-marks-62", || held(0, 62), load::<0>),
@@ -92,6 +92,7 @@ const CASES: [Case; 57] = [
     ("map-anew", guest, map_anew),
     ("map-unmap", guest, map_unmap),
     ("mark-set-clear", guest, mark_set_clear),
+    ("mark-makes-room", three_automatic, mark_makes_room),
     ("root-load-fill", || held(0, 0), root_load_fill),
     ("forecast-256-held", || served(guest(), &near()), |unit, memory| forecast(unit, memory, &near(), 0, 4)),
     ("forecast-256-missing", guest, |unit, memory| forecast(unit, memory, &near(), 256, 4)),
@@ -202,6 +203,20 @@ fn mark_set_clear(unit: &mut Record, memory: &mut [u64]) {
     assert_eq!(counted::clear_mark(unit, memory, 0, 1), Answer::Ok);
 }
 
+/// The operator's mark finds the table full, and the oldest of three automatic marks with three charges each leaves. Then all three
+/// are set anew, in their order.
+fn mark_makes_room(unit: &mut Record, memory: &mut [u64]) {
+    let more = elsewhere(unit.place.len() as u64);
+    assert_eq!(counted::set_mark(unit, memory, more, 1), Answer::Ok);
+    assert_eq!(unit.depth(MARKED[0]).depth, 0);
+    assert_eq!(unit.clear_mark(memory, more, 1), Answer::Ok);
+    for address in &MARKED[1..] {
+        assert_eq!(unit.set_mark(memory, *address, 1), Answer::Ok);
+        assert_eq!(unit.clear_mark(memory, *address, 1), Answer::Ok);
+    }
+    set_automatic(unit, memory);
+}
+
 /// The root load drops all paths, so that the load fills its own, of four tables.
 fn root_load_fill(unit: &mut Record, memory: &mut [u64]) {
     root(unit, memory);
@@ -295,8 +310,8 @@ fn served(guest: Guest, addresses: &[u64]) -> Guest {
 
 /// The guest with a mark of level `depth` at its page (0: none) and so many marks elsewhere, and with the page's path
 /// held; at depth 5 there is none to hold.
-fn held(depth: u64, elsewhere: u64) -> Guest {
-    held_in(guest(), depth, elsewhere)
+fn held(depth: u64, marks: u64) -> Guest {
+    held_in(guest(), depth, marks)
 }
 
 /// The same with accessed and dirty bits, all of which are set: no request of the page sets one.
@@ -317,6 +332,36 @@ fn self_mapped(choices: Choices) -> Guest {
     Guest { unit, memory }
 }
 
+/// Where its automatic marks are, the first that is set first.
+const MARKED: [u64; 3] = [2 << 21, 1 << 21, 3 << 21];
+
+/// Three charges to each, and none before.
+fn set_automatic(unit: &mut Record, memory: &mut [u64]) {
+    assert_eq!(unit.root(memory, 0), Answer::Ok);
+    for address in MARKED {
+        for _ in 0..3 {
+            assert!(matches!(unit.load(memory, address, 8), Answer::Value { word: WORD, .. }));
+            assert!(matches!(unit.store(memory, TABLE, 8, ENTRY), Answer::Done { .. }));
+        }
+    }
+    assert_eq!(unit.marks().filter(|mark| mark.kind == Kind::Automatic).count(), MARKED.len());
+}
+
+/// That guest with these marks and as many of the operator's as there is room for.
+fn three_automatic() -> Guest {
+    let Guest { mut unit, mut memory } = self_mapped(AUTOMATIC);
+    set_automatic(&mut unit, &mut memory);
+    for number in MARKED.len()..unit.place.len() {
+        assert_eq!(unit.set_mark(&mut memory, elsewhere(number as u64), 1), Answer::Ok);
+    }
+    Guest { unit, memory }
+}
+
+/// Where marks that hold for none of the guest's pages are.
+fn elsewhere(number: u64) -> u64 {
+    (1 << 40) + (number << 21)
+}
+
 /// The guest with large pages of guest frames 0 on in place of the tables below this level, 2 or 3: its page is found at the address
 /// that it has as a frame. A mark of level `mark` is there (0: none), and the path is held.
 fn held_large(level: u64, mark: u64) -> Guest {
@@ -330,13 +375,13 @@ fn held_large(level: u64, mark: u64) -> Guest {
     Guest { unit, memory }
 }
 
-fn held_in(guest: Guest, depth: u64, elsewhere: u64) -> Guest {
+fn held_in(guest: Guest, depth: u64, marks: u64) -> Guest {
     let Guest { mut unit, mut memory } = guest;
     if depth > 0 {
         assert_eq!(unit.set_mark(&mut memory, 0, depth), Answer::Ok);
     }
-    for number in 0..elsewhere {
-        assert_eq!(unit.set_mark(&mut memory, (1 << 40) + (number << 21), 1), Answer::Ok);
+    for number in 0..marks {
+        assert_eq!(unit.set_mark(&mut memory, elsewhere(number), 1), Answer::Ok);
     }
     assert!(matches!(unit.load(&mut memory, 0, 8), Answer::Value { word: WORD, .. }));
     Guest { unit, memory }
@@ -344,8 +389,8 @@ fn held_in(guest: Guest, depth: u64, elsewhere: u64) -> Guest {
 
 /// The guest with marks of all five levels at its page and so many elsewhere. The four lower ones are all that can stand
 /// before the one of level 5.
-fn below_top(elsewhere: u64) -> Guest {
-    let Guest { mut unit, mut memory } = held(5, elsewhere);
+fn below_top(marks: u64) -> Guest {
+    let Guest { mut unit, mut memory } = held(5, marks);
     for level in 1..5 {
         assert_eq!(unit.set_mark(&mut memory, 0, level), Answer::Ok);
     }

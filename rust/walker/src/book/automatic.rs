@@ -1,5 +1,5 @@
-//! The automatic choice (document 02, 7): the last loads and stores, which prefixes the
-//! stores were charged to, and which marks go first.
+//! The automatic choice (document 02, 7 and 9): the last loads and stores, which prefixes
+//! the stores were charged to, and which marks go first.
 
 use super::{Book, HeldPath, Mark, Paths};
 use crate::machine::Word;
@@ -93,11 +93,22 @@ impl Book {
         self.marks.iter().filter_map(listed).collect()
     }
 
+    /// The automatic marks, the one set longest ago first.
+    pub fn automatic_marks(&self) -> &[Mark] {
+        &self.automatic
+    }
+
     /// The automatic mark that is cleared where a place is wanted: the one with the fewest
-    /// charges, of several such the lowest. Lists of indexes are in the order of their
-    /// addresses, the upper half above the lower.
+    /// charges. "A tie now clears the mark set longest ago" (document 02, 9): the first of
+    /// several is taken.
     pub fn first_to_go(&self) -> Option<Mark> {
-        self.automatic.iter().min_by_key(|mark| (self.charges_to(&mark.prefix), &mark.prefix)).cloned()
+        self.automatic.iter().min_by_key(|mark| self.charges_to(&mark.prefix)).cloned()
+    }
+
+    /// The mark is not automatic, or no longer. It loses its place in the order: "A mark set
+    /// again counts as new" (document 02, 9).
+    pub(super) fn forget_age(&mut self, mark: &Mark) {
+        self.automatic.retain(|other| other != mark);
     }
 
     /// What a guest store to this word is charged to, by the paths that it dropped: of all

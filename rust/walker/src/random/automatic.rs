@@ -1,7 +1,8 @@
-//! Random runs in which tables are written often (document 02, 7): tables of level 1 that
-//! several entries above name and that are pages too, and the calls that store to them.
+//! Random runs in which tables are written often (document 02, 7 and 9): tables of level 1
+//! that several entries above name and that are pages too, and the calls that store to them.
 
 use super::*;
+use std::ops::Range;
 
 /// Stores of an entry of level 1.
 #[derive(Clone, Debug)]
@@ -15,6 +16,31 @@ pub(super) struct Rewrite {
     /// The pages that have the entry.
     pages: Vec<u64>,
 }
+
+/// A load by an entry of level 1 and a store of it: one charge to the prefix of the page.
+#[derive(Clone, Debug)]
+struct Charge {
+    /// An address in the page.
+    page: u64,
+    /// Where the guest stores the entry.
+    place: u64,
+    entry: u64,
+}
+
+impl Charge {
+    fn calls(&self) -> [Call; 2] {
+        [Call::load_word(self.page), Call::store_word(self.place, self.entry)]
+    }
+
+    /// So many charges.
+    fn times(&self, many: usize) -> Vec<Call> {
+        vec![self.calls(); many].concat()
+    }
+}
+
+/// The last of the marks that fill the places: with those before them they are more than can
+/// be set.
+pub(super) const LAST_FAR_MARKS: Range<u64> = MOST_MARKS as u64 - 8..MOST_MARKS as u64 + 6;
 
 /// How many loads may lie between the second of three charges, each a load and a store,
 /// and the third, if the first is to be in the window still.
@@ -133,10 +159,7 @@ impl Guest {
             }
         }
         // In any order: the first ones are more often used.
-        for place in 1..self.rewrites.len() {
-            let other = self.random.below(place as u64 + 1) as usize;
-            self.rewrites.swap(place, other);
-        }
+        self.random.shuffle(&mut self.rewrites);
     }
 
     // The calls.
@@ -168,7 +191,8 @@ impl Guest {
             }
             46 | 47 => self.first_of(Guest::calls_at_the_windows_edge),
             48 => self.first_of(Guest::many_loads),
-            49..=52 => Call::load_word(self.granted_address(false)),
+            49 | 50 => self.first_of(Guest::calls_of_a_tie),
+            51 | 52 => Call::load_word(self.granted_address(false)),
             53..=56 => self.first_of(Guest::rewrite_by_a_device),
             _ => self.first_of(Guest::rewrite),
         }
@@ -287,14 +311,109 @@ impl Guest {
     /// comes, or just not. Before them the window is emptied and the prefix has no mark.
     fn calls_at_the_windows_edge(&mut self) -> Vec<Call> {
         let rewrite = self.pick_rewrite();
-        let address = self.address_by(&rewrite);
-        let charge = [Call::load_word(address), Call::store_word(rewrite.address, rewrite.entry)];
+        let page = self.address_by(&rewrite);
+        let charge = Charge { page, place: rewrite.address, entry: rewrite.entry };
         let mut calls = vec![Call::Root { frame: self.names[0] }];
-        calls.extend(no_mark_at(address));
-        calls.extend([charge.clone(), charge.clone()].concat());
+        calls.extend(no_mark_at(page));
+        calls.extend(charge.times(2));
         let more = self.random.pick(&[0, 1, 1, 2]);
         calls.extend(self.loads_and_others(LOADS_IN_BETWEEN - 1 + more));
-        calls.extend(charge);
+        calls.extend(charge.calls());
+        calls
+    }
+
+    /// All marks are set, of which a few are automatic and tie (document 02, 9). These are set
+    /// in an order that has nothing to do with their addresses, and some are withdrawn and
+    /// set again. Then charges and the operator need places, until none is automatic.
+    fn calls_of_a_tie(&mut self) -> Vec<Call> {
+        let mut marked = self.charge_of_each_prefix();
+        if marked.len() < 3 {
+            return Vec::new();
+        }
+        self.random.shuffle(&mut marked);
+        let many = marked.len().min(3 + self.random.below(4) as usize);
+        let waiting = marked.split_off(many);
+        let first = self.random.below(LAST_FAR_MARKS.start - many as u64);
+        let places: Vec<Call> = (first..first + many as u64).map(|number| self.far_mark(number)).collect();
+        // All is as planned, and all marks are the operator's but for the places.
+        let mut calls: Vec<Call> = self.undo.drain(..).rev().collect();
+        calls.extend(LAST_FAR_MARKS.map(|number| self.far_mark(number)));
+        calls.extend(marked.iter().map(|charge| Call::ClearMark { address: charge.page, level: 1 }));
+        calls.extend(places.iter().map(clearing));
+        calls.push(Call::Root { frame: self.names[0] });
+        // One after the other, or by turns.
+        let (rounds, times) = self.random.pick(&[(1, 3), (1, 3), (3, 1)]);
+        for _ in 0..rounds {
+            calls.extend(marked.iter().flat_map(|charge| charge.times(times)));
+        }
+        for _ in 0..self.random.pick(&[0, 0, 1, 2, many, many]) {
+            calls.extend(self.set_again(&mut marked, &places));
+        }
+        // Of the charges none is left, or some, or all.
+        let loads = 20 + self.random.below(50);
+        match self.random.below(6) {
+            0..=2 => calls.push(Call::Root { frame: self.names[0] }),
+            3 => calls.extend(self.loads_and_others(loads)),
+            _ => {}
+        }
+        calls.extend(self.calls_that_need_places(marked, waiting, places));
+        // Some places are free again.
+        calls.extend((0..many).map(|_| clearing(&self.last_far_mark())));
+        calls
+    }
+
+    /// The operator sets as many marks as there are automatic ones. In between, prefixes that
+    /// have none get theirs: the waiting ones, then those that lost it.
+    fn calls_that_need_places(
+        &mut self,
+        mut marked: Vec<Charge>,
+        mut waiting: Vec<Charge>,
+        places: Vec<Call>,
+    ) -> Vec<Call> {
+        let mut calls = Vec::new();
+        for place in places {
+            if !waiting.is_empty() && self.random.one_in(2) {
+                let charge = waiting.remove(0);
+                calls.extend(charge.times(3));
+                marked.push(charge);
+                waiting.push(marked.remove(0));
+            }
+            calls.push(place);
+            waiting.push(marked.remove(0));
+        }
+        calls
+    }
+
+    /// A charge to each prefix that can have one. The store goes by a page of the same prefix
+    /// if one will do, so that four tables suffice.
+    fn charge_of_each_prefix(&self) -> Vec<Charge> {
+        let prefixes: BTreeSet<u64> = self.load_pages.iter().map(|page| page / FRAME_WORDS).collect();
+        let charge_to = |prefix: u64| {
+            let of_prefix = |page: u64| page / FRAME_WORDS == prefix;
+            let usable = self.rewrites.iter().filter_map(|rewrite| {
+                let mut pages = rewrite.pages.iter().filter(|page| of_prefix(**page));
+                Some((rewrite, *pages.find(|page| self.load_pages.contains(page))?))
+            });
+            let (rewrite, page) = usable.min_by_key(|(rewrite, _)| !of_prefix(rewrite.through))?;
+            let page = address_of(page, self.sizes.levels);
+            Some(Charge { page, place: rewrite.address, entry: rewrite.entry })
+        };
+        prefixes.into_iter().filter_map(charge_to).collect()
+    }
+
+    /// One of the automatic marks, often the oldest, is withdrawn, by the operator or for room,
+    /// and by one charge more it is the newest.
+    fn set_again(&mut self, marked: &mut Vec<Charge>, places: &[Call]) -> Vec<Call> {
+        let oldest = self.random.one_in(2);
+        let place = if oldest { 0 } else { self.random.below(marked.len() as u64) as usize };
+        let charge = marked.remove(place);
+        let withdrawn = if place == 0 && self.random.one_in(2) {
+            [places[0].clone(), clearing(&places[0])]
+        } else {
+            no_mark_at(charge.page)
+        };
+        let calls = withdrawn.into_iter().chain(charge.calls()).collect();
+        marked.push(charge);
         calls
     }
 
@@ -319,15 +438,30 @@ impl Guest {
 
     /// One of the last of those that fill the places: mostly it is set.
     fn any_far_mark(&mut self) -> Call {
-        let number = 56 + self.random.below(14);
-        match self.far_mark(number) {
-            Call::SetMark { address, level } if self.random.one_in(4) => Call::ClearMark { address, level },
-            call => call,
+        let set = self.last_far_mark();
+        if self.random.one_in(4) {
+            clearing(&set)
+        } else {
+            set
         }
+    }
+
+    fn last_far_mark(&mut self) -> Call {
+        let Range { start, end } = LAST_FAR_MARKS;
+        let number = start + self.random.below(end - start);
+        self.far_mark(number)
     }
 }
 
 /// The operator sets the mark of level 1 and clears it: none is left there, whosever it was.
 fn no_mark_at(address: u64) -> [Call; 2] {
     [Call::SetMark { address, level: 1 }, Call::ClearMark { address, level: 1 }]
+}
+
+/// The call that clears the mark which this one sets.
+fn clearing(call: &Call) -> Call {
+    match call.clone() {
+        Call::SetMark { address, level } => Call::ClearMark { address, level },
+        other => other,
+    }
 }

@@ -1,11 +1,32 @@
-//! The automatic choice (document 02, 7) where calls meet it. The notes of events read
-//! the state and change only the counters.
+//! The automatic choice (document 02, 7 and 9) where calls meet it. The notes of events
+//! read the state and change only the counters, and what only events rest on.
 
 use super::{Met, Request, Served, Unit, Written};
 use crate::book::{Kind, Mark, Paths, CHARGES_FOR_A_MARK, WINDOW_LENGTH};
+use crate::events::OF_TIES;
 use crate::machine::Walk;
 use crate::numbers::{address_of, page_from, WORD_BYTES};
 use std::collections::BTreeSet;
+
+/// The automatic marks by ages that they do not have, since one set again is new: in the
+/// order of their first setting, but for those that lost their age in the other way.
+#[derive(Clone, Debug, Default)]
+pub(super) struct KeptAges {
+    /// As if one that was cleared for room kept its age.
+    cleared: Vec<Mark>,
+    /// As if one that the operator took over and cleared did.
+    taken_over: Vec<Mark>,
+}
+
+impl KeptAges {
+    fn set(&mut self, mark: &Mark) {
+        for ages in [&mut self.cleared, &mut self.taken_over] {
+            if !ages.contains(mark) {
+                ages.push(mark.clone());
+            }
+        }
+    }
+}
 
 impl Unit {
     /// A granted store, when its own drops are done.
@@ -34,7 +55,9 @@ impl Unit {
             return self.events.add("no automatic mark set, all marks are the operator's");
         }
         let half = self.half(address_of(page_from(&prefix, self.levels()), self.levels()));
-        let dropped = self.book.set_mark(Mark { level: 1, prefix }, Kind::Automatic);
+        let mark = Mark { level: 1, prefix };
+        self.kept_ages.set(&mark);
+        let dropped = self.book.set_mark(mark, Kind::Automatic);
         self.events.add(format!("automatic mark set, {half}"));
         self.events
             .add(format!("automatic mark set, {}", if full { "another cleared" } else { "place free" }));
@@ -156,22 +179,44 @@ impl Unit {
 
     /// An automatic mark that is cleared for room.
     fn note_first_to_go(&mut self, mark: &Mark, by: &str) {
-        let listed = self.book.listed_marks();
-        let others = listed.iter().filter(|other| other.kind == Kind::Automatic && other.mark != *mark);
-        let others: Vec<(usize, &Mark)> = others.map(|other| (other.charges, &other.mark)).collect();
+        let marks = self.book.automatic_marks().to_vec();
         let charges = self.book.charges_to(&mark.prefix);
-        let tie = others.iter().any(|(many, _)| *many == charges);
-        let lower = others.iter().any(|(_, other)| *other < mark);
+        let (tie, more): (Vec<&Mark>, Vec<&Mark>) =
+            marks.iter().partition(|other| self.book.charges_to(&other.prefix) == charges);
+        let lower = more.iter().any(|other| *other < mark);
+        let older = marks.first() != Some(mark);
         self.events.add(format!("automatic mark cleared for {by}"));
         self.events.add(format!("automatic mark cleared, {charges} charges"));
-        self.events.add_if(others.is_empty(), "automatic mark cleared, the only one");
-        self.events.add_if(!others.is_empty() && !tie, "automatic mark cleared, fewest charges");
-        self.events.add_if(tie, "automatic mark cleared, lowest of a tie");
+        self.events.add_if(more.is_empty() && tie.len() == 1, "automatic mark cleared, the only one");
+        self.events.add_if(!more.is_empty() && tie.len() == 1, "automatic mark cleared, fewest charges");
         self.events.add_if(lower, "automatic mark cleared, a lower one has more charges");
+        self.events.add_if(older, "automatic mark cleared, an older one has more charges");
+        if tie.len() > 1 {
+            self.note_tie(mark, by, &tie);
+            self.events.add(format!("automatic mark cleared, a tie at {charges} charges"));
+        }
+        self.kept_ages.taken_over.retain(|other| other != mark);
+    }
+
+    /// The oldest of several automatic marks that have the fewest charges.
+    fn note_tie(&mut self, mark: &Mark, by: &str, tie: &[&Mark]) {
+        // By ages that are kept, another one would be the oldest.
+        let another = |ages: &[Mark]| ages.iter().find(|other| tie.contains(other)) != Some(mark);
+        let met = [
+            tie.len() == 2,
+            tie.len() > 2,
+            tie.iter().any(|other| *other < mark) && tie.iter().any(|other| *other > mark),
+            another(&self.kept_ages.cleared),
+            another(&self.kept_ages.taken_over),
+        ];
+        for (what, _) in OF_TIES.iter().zip(met).filter(|(_, is_met)| *is_met) {
+            self.events.add(format!("automatic mark cleared for {by}, {what}"));
+        }
     }
 
     /// An automatic mark that the operator set.
-    pub(super) fn note_taken_over(&mut self, full: bool, dropped: usize) {
+    pub(super) fn note_taken_over(&mut self, mark: &Mark, full: bool, dropped: usize) {
+        self.kept_ages.cleared.retain(|other| other != mark);
         self.events.add("automatic mark taken over");
         self.events.add_if(full, "automatic mark taken over, all marks set");
         self.events.add_many("paths dropped by taking an automatic mark over", dropped);
