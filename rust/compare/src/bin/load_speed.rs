@@ -14,6 +14,14 @@ use walker::load::{load_bytes, MOST_RECORDS};
 const ROUNDS: usize = 201;
 const SEED: u64 = 1;
 
+/// A program with the file that is its input and the bytes that it writes.
+struct Way {
+    name: &'static str,
+    command: Command,
+    input: PathBuf,
+    bytes: Vec<u8>,
+}
+
 /// A file with these bytes, in a folder that is removed at the end.
 fn file(folder: &Path, name: &str, bytes: &[u8]) -> PathBuf {
     let path = folder.join(name);
@@ -31,25 +39,17 @@ fn time(way: &mut Way, sink: fn() -> Stdio, room: &mut Vec<u8>) -> f64 {
     room.clear();
     let clock = Instant::now();
     let mut child = start(&mut way.command);
-    let pipe = child.stdout.take();
-    let is_read = pipe.is_some_and(|mut pipe| pipe.read_to_end(room).is_ok());
+    let read = child.stdout.take().map(|mut pipe| pipe.read_to_end(room).unwrap());
     let status = child.wait().unwrap();
     let time = clock.elapsed();
-    assert!(status.success() && (!is_read || *room == way.bytes), "{}", way.name);
+    assert!(status.success(), "{}: {status}", way.name);
+    assert!(read.is_none() || *room == way.bytes, "{}: other bytes", way.name);
     time.as_secs_f64() * 1e3
 }
 
 fn median(mut times: Vec<f64>) -> f64 {
     times.sort_by(f64::total_cmp);
     times[times.len() / 2]
-}
-
-/// A program with the file that is its input and the bytes that it writes.
-struct Way {
-    name: &'static str,
-    command: Command,
-    input: PathBuf,
-    bytes: Vec<u8>,
 }
 
 fn ways(folder: &Path) -> [Way; 3] {
