@@ -5,9 +5,9 @@ ghost use Prim.Native.Nat.{_+_, _≤_, _<_};
 ghost use lib.ListN.{length, take};
 ghost use Rattle.job_lines.specs.Text.{digit, decimal, hexadecimal, number, pair, faultOf, answerText, lineOf};
 ghost use Rattle.puts.specs.Puts.{Puts};
+use puts::put;
 use spec::Answer;
 use spec::Fault;
-use puts::put;
 
 // The digit of a number below 16.
 fn digit_of(d: u64) -> u8

@@ -34,7 +34,7 @@ loop-again c =
     let w = a .width - (i + 1) in
     let q : p .result ≡ a .at + (i + 1) = omega (arith, p .ensures .0) in
     let m : take (a .at + i) (l .out) ++ ((l .rest % 256 ∷ []) ++ bytesOf w (l .rest / 256)) ≡ take (a .at) (a .out .now) ++ bytesOf (a .width) (a .n) =
-        ap (λ (x : List ℕ). take (a .at + i) (l .out) ++ x) (sym (bytes-more (a .width) i (l .rest) (omega arith))) ∙ l .inv .2 in
+    ap (λ (x : List ℕ). take (a .at + i) (l .out) ++ x) (sym (bytes-more (a .width) i (l .rest) (omega arith))) ∙ l .inv .2 in
     (omega arith, search needs, ap (λ (k : ℕ). take k (p .last .0) ++ bytesOf w (l .rest / 256)) (sym q) ∙ puts-front (l .out) (p .last .0) (a .at + i) (p .result) (l .rest % 256 ∷ []) (bytesOf w (l .rest / 256)) _ (p .ensures .1) m)
 
 returns : tie.Need-returns Inv-loop μ-loop

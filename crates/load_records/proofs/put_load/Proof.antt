@@ -33,9 +33,12 @@ loop-again c =
     let d = c .before .before .before .before .drawn-by in
     let p = c .before .before .put-call in
     let n : length (p .last .0) ≡ length (l .out) = search needs in
-    let more = ap (λ (x : List ℕ). take (l .at) (l .out) ++ x) (sym (calls-more (l .left) (l .state) (d .result) (omega arith) (d .ensures))) ∙ l .inv .3 in
-    (n ∙ l .inv .0, subst (λ (x : Drawn). x .state < states) (sym (d .ensures)) (drawn-below (l .state)), omega (arith, p .ensures .0, n, l .inv .2),
-    puts-front (l .out) (p .last .0) (l .at) (p .result) (callBytes (d .result .call)) (bytesAll (callsFrom (l .left - 1) (d .result .state))) _ (p .ensures .1) more)
+    let more = ap (λ (x : List ℕ). take (l .at) (l .out) ++ x) (sym (calls-more (l .left) (l .state) (d .result) (omega arith) (d .ensures))) ∙ l .inv .3 in (
+      n ∙ l .inv .0,
+      subst (λ (x : Drawn). x .state < states) (sym (d .ensures)) (drawn-below (l .state)),
+      omega (arith, p .ensures .0, n, l .inv .2),
+      puts-front (l .out) (p .last .0) (l .at) (p .result) (callBytes (d .result .call)) (bytesAll (callsFrom (l .left - 1) (d .result .state))) _ (p .ensures .1) more,
+    )
 
 returns : tie.Need-returns Inv-loop μ-loop
 returns c =

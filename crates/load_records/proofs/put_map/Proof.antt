@@ -21,12 +21,14 @@ returns c =
     let w = c .before .before .before .before .if1 in
     let s = c .before .before .put-bytes3 in
     let e : w .byte ≡ cond (a .writable) 1 0 =
-        ⊎-elim (λ t. t .1 ∙ sym (ap (λ (b : Bool). cond b 1 0) (t .0 .taken))) (λ t. t .1 ∙ sym (ap (λ (b : Bool). cond b 1 0) (t .0 .left))) (w .came) in
+    ⊎-elim (λ t. t .1 ∙ sym (ap (λ (b : Bool). cond b 1 0) (t .0 .taken))) (λ t. t .1 ∙ sym (ap (λ (b : Bool). cond b 1 0) (t .0 .left))) (w .came) in
     let frames = then (h .last .0) (p .last .0) (q .last .0) (h .result) (p .result) (q .result) _ _ (p .ensures .1) (q .ensures .1) in
     let body = then (h .last .0) (q .last .0) (s .last .0) (h .result) (q .result) (s .result) _ _ frames (s .ensures .1) in
-    let all = then (a .out .now) (h .last .0) (s .last .0) (a .at) (h .result) (s .result) _ _ (h .ensures .1) body in
-    (omega (arith, h .ensures .0, p .ensures .0, q .ensures .0, s .ensures .0), puts-as (a .out .now) (s .last .0) (a .at) (s .result) _ _ all
-    (ap (λ (b : ℕ). (bytesOf 2 19 ++ bytesOf 2 3) ++ ((bytesOf 8 (a .guest) ++ bytesOf 8 (a .host)) ++ bytesOf 1 b)) e))
+    let all = then (a .out .now) (h .last .0) (s .last .0) (a .at) (h .result) (s .result) _ _ (h .ensures .1) body in (
+      omega (arith, h .ensures .0, p .ensures .0, q .ensures .0, s .ensures .0),
+      puts-as (a .out .now) (s .last .0) (a .at) (s .result) _ _ all
+          (ap (λ (b : ℕ). (bytesOf 2 19 ++ bytesOf 2 3) ++ ((bytesOf 8 (a .guest) ++ bytesOf 8 (a .host)) ++ bytesOf 1 b)) e),
+    )
 
 pub put-map-spec : {M : Type 1} → statement M
 put-map-spec =

@@ -1,0 +1,42 @@
+-- What a load is to the one who runs it. Document 02, request 10.
+-- Assumes nothing.
+use Prim.Native.Nat.{ℕ, _≤_, _<_}
+use mathlib.Core.Path.{_≡_}
+use mathlib.Core.List.{List, _∷_, map}
+use lib.ListN.{length}
+use Rattle.spec.specs.Prefix.{All}
+use Rattle.job_records.specs.declared.Call.{Call}
+use Rattle.job_records.specs.declared.Call.the-variants as call
+use Rattle.job_records.specs.declared.Job.{Job}
+use Rattle.job_records.specs.declared.Job.the-variants as job
+use Rattle.job_records.specs.Encoded.{kindOf}
+use Rattle.load_records.specs.Load.{callsFrom}
+
+-- the records of the load of a seed and a count
+abbrev pub jobsOf : ℕ → ℕ → List Job
+jobsOf seed count = job.Open 4 4 ∷ map job.Call (callsFrom count seed)
+
+abbrev pub FromTwoToNine : Call → Type 0
+FromTwoToNine x = (2 ≤ kindOf x) × (kindOf x ≤ 9)
+
+-- 13 is said to a bad record only
+abbrev pub Read : Job → Type 0
+Read j = j ≡ job.Bad → ⊥
+
+-- what decoding finds in the bytes of a load: an open 4 4, then so many records, each of a kind from 2 to 9, and none that is bad
+pub record Reads (records : List Job) (count : ℕ) (calls : List Call) : Type 0 where
+  pub found : records ≡ job.Open 4 4 ∷ map job.Call calls
+  pub many : length calls ≡ count
+  pub kinds : All FromTwoToNine calls
+  pub whole : All Read records
+
+-- the numbers of a call fit the bytes of its record
+abbrev pub Fits : Call → Type 0
+Fits (call.Root g) = g < 18446744073709551616
+Fits (call.Map g f w) = (g < 18446744073709551616) × (f < 18446744073709551616)
+Fits (call.Unmap g) = g < 18446744073709551616
+Fits (call.SetMark a n) = (a < 18446744073709551616) × (n < 256)
+Fits (call.ClearMark a n) = (a < 18446744073709551616) × (n < 256)
+Fits (call.Load a) = a < 18446744073709551616
+Fits (call.Store a v) = (a < 18446744073709551616) × (v < 18446744073709551616)
+Fits (call.Device a v) = (a < 18446744073709551616) × (v < 18446744073709551616)
