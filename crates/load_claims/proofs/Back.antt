@@ -16,7 +16,7 @@ use Rattle.job_records.specs.declared.Job.the-variants as job
 use Rattle.job_records.specs.Records.{jobOf}
 use Rattle.job_records.specs.Encoded.{openBytes, bodyBytes, callBytes}
 use Rattle.job_claims.specs.Job.{lengthOf, asksOf, untilBad, recordsFrom}
-use Rattle.load_records.specs.Load.{bytesAll}
+use Rattle.load_spec.specs.Load.{bytesAll}
 use Rattle.load_claims.specs.Load.{Fits}
 
 -- ---- a number

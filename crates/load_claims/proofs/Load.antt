@@ -21,8 +21,8 @@ use Rattle.job_stream.specs.Whole.{wrote}
 use Rattle.job_claims.specs.Job.{recordsFrom, recordsOf, saidAll, bytesFrom}
 use Rattle.job_claims.specs.Tables.{tablesOf}
 use Rattle.job_claims.proofs.Bytes.{job-bytes}
-use Rattle.load_records.specs.declared.Drawn.{Drawn}
-use Rattle.load_records.specs.Load.{states, next, kindBy, drawnAs, drawnBy, callsFrom, bytesAll, most, loadOf, loadBy}
+use Rattle.load_spec.specs.declared.Drawn.{Drawn}
+use Rattle.load_spec.specs.Load.{states, next, kindBy, drawnAs, drawnBy, callsFrom, bytesAll, most, loadOf, loadBy}
 use Rattle.load_records.specs.Laws.{load-is, load-seed, load-count}
 use Rattle.load_claims.specs.Load.{jobsOf, FromTwoToNine, Read, Reads, Fits}
 use Rattle.load_claims.proofs.Back.{records-open, records-calls, calls-long}

@@ -10,7 +10,7 @@ use Rattle.job_records.specs.declared.Call.the-variants as call
 use Rattle.job_records.specs.declared.Job.{Job}
 use Rattle.job_records.specs.declared.Job.the-variants as job
 use Rattle.job_records.specs.Encoded.{kindOf}
-use Rattle.load_records.specs.Load.{callsFrom}
+use Rattle.load_spec.specs.Load.{callsFrom}
 
 -- the records of the load of a seed and a count
 abbrev pub jobsOf : ℕ → ℕ → List Job

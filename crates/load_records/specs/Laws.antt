@@ -10,8 +10,8 @@ use lib.Dec.{eqb}
 use lib.ListN.{length}
 use Rattle.job_records.specs.Records.{number}
 use Rattle.job_records.specs.Encoded.{bytesOf, openBytes, callBytes}
-use Rattle.load_records.specs.declared.Drawn.{Drawn}
-use Rattle.load_records.specs.Load.{states, next, kindBy, drawnAs, drawnBy, callsFrom, bytesAll, most, loadOf, loadBy}
+use Rattle.load_spec.specs.declared.Drawn.{Drawn}
+use Rattle.load_spec.specs.Load.{states, next, kindBy, drawnAs, drawnBy, callsFrom, bytesAll, most, loadOf, loadBy}
 
 pub next-below : (s : ℕ) → next s < states
 next-below s = omega arith

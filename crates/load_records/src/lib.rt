@@ -5,8 +5,9 @@ ghost use Prim.Native.Nat.{_+_, _*_, _≤_, _<_};
 ghost use lib.ListN.{length, take};
 ghost use Rattle.puts.specs.Puts.{Puts};
 ghost use Rattle.job_records.specs.Encoded.{bytesOf, recordBytes, openBytes, callBytes};
-ghost use Rattle.load_records.specs.Load.{states, next, high, guestBy, hostBy, addressBy, levelBy, writableBy, valueBy, drawnAs, drawnBy, most, loadOf, loadBy};
+ghost use Rattle.load_spec.specs.Load.{states, next, high, guestBy, hostBy, addressBy, levelBy, writableBy, valueBy, drawnAs, drawnBy, most, loadOf, loadBy};
 use job_records::Call;
+use load_spec::Drawn;
 use puts::put;
 
 // ---- draws
@@ -19,12 +20,6 @@ pub const MOST: u64 = 65535;
 
 // The bytes of the longest load: the open, and each record a map.
 pub const LONGEST: usize = 1376243;
-
-// A call, and the state after it.
-pub struct Drawn {
-    pub call: Call,
-    pub state: u64,
-}
 
 // The draw after a state. It is the next state.
 fn next_draw(state: u64) -> u64

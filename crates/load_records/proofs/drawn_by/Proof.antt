@@ -1,5 +1,5 @@
 -- Four draws in a row; the first one is for the kind. A draw is below 2^31.
-use Rattle.load_records.specs.Load.{drawnBy}
+use Rattle.load_spec.specs.Load.{drawnBy}
 use borrow.Author.Needs.{needs}
 use Rattle.load_records.proofs.drawn_by.Statement.{statement}
 use Rattle.load_records.proofs.drawn_by.Tie as tie

@@ -2,7 +2,7 @@
 use Prim.Native.Nat.{ℕ}
 use native.Mathlib.Omega.{arith}
 use mathlib.Core.Path.{sym, ap₂, _∙_}
-use Rattle.load_records.specs.Load.{loadOf}
+use Rattle.load_spec.specs.Load.{loadOf}
 use Rattle.load_records.specs.Laws.{load-seed, load-count, load-cut, load-whole}
 use borrow.Author.Needs.{needs}
 use Rattle.load_records.proofs.put_asked.Statement.{statement}

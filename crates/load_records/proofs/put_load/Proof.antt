@@ -6,8 +6,8 @@ use mathlib.Core.Path.{_≡_, refl, sym, ap, subst, _∙_}
 use mathlib.Core.List.{List, _++_, append-nil}
 use Rattle.puts.specs.Puts.{puts-front}
 use Rattle.job_records.specs.Encoded.{callBytes}
-use Rattle.load_records.specs.declared.Drawn.{Drawn}
-use Rattle.load_records.specs.Load.{states, callsFrom, bytesAll, loadOf}
+use Rattle.load_spec.specs.declared.Drawn.{Drawn}
+use Rattle.load_spec.specs.Load.{states, callsFrom, bytesAll, loadOf}
 use Rattle.load_records.specs.Laws.{drawn-below, load-is, calls-none, calls-more}
 use borrow.Author.Needs.{needs}
 use Rattle.load_records.proofs.put_load.Statement.{statement}

@@ -4,7 +4,7 @@ use Prim.Native.Nat.{ℕ}
 use mathlib.Core.Path.{_≡_, refl}
 use mathlib.Core.List.{List, [], _∷_, _++_}
 use Rattle.job_records.specs.Encoded.{callBytes}
-use Rattle.load_records.specs.Load.{drawnBy, callsFrom, bytesAll, loadOf, loadBy}
+use Rattle.load_spec.specs.Load.{drawnBy, callsFrom, bytesAll, loadOf, loadBy}
 
 -- open 4 4
 abbrev start : List ℕ

@@ -9,7 +9,7 @@ use Rattle.job_records.specs.declared.Call.{Call}
 use Rattle.job_records.specs.declared.Call.the-variants as call
 use Rattle.job_records.specs.Records.{number}
 use Rattle.job_records.specs.Encoded.{openBytes, callBytes}
-use Rattle.load_records.specs.declared.Drawn.{Drawn}
+use Rattle.load_spec.specs.declared.Drawn.{Drawn}
 
 -- ---- draws
 
