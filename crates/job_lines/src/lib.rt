@@ -1,6 +1,5 @@
 // The line of a record: its number and what the unit answered, in ASCII, into a buffer that the caller lends.
 ghost use mathlib.Core.Path.{_≡_};
-ghost use mathlib.Core.List.{[], _∷_};
 ghost use Prim.Native.Nat.{_+_, _≤_, _<_};
 ghost use lib.ListN.{length, take};
 ghost use Rattle.job_lines.specs.Text.{digit, decimal, hexadecimal, number, pair, faultOf, answerText, lineOf};

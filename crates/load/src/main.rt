@@ -2,7 +2,7 @@
 // All is put into one buffer and written at once.
 ghost use mathlib.Core.Path.{_≡_};
 ghost use lib.ListN.{length};
-ghost use Rattle.load_spec.specs.Load.{loadBy};
+ghost use Rattle.load_spec.specs.Load.{longest, loadBy};
 
 // Writes bytes, which have to be the load that an input asks for, and answers whether they were taken.
 fn write_load(input: &[u8], load: &[u8]) -> bool
@@ -13,7 +13,7 @@ fn write_load(input: &[u8], load: &[u8]) -> bool
 
 // Room for the longest load.
 fn room() -> [u8; load_records::LONGEST]
-    ensures { λ r. ⌜ 1376243 ≡ length r ⌝ }
+    ensures { λ r. ⌜ longest ≡ length r ⌝ }
 {
     [0u8; load_records::LONGEST]
 }

@@ -16,7 +16,7 @@ use Rattle.job_records.specs.declared.Call.the-variants as call
 use Rattle.job_records.specs.declared.Job.{Job}
 use Rattle.job_records.specs.declared.Job.the-variants as job
 use Rattle.job_records.specs.Records.{number}
-use Rattle.job_records.specs.Encoded.{openBytes, kindOf}
+use Rattle.job_records.specs.Encoded.{openBytes}
 use Rattle.job_stream.specs.Whole.{wrote}
 use Rattle.job_claims.specs.Job.{recordsFrom, recordsOf, saidAll, bytesFrom}
 use Rattle.job_claims.specs.Tables.{tablesOf}

@@ -4,8 +4,8 @@ ghost use mathlib.Core.List.{_++_};
 ghost use Prim.Native.Nat.{_+_, _*_, _≤_, _<_};
 ghost use lib.ListN.{length, take};
 ghost use Rattle.puts.specs.Puts.{Puts};
-ghost use Rattle.job_records.specs.Encoded.{bytesOf, recordBytes, openBytes, callBytes};
-ghost use Rattle.load_spec.specs.Load.{states, next, high, guestBy, hostBy, addressBy, levelBy, writableBy, valueBy, drawnAs, drawnBy, most, loadOf, loadBy};
+ghost use Rattle.job_records.specs.Encoded.{bytesOf, recordBytes, callBytes};
+ghost use Rattle.load_spec.specs.Load.{states, next, high, guestBy, hostBy, addressBy, levelBy, writableBy, valueBy, drawnAs, drawnBy, most, longest, loadOf, loadBy};
 use job_records::Call;
 use load_spec::Drawn;
 use puts::put;
@@ -13,12 +13,12 @@ use puts::put;
 // ---- draws
 
 // A state, and a draw, is below 2^31.
-pub const STATES: u64 = 2147483648;
+const STATES: u64 = 2147483648;
 
 // The most records that a load has.
-pub const MOST: u64 = 65535;
+const MOST: u64 = 65535;
 
-// The bytes of the longest load: the open, and each record a map.
+// The bytes of the longest load.
 pub const LONGEST: usize = 1376243;
 
 // The draw after a state. It is the next state.
@@ -244,7 +244,7 @@ fn put_load(out: &mut [u8], seed: u64, count: u64) -> usize
 
 // Puts the load that an input asks for, and answers its length; none where the input is cut or a number is out of range.
 pub fn put_asked(input: &[u8], out: &mut [u8]) -> usize
-    requires { ⌜ 1376243 ≤ length (now out) ⌝ }
+    requires { ⌜ longest ≤ length (now out) ⌝ }
     ensures { λ r. ⌜ (r ≤ length (now (out .exit))) × (take r (now (out .exit)) ≡ loadBy (now (input .entry))) ⌝ }
 {
     if input.len() < 16 {

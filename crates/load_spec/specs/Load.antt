@@ -81,9 +81,13 @@ unfoldable pub bytesAll : List Call → List ℕ
 bytesAll [] = []
 bytesAll (x ∷ xs) = callBytes x ++ bytesAll xs
 
--- the longest count of records
+-- the most records
 abbrev pub most : ℕ
 most = 65535
+
+-- the bytes of the longest load: the open, and each record a map
+abbrev pub longest : ℕ
+longest = 8 + 21 * most
 
 -- the load of a seed and a count: an open 4 4, which is not counted, and the calls; nothing where one is out of range
 unfoldable pub loadOf : ℕ → ℕ → List ℕ

@@ -1,5 +1,4 @@
 -- The tests of the definition, in its order; what is left is the load of the two numbers.
-use Prim.Native.Nat.{ℕ}
 use native.Mathlib.Omega.{arith}
 use mathlib.Core.Path.{sym, ap₂, _∙_}
 use Rattle.load_spec.specs.Load.{loadOf}

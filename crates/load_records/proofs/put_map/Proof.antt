@@ -4,7 +4,7 @@ use native.Mathlib.Omega.{arith}
 use mathlib.Core.Path.{_≡_, sym, ap, _∙_}
 use mathlib.Core.Logic.{⊎-elim}
 use mathlib.Core.Bool.{Bool, cond}
-use mathlib.Core.List.{List, _++_}
+use mathlib.Core.List.{_++_}
 use Rattle.puts.specs.Puts.{then, puts-as}
 use Rattle.job_records.specs.Encoded.{bytesOf, callBytes}
 use borrow.Author.Needs.{needs}

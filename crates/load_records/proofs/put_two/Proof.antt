@@ -1,7 +1,7 @@
 -- Length and kind, then the two numbers; the body is as long as both.
 use Prim.Native.Nat.{ℕ, _+_}
 use native.Mathlib.Omega.{arith}
-use mathlib.Core.Path.{_≡_, sym, ap, _∙_}
+use mathlib.Core.Path.{_≡_, ap}
 use mathlib.Core.List.{_++_}
 use lib.ListN.{length, length-append}
 use Rattle.puts.specs.Puts.{then, puts-as}
