@@ -1,6 +1,6 @@
 -- What a load is to the one who runs it. Document 02, request 10.
 -- Assumes nothing.
-use Prim.Native.Nat.{ℕ, _≤_, _<_}
+use Prim.Native.Nat.{ℕ, _^_, _≤_, _<_}
 use mathlib.Core.Path.{_≡_}
 use mathlib.Core.List.{List, _∷_, map}
 use lib.ListN.{length}
@@ -30,13 +30,17 @@ pub record Reads (records : List Job) (count : ℕ) (calls : List Call) : Type 0
   pub kinds : All FromTwoToNine calls
   pub whole : All Read records
 
+-- how many numbers have eight bytes
+abbrev pub word : ℕ
+word = 2 ^ 64
+
 -- the numbers of a call fit the bytes of its record
 abbrev pub Fits : Call → Type 0
-Fits (call.Root g) = g < 18446744073709551616
-Fits (call.Map g f w) = (g < 18446744073709551616) × (f < 18446744073709551616)
-Fits (call.Unmap g) = g < 18446744073709551616
-Fits (call.SetMark a n) = (a < 18446744073709551616) × (n < 256)
-Fits (call.ClearMark a n) = (a < 18446744073709551616) × (n < 256)
-Fits (call.Load a) = a < 18446744073709551616
-Fits (call.Store a v) = (a < 18446744073709551616) × (v < 18446744073709551616)
-Fits (call.Device a v) = (a < 18446744073709551616) × (v < 18446744073709551616)
+Fits (call.Root g) = g < word
+Fits (call.Map g f w) = (g < word) × (f < word)
+Fits (call.Unmap g) = g < word
+Fits (call.SetMark a n) = (a < word) × (n < 256)
+Fits (call.ClearMark a n) = (a < word) × (n < 256)
+Fits (call.Load a) = a < word
+Fits (call.Store a v) = (a < word) × (v < word)
+Fits (call.Device a v) = (a < word) × (v < word)

@@ -169,15 +169,6 @@ fn put_head(out: &mut [u8], at: usize, size: u64, kind: u64) -> usize
     put_bytes(out, from, kind, 2)
 }
 
-// Puts a record of one number.
-fn put_one(out: &mut [u8], at: usize, kind: u64, n: u64) -> usize
-    requires { ⌜ at + 12 ≤ length (now out) ⌝ }
-    ensures { λ r. ⌜ (r ≡ at + 12) × (Puts (now (out .entry)) at (now (out .exit)) r (recordBytes kind (bytesOf 8 n))) ⌝ }
-{
-    let from = put_head(out, at, 10, kind);
-    put_bytes(out, from, n, 8)
-}
-
 // Puts a record of two numbers, each in so many bytes.
 fn put_two(out: &mut [u8], at: usize, kind: u64, m: u64, left: usize, n: u64, right: usize) -> usize
     requires { ⌜ at + (4 + (left + right)) ≤ length (now out) ⌝ }
@@ -187,6 +178,14 @@ fn put_two(out: &mut [u8], at: usize, kind: u64, m: u64, left: usize, n: u64, ri
     let from = put_head(out, at, size as u64, kind);
     let second = put_bytes(out, from, m, left);
     put_bytes(out, second, n, right)
+}
+
+// Puts a record of one number, in eight bytes.
+fn put_one(out: &mut [u8], at: usize, kind: u64, n: u64) -> usize
+    requires { ⌜ at + 12 ≤ length (now out) ⌝ }
+    ensures { λ r. ⌜ (r ≡ at + 12) × (Puts (now (out .entry)) at (now (out .exit)) r (recordBytes kind (bytesOf 8 n))) ⌝ }
+{
+    put_two(out, at, kind, n, 8, 0, 0)
 }
 
 // Puts the record of a map.

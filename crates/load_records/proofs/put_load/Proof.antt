@@ -5,7 +5,7 @@ use native.Mathlib.Omega.{arith}
 use mathlib.Core.Path.{_≡_, refl, sym, ap, subst, _∙_}
 use mathlib.Core.List.{List, _++_, append-nil}
 use Rattle.puts.specs.Puts.{puts-front}
-use Rattle.job_records.specs.Encoded.{callBytes}
+use Rattle.job_records.specs.Encoded.{openBytes, callBytes}
 use Rattle.load_spec.specs.declared.Drawn.{Drawn}
 use Rattle.load_spec.specs.Load.{states, callsFrom, bytesAll, loadOf}
 use Rattle.load_records.specs.Laws.{drawn-below, load-is, calls-none, calls-more}
@@ -25,7 +25,7 @@ loop-holds c =
     let a = c .before .before .before .before .before .args in
     let p = c .before .before .put-two in
     let l : length (p .last .0) ≡ length (a .out .now) = search needs in
-    (refl, omega arith, omega (arith, p .ensures .0, l), ap (λ (x : List ℕ). x ++ bytesAll (callsFrom (a .count) (a .seed))) (p .ensures .1) ∙ sym (load-is (a .seed) (a .count) (omega arith) (omega arith)))
+    (refl, omega arith, omega (arith, p .ensures .0, l), puts-front (a .out .now) (p .last .0) 0 (p .result) (openBytes 4 4) (bytesAll (callsFrom (a .count) (a .seed))) _ (p .ensures .1) (sym (load-is (a .seed) (a .count) (omega arith) (omega arith))))
 
 loop-again : tie.Need-loop-again Inv-loop μ-loop
 loop-again c =
