@@ -1,5 +1,6 @@
 // The load program: seed and count from standard input, the records of their load to standard output, for the job program.
-// All is put into one buffer and written at once.
+// All is put into one buffer and written at once. No contract can say which bytes a read gave: that the input is what was read, and that its load is
+// handed over once, is read in main.
 ghost use mathlib.Core.Path.{_≡_};
 ghost use lib.ListN.{length};
 ghost use Rattle.load_spec.specs.Load.{longest, loadBy};
@@ -24,5 +25,5 @@ fn main() {
     let input = &asked[..n];
     let mut out = room();
     let len = load_records::put_asked(input, &mut out);
-    write_load(input, &out[..len]);
+    write_load(input, puts::part(&out, len));
 }

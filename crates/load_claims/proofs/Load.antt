@@ -10,6 +10,7 @@ use borrow.Author.Tests.{ltb-true, ltb-false}
 use lib.Dec.{eqb, ltb}
 use lib.ListN.{length, length-append}
 use Rattle.spec.specs.Prefix.{All}
+use Rattle.spec_laws.proofs.Lists.{all-any}
 use Rattle.record.specs.declared.Record.{Record}
 use Rattle.job_records.specs.declared.Call.{Call}
 use Rattle.job_records.specs.declared.Call.the-variants as call
@@ -23,26 +24,22 @@ use Rattle.job_claims.specs.Tables.{tablesOf}
 use Rattle.job_claims.proofs.Bytes.{job-bytes}
 use Rattle.load_spec.specs.declared.Drawn.{Drawn}
 use Rattle.load_spec.specs.Load.{states, next, kindBy, drawnAs, drawnBy, callsFrom, bytesAll, most, loadOf, loadBy}
-use Rattle.load_records.specs.Laws.{load-is, load-seed, load-count}
+use Rattle.load_records.specs.Laws.{either, load-is, load-seed, load-count}
 use Rattle.load_claims.specs.Load.{jobsOf, FromTwoToNine, Read, Reads, Fits}
 use Rattle.load_claims.proofs.Back.{records-open, records-calls, calls-long}
 
 -- ---- the calls that are drawn
 
-either : (t : Bool) (x y : Drawn) → Fits (x .call) → Fits (y .call) → Fits (cond t x y .call)
-either true x y p q = p
-either false x y p q = q
-
 -- what a draw picks is a remainder, so it fits
 as-fits : (k d e f : ℕ) → Fits (drawnAs k d e f .call)
 as-fits k d e f =
-    either (eqb k 2) _ _ (omega arith)
-    (either (eqb k 3) _ _ (omega arith, omega arith)
-    (either (eqb k 4) _ _ (omega arith)
-    (either (eqb k 5) _ _ (omega arith, omega arith)
-    (either (eqb k 6) _ _ (omega arith, omega arith)
-    (either (eqb k 7) _ _ (omega arith)
-    (either (eqb k 8) _ _ (omega arith, omega arith) (omega arith, omega arith)))))))
+    either (λ (x : Drawn). Fits (x .call)) (eqb k 2) _ _ (omega arith)
+    (either (λ (x : Drawn). Fits (x .call)) (eqb k 3) _ _ (omega arith, omega arith)
+    (either (λ (x : Drawn). Fits (x .call)) (eqb k 4) _ _ (omega arith)
+    (either (λ (x : Drawn). Fits (x .call)) (eqb k 5) _ _ (omega arith, omega arith)
+    (either (λ (x : Drawn). Fits (x .call)) (eqb k 6) _ _ (omega arith, omega arith)
+    (either (λ (x : Drawn). Fits (x .call)) (eqb k 7) _ _ (omega arith)
+    (either (λ (x : Drawn). Fits (x .call)) (eqb k 8) _ _ (omega arith, omega arith) (omega arith, omega arith)))))))
 
 calls-fit : (n s : ℕ) → All Fits (callsFrom n s)
 unfolding callsFrom drawnBy
@@ -63,10 +60,6 @@ kind-of-call (call.ClearMark a n) = (omega arith, omega arith)
 kind-of-call (call.Load a) = (omega arith, omega arith)
 kind-of-call (call.Store a v) = (omega arith, omega arith)
 kind-of-call (call.Device a v) = (omega arith, omega arith)
-
-kinds : (xs : List Call) → All FromTwoToNine xs
-kinds [] = tt
-kinds (x ∷ xs) = (kind-of-call x, kinds xs)
 
 -- ---- no record is bad
 
@@ -98,7 +91,7 @@ pub load-reads : (seed count : ℕ) → seed < states → count ≤ most → Rea
 load-reads seed count h k = record {
   found = load-found seed count h k;
   many = calls-many count seed;
-  kinds = kinds (callsFrom count seed);
+  kinds = all-any FromTwoToNine (callsFrom count seed) kind-of-call;
   whole = subst (All Read) (sym (load-found seed count h k)) (open-read 4 4, calls-read (callsFrom count seed));
 }
 

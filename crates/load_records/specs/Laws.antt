@@ -16,19 +16,23 @@ use Rattle.load_spec.specs.Load.{states, next, kindBy, drawnAs, drawnBy, callsF
 pub next-below : (s : ℕ) → next s < states
 next-below s = omega arith
 
-either : (t : Bool) (x y : Drawn) → x .state < states → y .state < states → cond t x y .state < states
-either true x y p q = p
-either false x y p q = q
+pub either : (P : Drawn → Type 0) (t : Bool) (x y : Drawn) → P x → P y → P (cond t x y)
+either P true x y p q = p
+either P false x y p q = q
+
+-- its state is one
+abbrev Below : Drawn → Type 0
+Below x = x .state < states
 
 as-below : (k d e f : ℕ) → d < states → e < states → f < states → drawnAs k d e f .state < states
 as-below k d e f p q r =
-    either (eqb k 2) _ _ p
-    (either (eqb k 3) _ _ r
-    (either (eqb k 4) _ _ p
-    (either (eqb k 5) _ _ q
-    (either (eqb k 6) _ _ q
-    (either (eqb k 7) _ _ p
-    (either (eqb k 8) _ _ q q))))))
+    either Below (eqb k 2) _ _ p
+    (either Below (eqb k 3) _ _ r
+    (either Below (eqb k 4) _ _ p
+    (either Below (eqb k 5) _ _ q
+    (either Below (eqb k 6) _ _ q
+    (either Below (eqb k 7) _ _ p
+    (either Below (eqb k 8) _ _ q q))))))
 
 pub drawn-below : (s : ℕ) → drawnBy s .state < states
 unfolding drawnBy

@@ -226,7 +226,7 @@ fn put_call(out: &mut [u8], at: usize, call: Call) -> usize
 // Puts the load of a seed and a count at the start of the buffer, and answers its length.
 fn put_load(out: &mut [u8], seed: u64, count: u64) -> usize
     requires { ⌜ (seed < states) × (count ≤ most) × (8 + 21 * count ≤ length (now out)) ⌝ }
-    ensures { λ r. ⌜ (r ≤ length (now (out .exit))) × (take r (now (out .exit)) ≡ loadOf seed count) ⌝ }
+    ensures { λ r. ⌜ take r (now (out .exit)) ≡ loadOf seed count ⌝ }
 {
     let mut at = put_two(out, 0, 1, 4, 2, 4, 2);
     let mut state = seed;
@@ -244,7 +244,7 @@ fn put_load(out: &mut [u8], seed: u64, count: u64) -> usize
 // Puts the load that an input asks for, and answers its length; none where the input is cut or a number is out of range.
 pub fn put_asked(input: &[u8], out: &mut [u8]) -> usize
     requires { ⌜ longest ≤ length (now out) ⌝ }
-    ensures { λ r. ⌜ (r ≤ length (now (out .exit))) × (take r (now (out .exit)) ≡ loadBy (now (input .entry))) ⌝ }
+    ensures { λ r. ⌜ take r (now (out .exit)) ≡ loadBy (now (input .entry)) ⌝ }
 {
     if input.len() < 16 {
         return 0;

@@ -12,16 +12,14 @@ use Rattle.spec.specs.Call.{root, map, setMark, store, loadWord, storeWo
 use Rattle.spec.specs.Refusal.{configOf}
 use Rattle.spec.specs.Run.{State, after, opening}
 use Rattle.spec.specs.Computing.{specifying}
-use Rattle.spec.specs.Guest.{frame, answers, from, begun, absent, protected, hostAbsent, hostReadOnly, given, searches-hold}
+use Rattle.spec.specs.Guest.{guestWords, answers, from, begun, absent, protected, hostAbsent, hostReadOnly, given, searches-hold}
 
 -- the guest of document 01 with six shadow frames, so that two of its paths fit: guest frames 0 to 7 at 10 to 17
 unfoldable pub config : Config
 config = configOf 4 64 9216 4 6 true
 
 unfoldable pub memory : List ℕ
-memory =
-    replicate 5120 0
-    ++ frame (0x1003 ∷ []) (frame (0x2003 ∷ []) (frame (0x3003 ∷ 0x3003 ∷ []) (frame (0x4003 ∷ 0x5001 ∷ 0x8003 ∷ 0 ∷ 0x3003 ∷ []) (replicate 2048 0))))
+memory = replicate 5120 0 ++ guestWords
 
 unfoldable pub start : State
 start =

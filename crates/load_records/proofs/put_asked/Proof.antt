@@ -8,28 +8,27 @@ use Rattle.load_records.proofs.put_asked.Statement.{statement}
 use Rattle.load_records.proofs.put_asked.Tie as tie
 
 returns : tie.Need-returns
-returns c = (omega arith, sym (load-cut (c .before .before .before .args .input .now) (omega arith)))
+returns c = sym (load-cut (c .before .before .before .args .input .now) (omega arith))
 
 returns-2 : tie.Need-returns-2
 returns-2 c =
     let s = c .before .before .before .before .before .before .args .input .now in
     let m = c .before .before .number8 in
-    (omega arith, sym (load-whole s (omega arith) ∙ load-seed _ _ (omega (arith, m .ensures))))
+    sym (load-whole s (omega arith) ∙ load-seed _ _ (omega (arith, m .ensures)))
 
 returns-3 : tie.Need-returns-3
 returns-3 c =
     let s = c .before .before .before .before .before .before .before .args .input .now in
     let m = c .before .before .before .number8 in
     let n = c .before .before .number82 in
-    (omega arith, sym (load-whole s (omega arith) ∙ load-count _ _ (omega (arith, m .ensures)) (omega (arith, n .ensures))))
+    sym (load-whole s (omega arith) ∙ load-count _ _ (omega (arith, m .ensures)) (omega (arith, n .ensures)))
 
 returns-4 : tie.Need-returns-4
 returns-4 c =
     let s = c .before .before .before .before .before .before .before .before .before .before .before .args .input .now in
     let m = c .before .before .before .before .before .before .before .number8 in
     let n = c .before .before .before .before .before .before .number82 in
-    let p = c .before .before .put-load in
-    (p .ensures .0, p .ensures .1 ∙ ap₂ loadOf (m .ensures) (n .ensures) ∙ sym (load-whole s (omega arith)))
+    c .before .before .put-load .ensures ∙ ap₂ loadOf (m .ensures) (n .ensures) ∙ sym (load-whole s (omega arith))
 
 pub put-asked-spec : {M : Type 1} → statement M
 put-asked-spec =

@@ -43,7 +43,7 @@ loop-again c =
 returns : tie.Need-returns Inv-loop μ-loop
 returns c =
     let l = c .before .loop in
-    (omega arith, sym (append-nil (take (l .at) (l .out))) ∙ ap (λ (x : List ℕ). take (l .at) (l .out) ++ x) (sym (calls-none (l .left) (l .state) (omega arith))) ∙ l .inv .3)
+    sym (append-nil (take (l .at) (l .out))) ∙ ap (λ (x : List ℕ). take (l .at) (l .out) ++ x) (sym (calls-none (l .left) (l .state) (omega arith))) ∙ l .inv .3
 
 pub put-load-spec : {M : Type 1} → statement M
 put-load-spec =
