@@ -1,4 +1,4 @@
--- A draw is below 2^31, and so is the state after a call; a number of w bytes has w, and the longest record 21.
+-- A draw is below 2^31, and so is the state after a call; a number, byte by byte; a load, record by record.
 -- Assumes nothing.
 use Prim.Native.Nat.{ℕ, zero, suc, _+_, _-_, _/_, _%_, _≤_, _<_}
 use native.Mathlib.Omega.{arith}
@@ -20,7 +20,7 @@ pub either : (P : Drawn → Type 0) (t : Bool) (x y : Drawn) → P x → P y →
 either P true x y p q = p
 either P false x y p q = q
 
--- its state is one
+-- the state after the call is one
 abbrev Below : Drawn → Type 0
 Below x = x .state < states
 
