@@ -3,12 +3,10 @@
 use Prim.Native.Nat.{ℕ, zero, suc, _+_, _-_, _/_, _%_, _<_, _≤_}
 use native.Mathlib.Omega.{arith}
 use borrow.Author.Tests.{lt-ltb, le-ltb}
-use lib.Seq.{take-suc, take-suc-set}
 use mathlib.Core.Bool.{cond}
-use mathlib.Core.Path.{_≡_, refl, sym, ap, _∙_}
-use mathlib.Core.List.{List, [], _∷_, _++_, append-assoc}
+use mathlib.Core.Path.{_≡_, refl}
+use mathlib.Core.List.{List, [], _∷_, _++_}
 use lib.Dec.{ltb}
-use lib.ListN.{length, take, set, getD}
 use Rattle.spec.specs.declared.Fault.{Fault}
 use Rattle.spec.specs.declared.Answer.{Answer}
 use Rattle.spec.specs.Answer as say
@@ -72,30 +70,6 @@ answerText x = textOf (line x)
 -- the line of an answer: the record's number, the answer's text, and a newline
 unfoldable pub lineOf : ℕ → Answer → List ℕ
 lineOf n x = (decimal 19 n ++ answerText x) ++ (10 ∷ [])
-
--- the buffer out at the position at became out′ at r: the text t was put behind what stood there
-abbrev pub Puts : List ℕ → ℕ → List ℕ → ℕ → List ℕ → Type 0
-Puts out at out′ r t = take r out′ ≡ take at out ++ t
-
-pub then : (a b c : List ℕ) (i j k : ℕ) (t u : List ℕ) → Puts a i b j t → Puts b j c k u → Puts a i c k (t ++ u)
-then a b c i j k t u p q = q ∙ ap (λ (x : List ℕ). x ++ u) p ∙ append-assoc (take i a) t u
-
-pub puts-as : (a b : List ℕ) (i j : ℕ) (t u : List ℕ) → Puts a i b j t → t ≡ u → Puts a i b j u
-puts-as a b i j t u p e = p ∙ ap (λ (x : List ℕ). take i a ++ x) e
-
-pub puts-byte : (l : List ℕ) (i b : ℕ) → i < length l → Puts l i (set l i b) (i + 1) (b ∷ [])
-puts-byte l i b h =
-    let e : i + 1 ≡ suc i = omega arith in
-    ap (λ (k : ℕ). take k (set l i b)) e ∙ take-suc-set l i b h
-
--- one more byte of a text
-pub puts-next : (a b c : List ℕ) (at i r : ℕ) (s : List ℕ) → i < length s → r ≡ at + i + 1
-    → Puts a at b (at + i) (take i s) → Puts b (at + i) c r (getD s i 0 ∷ []) → Puts a at c (at + (i + 1)) (take (i + 1) s)
-puts-next a b c at i r s h e p q =
-    let f : at + (i + 1) ≡ r = omega arith in
-    let g : suc i ≡ i + 1 = omega arith in
-    ap (λ (k : ℕ). take k c) f
-    ∙ puts-as a c at r _ _ (then a b c at (at + i) r (take i s) (getD s i 0 ∷ []) p q) (sym (take-suc s i 0 h) ∙ ap (λ (k : ℕ). take k s) g)
 
 -- ---- numbers, digit by digit
 

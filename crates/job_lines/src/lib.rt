@@ -1,20 +1,12 @@
 // The line of a record: its number and what the unit answered, in ASCII, into a buffer that the caller lends.
 ghost use mathlib.Core.Path.{_≡_};
-ghost use mathlib.Core.List.{[], _∷_};
 ghost use Prim.Native.Nat.{_+_, _≤_, _<_};
 ghost use lib.ListN.{length, take};
-ghost use Rattle.job_lines.specs.Text.{digit, decimal, hexadecimal, number, pair, faultOf, answerText, lineOf, Puts};
+ghost use Rattle.job_lines.specs.Text.{digit, decimal, hexadecimal, number, pair, faultOf, answerText, lineOf};
+ghost use Rattle.puts.specs.Puts.{Puts};
+use puts::put;
 use spec::Answer;
 use spec::Fault;
-
-// Puts a byte at a position, and answers the position past it.
-fn put(out: &mut [u8], at: usize, b: u8) -> usize
-    requires { ⌜ at + 1 ≤ length (now out) ⌝ }
-    ensures { λ r. ⌜ (r ≡ at + 1) × (Puts (now (out .entry)) at (now (out .exit)) r (b ∷ [])) ⌝ }
-{
-    out[at] = b;
-    at + 1
-}
 
 // The digit of a number below 16.
 fn digit_of(d: u64) -> u8

@@ -40,7 +40,7 @@ fn number4(s: &[u8], at: usize) -> u64
 }
 
 // A number of eight bytes.
-fn number8(s: &[u8], at: usize) -> u64
+pub fn number8(s: &[u8], at: usize) -> u64
     requires { ⌜ at + 8 ≤ length (now s) ⌝ }
     ensures { λ r. ⌜ r ≡ number 8 (now (s .entry)) at ⌝ }
 {

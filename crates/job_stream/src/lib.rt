@@ -9,6 +9,7 @@ ghost use Rattle.words.specs.After.{yields};
 ghost use Rattle.job_lines.specs.Text.{lineOf};
 ghost use Rattle.job_stream.specs.Turns.{first, unread, ranOf, refilledOf, Refilled, Turn, most, Looped};
 use job_records::Cut;
+use puts::part;
 use record::Record;
 use spec::Answer;
 
@@ -22,13 +23,6 @@ pub struct Flow {
     pub len: usize,
     pub more: bool,
     pub taken: bool,
-}
-
-// The first len bytes of a buffer, or all.
-fn part(buf: &[u8], len: usize) -> &[u8]
-    ensures { λ r. ⌜ now r ≡ take len (now (buf .entry)) ⌝ }
-{
-    if len <= buf.len() { &buf[..len] } else { buf }
 }
 
 // Writes a text, which has to be the line of that number and answer, and answers whether it was taken.

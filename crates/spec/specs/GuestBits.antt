@@ -3,27 +3,23 @@
 -- Assumes nothing.
 use Prim.Native.Nat.{ℕ}
 use mathlib.Core.Bool.{Bool, true, false, _&&_}
-use mathlib.Core.List.{List, [], _∷_}
+use mathlib.Core.List.{List, [], _∷_, _++_}
 use lib.Dec.{T}
-use lib.ListN.{set, replicate}
+use lib.ListN.{replicate}
 use Rattle.spec.specs.Answer.{ok, value, done, no}
 use Rattle.spec.specs.Config.{Config}
 use Rattle.spec.specs.Call.{root, map, setMark, store, loadWord, storeWord, deviceWord, forecast}
 use Rattle.spec.specs.Refusal.{configOf}
 use Rattle.spec.specs.Run.{State, after, opening}
 use Rattle.spec.specs.Computing.{specifying}
-use Rattle.spec.specs.Guest.{answers, from, begun, absent, protected, hostAbsent, hostReadOnly}
+use Rattle.spec.specs.Guest.{guestWords, answers, from, begun, absent, protected, hostAbsent, hostReadOnly, given, searches-hold}
 
 -- the guest of document 01 with six shadow frames, so that two of its paths fit: guest frames 0 to 7 at 10 to 17
 unfoldable pub config : Config
 config = configOf 4 64 9216 4 6 true
 
 unfoldable pub memory : List ℕ
-memory =
-    let frame0 : List ℕ = set (replicate 9216 0) 5120 0x1003 in
-    let frame1 : List ℕ = set frame0 5632 0x2003 in
-    let frame2 : List ℕ = set (set frame1 6144 0x3003) 6145 0x3003 in
-    set (set (set (set frame2 6656 0x4003) 6657 0x5001) 6658 0x8003) 6660 0x3003
+memory = replicate 5120 0 ++ guestWords
 
 unfoldable pub start : State
 start =
@@ -87,4 +83,4 @@ owedLines s =
 
 pub bits-hold : T (setLines start && refillLines start && owedLines start)
 unfolding specifying config memory start answers setLines refillLines owedLines
-bits-hold = tt
+bits-hold = given searches-hold tt

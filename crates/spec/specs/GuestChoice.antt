@@ -2,7 +2,7 @@
 -- level 1, in guest frame 3, hangs at three places: a load of 0, of 0x200000 and of 0x400000 reads its entry 0, by the prefixes (0, 0, 0),
 -- (0, 0, 1) and (0, 0, 2); its entry 4 maps the table itself, its entry 5 the table of level 2.
 -- Assumes nothing.
-use Prim.Native.Nat.{ℕ, zero, suc, _+_, _*_, _^_}
+use Prim.Native.Nat.{ℕ, zero, suc, _+_, _-_, _*_, _^_}
 use mathlib.Core.Bool.{Bool, true, false, not, _&&_}
 use mathlib.Core.List.{List, [], _∷_, _++_}
 use mathlib.Core.Option.{none, some}
@@ -16,7 +16,8 @@ use Rattle.spec.specs.Call.{Call, root, map, setMark, clearMark, loadWor
 use Rattle.spec.specs.Refusal.{configOf, choiceFits}
 use Rattle.spec.specs.Run.{State, after, opening}
 use Rattle.spec.specs.Computing.{specifying}
-use Rattle.spec.specs.Guest.{answers, from, begun, absent}
+use Rattle.spec.specs.Guest.{answers, from, begun, absent, given}
+use Rattle.spec.specs.GuestBits.{bits-hold}
 
 -- n levels, n host frames, s shadow frames, eight guest frames, room for so many marks
 unfoldable pub config : ℕ → ℕ → ℕ → Config
@@ -27,8 +28,15 @@ unfoldable pub mapped : Config → ℕ → ℕ → List Call
 mapped c zero k = []
 mapped c (suc n) k = map k (guestBase c + k) true ∷ mapped c n (suc k)
 
+-- the first n guest frames, the last one first, at the frames of the guest area from k on
+unfoldable pub turned : Config → ℕ → ℕ → List Call
+turned c zero k = []
+turned c (suc n) k = map n (guestBase c + k) true ∷ turned c n (suc k)
+
+-- guest frames 0 to 7; the tables stand in the order of their levels, so that the one of level 1, which the lines store to, is the first in
+-- memory: a word costs the checker its distance from the first word that changed
 unfoldable pub start : Bool → Config → List Call → State
-start on c tables = after (mapped c 8 0 ++ tables) (from (begun (opening c on (replicate (512 * c .frames) 0))))
+start on c tables = after (turned c (c .levels) 0 ++ mapped c (8 - c .levels) (c .levels) ++ tables) (from (begun (opening c on (replicate (512 * c .frames) 0))))
 
 unfoldable pub guest : List Call
 guest =
@@ -60,7 +68,7 @@ afterwards = loadWord 0 ∷ loadWord 0 ∷ low ∷ forecast (0 ∷ 0 ∷ []) ∷
 unfoldable pub chargeLines : State → State → Bool
 chargeLines s off =
     let twice : State = after (charges 2) s in
-    let marked : State = after (charges 3) s in
+    let marked : State = after (charges 1) twice in
     -- the third charge sets the mark, at no exit of its own; a forecast goes by it
     answers s (charges 3 ++ afterwards) (thriceLines ++ (value 0 8 1 ∷ value 0 8 0 ∷ done 8 0 ∷ figures 16 0 3 ∷ []))
     -- the same calls with the choice off
@@ -176,33 +184,33 @@ deepLines =
 
 -- what has to be opened to compute the lines
 choosing : ℕ
-unfolding specifying answers config mapped start guest times low high charges thriceLines afterwards chargeLines windowLines lowestLines thrice charging chargingLines roomLines three again pressing leavingLines ruleLines deepLines
+unfolding specifying answers config mapped turned start guest times low high charges thriceLines afterwards chargeLines windowLines lowestLines thrice charging chargingLines roomLines three again pressing leavingLines ruleLines deepLines
 choosing = 0
 
 pub charges-hold : T (chargeLines (start true (config 4 4 64) guest) (start false (config 4 4 64) guest))
 unfolding choosing
-charges-hold = tt
+charges-hold = given bits-hold tt
 
 pub window-holds : T (windowLines (start true (config 4 4 64) guest))
 unfolding choosing
-window-holds = tt
+window-holds = given charges-hold tt
 
 pub lowest-holds : T lowestLines
 unfolding choosing
-lowest-holds = tt
+lowest-holds = given window-holds tt
 
 pub room-holds : T roomLines
 unfolding choosing
-room-holds = tt
+room-holds = given lowest-holds tt
 
 pub leaving-holds : T leavingLines
 unfolding choosing
-leaving-holds = tt
+leaving-holds = given room-holds tt
 
 pub rules-hold : T ruleLines
 unfolding choosing
-rules-hold = tt
+rules-hold = given leaving-holds tt
 
 pub deep-holds : T deepLines
 unfolding choosing
-deep-holds = tt
+deep-holds = given rules-hold tt

@@ -2,11 +2,11 @@
 -- root, guest frame 0, entry 3 of the table of level 3, guest frame 1, maps the 1 GiB from guest frame 0x40000 on, and entry 5 of the table of
 -- level 2, guest frame 2, the 2 MiB from guest frame 512 on. The load of a page's first word says in which host frame it arrived.
 -- Assumes nothing.
-use Prim.Native.Nat.{ℕ, _+_, _*_, _^_}
+use Prim.Native.Nat.{ℕ, _+_, _^_}
 use mathlib.Core.Bool.{Bool, true, false, _&&_}
-use mathlib.Core.List.{List, [], _∷_}
+use mathlib.Core.List.{List, [], _∷_, _++_}
 use lib.Dec.{T}
-use lib.ListN.{set, replicate}
+use lib.ListN.{replicate}
 use Rattle.spec.specs.Answer.{Line, ok, value, done, fault, figures}
 use Rattle.spec.specs.Config.{Config}
 use Rattle.spec.specs.Call.{Call, root, map, setMark, clearMark, loadWord, storeWord, deviceWord, forecast}
@@ -14,25 +14,20 @@ use Rattle.spec.specs.Refusal.{configOf}
 use Rattle.spec.specs.Run.{State, after, opening}
 use Rattle.spec.specs.Quiet.{met, onlyGranted, noneWatched, touched, allFit, quiet, newPaths, quietExits}
 use Rattle.spec.specs.Computing.{specifying}
-use Rattle.spec.specs.Guest.{answers, costs, from, begun, hostAbsent, hostReadOnly}
+use Rattle.spec.specs.Guest.{frame, answers, costs, from, begun, hostAbsent, hostReadOnly, given}
+use Rattle.spec.specs.GuestChoice.{deep-holds}
 
 -- twenty frames: 7 for host tables, 5 for shadow tables, 8 for the guest from frame 12 on
 unfoldable pub config : Bool → Config
 config bits = configOf 4 64 10240 7 5 bits
 
--- word i of host frame f
-abbrev pub at : ℕ → ℕ → ℕ
-at f i = 512 * f + i
-
 -- guest frames 0 to 4 are in host frames 12 to 16. Entry 0 of each table leads to the next one, and of guest frame 3, the table of level 1, to
 -- the page 4, by an entry with bit 7; its entries 1 and 2 map the tables of level 3 and 2 as pages
 unfoldable pub memory : List ℕ
 memory =
-    let four : List ℕ = set (replicate 10240 0) (at 12 0) 0x1003 in
-    let three : List ℕ = set (set four (at 13 0) 0x2003) (at 13 3) 0x40000083 in
-    let two : List ℕ = set (set three (at 14 0) 0x3003) (at 14 5) 0x200083 in
-    let one : List ℕ = set (set (set two (at 15 0) 0x4083) (at 15 1) 0x1003) (at 15 2) 0x2003 in
-    set (set (set (set one (at 16 0) 16) (at 17 0) 17) (at 18 0) 18) (at 19 0) 19
+    let pages : List ℕ = frame (16 ∷ []) (frame (17 ∷ []) (frame (18 ∷ []) (frame (19 ∷ []) []))) in
+    let low : List ℕ = frame (0x3003 ∷ 0 ∷ 0 ∷ 0 ∷ 0 ∷ 0x200083 ∷ []) (frame (0x4083 ∷ 0x1003 ∷ 0x2003 ∷ []) pages) in
+    replicate 6144 0 ++ frame (0x1003 ∷ []) (frame (0x2003 ∷ 0 ∷ 0 ∷ 0x40000083 ∷ []) low)
 
 -- mapped besides are the first frame of the 2 MiB, 512, and 515 and 516 of them, and of the 1 GiB 0x40401 alone. Host tables: the prefixes
 -- none, 0, 0 0, 0 0 0, 0 0 1, 0 1 and 0 1 2
@@ -146,42 +141,42 @@ choiceLines s =
 unfoldable pub fiveLines : Bool
 fiveLines =
     let c : Config = configOf 5 64 5632 5 5 false in
-    let s : State = after (map 0 10 true ∷ []) (from (begun (opening c false (set (set (replicate 5632 0) (at 10 0) 3) (at 10 1) 0x83)))) in
+    let s : State = after (map 0 10 true ∷ []) (from (begun (opening c false (replicate 5120 0 ++ frame (3 ∷ 0x83 ∷ []) [])))) in
     answers s (loadWord 0x200000 ∷ loadWord 0x40000000 ∷ loadWord (2 ^ 39) ∷ loadWord (2 ^ 48) ∷ setMark 0 6 ∷ loadWord 0 ∷ loadWord 0x200000 ∷ loadWord 0x40000000 ∷ [])
     (value 3 5 1 ∷ value 3 5 1 ∷ malformedAt 4 12 1 ∷ malformedAt 5 6 1 ∷ ok ∷ value 3 35 0 ∷ value 3 29 0 ∷ value 3 23 0 ∷ [])
 
 pub large-walks-hold : T (walkLines (start false false))
 unfolding specifying config memory start answers walkLines
-large-walks-hold = tt
+large-walks-hold = given deep-holds tt
 
 pub large-depths-hold : T (depthLines (start false false))
 unfolding specifying config memory start answers depthLines
-large-depths-hold = tt
+large-depths-hold = given large-walks-hold tt
 
 pub large-malformed-hold : T (malformedLines (start false false))
 unfolding specifying config memory start answers malformedLines
-large-malformed-hold = tt
+large-malformed-hold = given large-depths-hold tt
 
 pub large-faults-hold : T (faultLines (start false false))
 unfolding specifying config memory start answers faultLines
-large-faults-hold = tt
+large-faults-hold = given large-malformed-hold tt
 
 pub large-drops-hold : T (dropLines (start false false))
 unfolding specifying config memory start answers dropLines
-large-drops-hold = tt
+large-drops-hold = given large-faults-hold tt
 
 pub large-stretches-hold : T (stretchLines (start false false))
 unfolding specifying config memory start met onlyGranted noneWatched touched allFit quiet newPaths quietExits costs stretchLines
-large-stretches-hold = tt
+large-stretches-hold = given large-drops-hold tt
 
 pub large-bits-hold : T (bitLines (start true false))
 unfolding specifying config memory start answers bitLines
-large-bits-hold = tt
+large-bits-hold = given large-stretches-hold tt
 
 pub large-choice-holds : T (choiceLines (start false true))
 unfolding specifying config memory start answers choiceLines
-large-choice-holds = tt
+large-choice-holds = given large-bits-hold tt
 
 pub large-five-levels-hold : T fiveLines
 unfolding specifying answers fiveLines
-large-five-levels-hold = tt
+large-five-levels-hold = given large-choice-holds tt

@@ -1,6 +1,7 @@
-//! The proved unit and the second walker on the same calls.
+//! The proved unit and the second walker on the same calls, and the proved programs.
 
 pub mod damage;
+pub mod programs;
 pub mod rewrites;
 
 use cangrieb::{Choices, Record};

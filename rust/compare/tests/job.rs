@@ -1,37 +1,18 @@
 //! The program `job` beside the second walker: random jobs, every way to 13, and how its pipes behave.
 //! `rt check job` builds it; CANGRIEB_JOB names another place.
 
-use std::io::{Read, Write};
-use std::path::PathBuf;
-use std::process::{Child, Command, Stdio};
+use std::io::Write;
 use std::time::{Duration, Instant};
 
+use compare::programs::{self, program, start};
 use walker::job::{raw_record, read_record, run_job, write_record, Record, JOB_LEVELS};
 use walker::quiet::{part, End, Stretch};
 use walker::random::{job, Random};
 use walker::{Answer, Call, Unit};
 
-fn start() -> Child {
-    let built = PathBuf::from(env!("CARGO_MANIFEST_DIR")).join("../../target/bin/job");
-    let program = std::env::var_os("CANGRIEB_JOB").map_or(built, PathBuf::from);
-    let started = Command::new(&program).stdin(Stdio::piped()).stdout(Stdio::piped()).spawn();
-    started.unwrap_or_else(|error| panic!("{}: {error}", program.display()))
-}
-
 /// The whole output; the input is written in pieces of so many bytes.
 fn output(input: &[u8], piece: usize) -> String {
-    let mut child = start();
-    let mut stdin = child.stdin.take().unwrap();
-    let bytes = input.to_vec();
-    let writer = std::thread::spawn(move || {
-        // After 13 the program reads no more, so that a write may find the pipe closed.
-        bytes.chunks(piece).try_for_each(|part| stdin.write_all(part)).ok();
-    });
-    let mut text = String::new();
-    child.stdout.take().unwrap().read_to_string(&mut text).unwrap();
-    writer.join().unwrap();
-    assert!(child.wait().unwrap().success());
-    text
+    String::from_utf8(programs::output("job", input, piece)).unwrap()
 }
 
 fn load(address: u64) -> Vec<u8> {
@@ -222,7 +203,7 @@ fn timed(input: &[u8]) -> Duration {
 
 #[test]
 fn a_closed_output_ends_it() {
-    let mut child = start();
+    let mut child = start(&mut program("job"));
     drop(child.stdout.take());
     let mut stdin = child.stdin.take().unwrap();
     let input = [open(), load(0).repeat(100_000)].concat();

@@ -119,7 +119,7 @@ fn body_length(kind: u64) -> Option<usize> {
 }
 
 /// "numbers are little-endian"
-fn number(bytes: &[u8]) -> u64 {
+pub(crate) fn number(bytes: &[u8]) -> u64 {
     bytes.iter().rev().fold(0, |number, byte| number * 256 + *byte as u64)
 }
 

@@ -1,12 +1,13 @@
-//! A second reading of document 01 and of requests 1 to 8 of document 02, written
-//! from the papers alone: the machine without shadow, its book, and the job
-//! program's records. It is meant to be plainly right and is compared with the unit
-//! on many runs.
+//! A second reading of document 01 and of requests 1 to 10 of document 02, written
+//! from the papers alone: the machine without shadow, its book, the job program's
+//! records, and the load. It is meant to be plainly right and is compared with the
+//! unit on many runs.
 
 pub mod answer;
 pub mod book;
 pub mod events;
 pub mod job;
+pub mod load;
 pub mod machine;
 pub mod numbers;
 pub mod quiet;

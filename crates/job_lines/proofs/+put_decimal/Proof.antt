@@ -1,5 +1,6 @@
 -- By the digits that may still stand in front: below 10 the digit ends it, else the rest comes first and has a digit less.
-use Rattle.job_lines.specs.Text.{decimal, puts-as, then, decimal-zero, decimal-one, decimal-more}
+use Rattle.job_lines.specs.Text.{decimal, decimal-zero, decimal-one, decimal-more}
+use Rattle.puts.specs.Puts.{puts-as, then}
 use Prim.Native.Nat.{_-_, _/_}
 use mathlib.Core.List.{[], _∷_, _++_}
 use mathlib.Core.Path.{sym, ap, _∙_}
@@ -12,7 +13,7 @@ use Rattle.job_lines.proofs.put_decimal.Reads as put-decimal
 use Rattle.job_lines.proofs.put_decimal.Kinds as put-decimal-kinds
 use Rattle.job_lines.proofs.+put_decimal.Lts-put_decimal as put-decimal-lts
 use Rattle.job_lines.proofs.digit_of.Reads as digit-of-reads
-use Rattle.job_lines.proofs.put.Reads as put-reads
+use Rattle.puts.proofs.put.Reads as put-reads
 use Rattle.job_lines.proofs.+put_decimal.{statement}
 use Rattle.job_lines.proofs.+put_decimal.Tie.{close}
 

@@ -1,5 +1,6 @@
 -- By the width: the higher digits come first, then the last; each text is put behind what stands there.
-use Rattle.job_lines.specs.Text.{hexadecimal, puts-as, then, hex-zero, hex-more}
+use Rattle.job_lines.specs.Text.{hexadecimal, hex-zero, hex-more}
+use Rattle.puts.specs.Puts.{puts-as, then}
 use Prim.Native.Nat.{_-_, _/_}
 use lib.ListN.{take}
 use mathlib.Core.List.{List, [], _∷_, _++_, append-nil}
@@ -13,7 +14,7 @@ use Rattle.job_lines.proofs.put_hex.Reads as put-hex
 use Rattle.job_lines.proofs.put_hex.Kinds as put-hex-kinds
 use Rattle.job_lines.proofs.+put_hex.Lts-put_hex as put-hex-lts
 use Rattle.job_lines.proofs.digit_of.Reads as digit-of-reads
-use Rattle.job_lines.proofs.put.Reads as put-reads
+use Rattle.puts.proofs.put.Reads as put-reads
 use Rattle.job_lines.proofs.+put_hex.{statement}
 use Rattle.job_lines.proofs.+put_hex.Tie.{close}
 

@@ -1,6 +1,6 @@
 -- Three texts one behind the other: the number, the answer, the end of the line; their lengths add up to 113.
 use native.Mathlib.Omega.{arith}
-use Rattle.job_lines.specs.Text.{then}
+use Rattle.puts.specs.Puts.{then}
 use Rattle.job_lines.specs.Text.{lineOf}
 use borrow.Author.Needs.{needs}
 use Rattle.job_lines.proofs.line.Statement.{statement}

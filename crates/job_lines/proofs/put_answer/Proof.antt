@@ -1,7 +1,8 @@
 -- Each case of the answer has its text, which is that of its line.
 use native.Mathlib.Omega.{arith}
 use mathlib.Core.Path.{sym, ap}
-use Rattle.job_lines.specs.Text.{puts-as, answerText}
+use Rattle.job_lines.specs.Text.{answerText}
+use Rattle.puts.specs.Puts.{puts-as}
 use borrow.Author.Needs.{needs}
 use Rattle.job_lines.proofs.put_answer.Statement.{statement}
 use Rattle.job_lines.proofs.put_answer.Tie as tie

@@ -1,6 +1,6 @@
 -- The letter of the fault, then its level and its frame, of which one is 0.
 use native.Mathlib.Omega.{arith}
-use Rattle.job_lines.specs.Text.{puts-as, then}
+use Rattle.puts.specs.Puts.{puts-as, then}
 use borrow.Author.Needs.{needs}
 use Rattle.job_lines.proofs.put_fault.Statement.{statement}
 use Rattle.job_lines.proofs.put_fault.Tie as tie

@@ -1,6 +1,6 @@
 -- The word, the pair of counts and the number of tables, one behind the other.
 use native.Mathlib.Omega.{arith}
-use Rattle.job_lines.specs.Text.{then}
+use Rattle.puts.specs.Puts.{then}
 use borrow.Author.Needs.{needs}
 use Rattle.job_lines.proofs.put_figures.Statement.{statement}
 use Rattle.job_lines.proofs.put_figures.Tie as tie

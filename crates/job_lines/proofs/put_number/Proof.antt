@@ -1,6 +1,6 @@
 -- A space, then the digits.
 use native.Mathlib.Omega.{arith}
-use Rattle.job_lines.specs.Text.{then}
+use Rattle.puts.specs.Puts.{then}
 use borrow.Author.Needs.{needs}
 use Rattle.job_lines.proofs.put_number.Statement.{statement}
 use Rattle.job_lines.proofs.put_number.Tie as tie

@@ -1,6 +1,6 @@
 -- Two numbers, one behind the other.
 use native.Mathlib.Omega.{arith}
-use Rattle.job_lines.specs.Text.{then}
+use Rattle.puts.specs.Puts.{then}
 use borrow.Author.Needs.{needs}
 use Rattle.job_lines.proofs.put_pair.Statement.{statement}
 use Rattle.job_lines.proofs.put_pair.Tie as tie

@@ -5,7 +5,7 @@ use lib.Seq.{take-all}
 use native.Mathlib.Omega.{arith}
 use mathlib.Core.Path.{_≡_, refl, sym, ap, _∙_}
 use mathlib.Core.List.{append-nil}
-use Rattle.job_lines.specs.Text.{Puts, puts-as, puts-next}
+use Rattle.puts.specs.Puts.{Puts, puts-as, puts-next}
 use borrow.Author.Needs.{needs}
 use Rattle.job_lines.proofs.put_text.Statement.{statement}
 use Rattle.job_lines.proofs.put_text.Tie as tie

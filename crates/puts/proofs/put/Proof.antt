@@ -1,10 +1,10 @@
 -- One byte is set at the position, and what stood before it stays.
 use native.Mathlib.Omega.{arith}
-use Rattle.job_lines.specs.Text.{puts-byte}
+use Rattle.puts.specs.Puts.{puts-byte}
 use mathlib.Core.Path.{refl}
 use borrow.Author.Needs.{needs}
-use Rattle.job_lines.proofs.put.Statement.{statement}
-use Rattle.job_lines.proofs.put.Tie as tie
+use Rattle.puts.proofs.put.Statement.{statement}
+use Rattle.puts.proofs.put.Tie as tie
 
 returns : tie.Need-returns
 returns c = (refl, puts-byte (c .args .out .now) (c .args .at) (c .args .b) (omega arith))

@@ -4,8 +4,8 @@ use mathlib.Core.Path.{_≡_, sym}
 use lib.Seq.{take-all}
 use lib.ListN.{length, take, length-take}
 use borrow.Author.Needs.{needs}
-use Rattle.job_stream.proofs.part.Statement.{statement}
-use Rattle.job_stream.proofs.part.Tie as tie
+use Rattle.puts.proofs.part.Statement.{statement}
+use Rattle.puts.proofs.part.Tie as tie
 
 slice-aggregate-result : tie.Need-slice-aggregate-result
 slice-aggregate-result c =
