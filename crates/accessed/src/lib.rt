@@ -13,7 +13,7 @@ use host::Space;
 use layout::{HostWalk, Layout};
 
 // The first entry that lacks a bit in a table mapped read-only, by its level and the table's guest frame; or none.
-#[derive(Drop)]
+#[derive(Clone, Copy)]
 pub enum Debt {
     Nothing,
     Table { level: u64, frame: u64 },
@@ -21,7 +21,7 @@ pub enum Debt {
 
 // The entries that a walk read: those at the `steps` lowest indexes of `path`, one in each of its tables, with so many levels below the last, which
 // it did not walk.
-#[derive(Drop)]
+#[derive(Clone, Copy)]
 pub struct Seen {
     pub path: u64,
     pub steps: u64,

@@ -7,7 +7,7 @@ ghost use Rattle.words.specs.After.{yields};
 use pool::{Area, Pool, Way, Went};
 
 // What stands at the end of a path (0 if a table is missing on the way), and how many words were read.
-#[derive(Drop)]
+#[derive(Clone, Copy)]
 pub enum Look {
     Seen { entry: u64, reads: u64 },
     Damaged,

@@ -14,7 +14,7 @@ use pool::Pool;
 use record::{Head, Pools};
 
 // What a move leaves, beside the arrays.
-#[derive(Drop)]
+#[derive(Clone, Copy)]
 pub struct Moved {
     pub head: Head,
     pub ok: bool,

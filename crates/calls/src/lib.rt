@@ -33,7 +33,7 @@ pub struct Reply {
 }
 
 // What is left to do of a store that is charged to a prefix: it came to a page.
-#[derive(Drop)]
+#[derive(Clone, Copy)]
 pub struct Owed {
     pub held: Held,
     pub page: HostPhysical,
@@ -44,14 +44,14 @@ pub struct Owed {
 }
 
 // What a call in parts hands back that may change more than what is held.
-#[derive(Drop)]
+#[derive(Clone, Copy)]
 pub struct Turn {
     pub head: Head,
     pub answer: Answer,
 }
 
 // What a map or an unmap hands back: the host tables, what is held, and the answer.
-#[derive(Drop)]
+#[derive(Clone, Copy)]
 pub struct Remapped {
     pub host: Pool,
     pub held: Held,

@@ -15,7 +15,7 @@ use translate::Held;
 
 // An answer (specs/Flat has the kinds). The letter is an ASCII code; what a kind does not have is 0.
 #[repr(C)]
-#[derive(Drop)]
+#[derive(Clone, Copy)]
 pub struct FlatAnswer {
     pub kind: u64,
     pub number: u64,
@@ -30,7 +30,7 @@ pub struct FlatAnswer {
 // holds for. charges: how many requests of the window were charged to its prefix, for a mark of level 1 with the choice on; else 0, as
 // all else where nothing stands.
 #[repr(C)]
-#[derive(Drop)]
+#[derive(Clone, Copy)]
 pub struct FlatMark {
     pub kind: u64,
     pub level: u64,

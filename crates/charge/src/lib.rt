@@ -10,7 +10,7 @@ use layout::Layout;
 
 // The prefix that a store is charged to, as a number: 9 bits for each of its N - 1 indexes, the last one lowest. Damaged: a link
 // that was read leads out of the area.
-#[derive(Drop)]
+#[derive(Clone, Copy)]
 pub enum Charge {
     Nobody,
     To(u64),
@@ -18,7 +18,7 @@ pub enum Charge {
 }
 
 // The prefix of one table, as such a number.
-#[derive(Drop)]
+#[derive(Clone, Copy)]
 pub enum Prefix {
     Is(u64),
     Damaged,

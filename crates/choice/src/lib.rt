@@ -10,7 +10,7 @@ use entry::GuestVirtual;
 
 // The numbers of it. on: 1 or 0. charged: a bit for each request of the window, the newest lowest. at: where the ring is written next.
 // count: how many marks are automatic.
-#[derive(Drop)]
+#[derive(Clone, Copy)]
 pub struct Tally {
     pub on: u64,
     pub charged: u64,

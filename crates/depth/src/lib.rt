@@ -43,7 +43,7 @@ fn wanted_from(place: &[u64; 64], set: u64, wants: &[u64; 8]) -> u64
 }
 
 // Where a search ended: the depth, and the set from the first place on that was not read.
-#[derive(Drop)]
+#[derive(Clone, Copy)]
 struct Searched {
     depth: u64,
     rest: u64,

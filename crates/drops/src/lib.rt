@@ -12,7 +12,7 @@ use layout::Layout;
 use pool::{Pool, Way};
 
 // What an entry of a shadow table says. Damaged: it names a frame outside the area it must lie in.
-#[derive(Drop)]
+#[derive(Clone, Copy)]
 pub enum Kind {
     Gone,
     Leaf,
@@ -22,7 +22,7 @@ pub enum Kind {
 
 // At which entries held paths are cut. Word: the entry at an index of each table that stands for the guest table in a host
 // frame. Names: those by which the guest's walk comes to a guest frame. Slot: the entry at an index of one table.
-#[derive(Drop)]
+#[derive(Clone, Copy)]
 pub enum Cut {
     Word(HostPhysical, u64),
     Names(GuestPhysical),
@@ -30,7 +30,7 @@ pub enum Cut {
 }
 
 // Links up from a table: an entry above is cut, none is, or a link leads out of the area.
-#[derive(Drop)]
+#[derive(Clone, Copy)]
 pub enum Above {
     Met,
     To(u64),
@@ -38,7 +38,7 @@ pub enum Above {
 }
 
 // What a drop leaves; not ok: an entry or a link that it read is damaged.
-#[derive(Drop)]
+#[derive(Clone, Copy)]
 pub struct Left {
     pub pool: Pool,
     pub ok: bool,

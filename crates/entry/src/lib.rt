@@ -13,15 +13,15 @@ pub const FRAME_LIMIT: u64 = 1099511627776;
 pub const ENTRY_LIMIT: u64 = 4503599627370496;
 
 // A guest-virtual address.
-#[derive(Drop)]
+#[derive(Clone, Copy)]
 pub struct GuestVirtual(pub u64);
 
 // A guest-physical page, by its frame number: offsets are never translated.
-#[derive(Drop)]
+#[derive(Clone, Copy)]
 pub struct GuestPhysical(pub u64);
 
 // A host-physical page, by its frame number.
-#[derive(Drop)]
+#[derive(Clone, Copy)]
 pub struct HostPhysical(pub u64);
 
 impl GuestVirtual {

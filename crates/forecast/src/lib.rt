@@ -25,7 +25,7 @@ pub const MOST: usize = 256;
 type Room = [u64; MOST];
 
 // What the list has cost so far, and the greatest number of tables in use so far.
-#[derive(Drop)]
+#[derive(Clone, Copy)]
 pub struct Sum {
     pub references: u64,
     pub exits: u64,
@@ -33,21 +33,21 @@ pub struct Sum {
 }
 
 // Which paths would be held now: those of the shadow tables, while they are kept, and `count` in the room; used: their tables.
-#[derive(Drop)]
+#[derive(Clone, Copy)]
 pub struct Paths {
     pub used: u64,
     pub kept: bool,
     pub count: usize,
 }
 
-#[derive(Drop)]
+#[derive(Clone, Copy)]
 pub struct Outlook {
     pub sum: Sum,
     pub paths: Paths,
 }
 
 // After an address: on with this, or damaged tables.
-#[derive(Drop)]
+#[derive(Clone, Copy)]
 pub enum Next {
     Go(Outlook),
     Damaged,

@@ -11,7 +11,7 @@ use layout::{HostWalk, Layout};
 use pool::{Area, Pool, Way};
 
 // A guest's space of frames: how the memory is laid out, and the entry of the guest's top host table.
-#[derive(Drop)]
+#[derive(Clone, Copy)]
 pub struct Space {
     pub layout: Layout,
     pub top: u64,
@@ -29,7 +29,7 @@ pub fn host_walk(mem: &[u64], space: Space, guest: GuestPhysical) -> HostWalk
 // ---- mapping
 
 // What a change of the mapping leaves: the pool of the host tables, and the number of the refusal, or 0.
-#[derive(Drop)]
+#[derive(Clone, Copy)]
 pub struct Change {
     pub pool: Pool,
     pub refusal: u64,

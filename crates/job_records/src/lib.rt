@@ -6,7 +6,7 @@ ghost use Rattle.job_records.specs.Records.{number, cut_at, body_of, next_of, jo
 
 // Where a record stands: its kind, and the part of the input that is its body. Short: the input ends before the record does.
 // Wrong: a length that no kind has.
-#[derive(Drop)]
+#[derive(Clone, Copy)]
 pub enum Cut {
     Body { kind: u64, start: usize, len: usize },
     Short,
@@ -101,7 +101,7 @@ fn next_at(s: &[u8], at: usize) -> usize
 // ---- what a record asks for
 
 // A call that a job can ask for, with its arguments. A device's address is guest-physical.
-#[derive(Drop)]
+#[derive(Clone, Copy)]
 pub enum Call {
     Root(u64),
     Map {
@@ -130,7 +130,7 @@ pub enum Call {
 }
 
 // Bad: 13.
-#[derive(Drop)]
+#[derive(Clone, Copy)]
 pub enum Job {
     Open { hosts: u64, shadows: u64 },
     Call(Call),

@@ -11,7 +11,7 @@ use entry::{GuestPhysical, HostPhysical};
 
 // How the lent memory is laid out: levels of tables, host frames, shadow frames, frames in all; and 1 if accessed and dirty bits are set
 // in guest entries, else 0.
-#[derive(Drop)]
+#[derive(Clone, Copy)]
 pub struct Layout {
     pub levels: u64,
     pub hosts: u64,
@@ -21,7 +21,7 @@ pub struct Layout {
 }
 
 // What a host walk comes to. Found reads one word a level; Damaged: an entry names a frame outside the area it must lie in.
-#[derive(Drop)]
+#[derive(Clone, Copy)]
 pub enum HostWalk {
     Found { page: HostPhysical, writable: bool },
     Absent { reads: u64 },

@@ -2,7 +2,7 @@
 use job_records::Call;
 
 // A call, and the state after it.
-#[derive(Drop)]
+#[derive(Clone, Copy)]
 pub struct Drawn {
     pub call: Call,
     pub state: u64,

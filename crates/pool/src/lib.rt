@@ -6,7 +6,7 @@ ghost use Rattle.pool.specs.Pool.{follow_of, none_of, with_top, fresh_of, freed_
 ghost use Rattle.words.specs.After.{yields};
 
 // The area: its first frame, the number of its frames, the levels of the tree.
-#[derive(Drop)]
+#[derive(Clone, Copy)]
 pub struct Area {
     pub base: u64,
     pub size: u64,
@@ -15,7 +15,7 @@ pub struct Area {
 
 // What is handed out: frames so far, the first freed frame (as an entry, or 0), tables in use; and the entry of the tree's top
 // table, 0 where there is none. The top table is where the pool says and in no frame of its own: several trees may share an area.
-#[derive(Drop)]
+#[derive(Clone, Copy)]
 pub struct Pool {
     pub fresh: u64,
     pub free: u64,
@@ -24,7 +24,7 @@ pub struct Pool {
 }
 
 // Where an entry, or a call for a table, leads. Not: no entry, no table free, no such path. Damaged: a frame outside the area.
-#[derive(Drop)]
+#[derive(Clone, Copy)]
 pub enum Way {
     To(u64),
     Not,
@@ -32,7 +32,7 @@ pub enum Way {
 }
 
 // A step's way, and the pool after it.
-#[derive(Drop)]
+#[derive(Clone, Copy)]
 pub struct Went {
     pub pool: Pool,
     pub way: Way,

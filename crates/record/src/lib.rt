@@ -17,7 +17,7 @@ use spec::Lookup;
 pub const LEVELS: u64 = 4;
 
 // What the areas of host tables and of shadow tables keep.
-#[derive(Drop)]
+#[derive(Clone, Copy)]
 pub struct Pools {
     pub host: Pool,
     pub shadow: Pool,
@@ -49,7 +49,7 @@ pub struct Record {
 }
 
 // The record without its arrays: numbers that a request takes along while the arrays are lent.
-#[derive(Drop)]
+#[derive(Clone, Copy)]
 pub struct Head {
     pub layout: Layout,
     pub pools: Pools,

@@ -19,7 +19,7 @@ use translate::{Held, Request, Translated};
 use walk::Walked;
 
 // What a request leaves: what is held then, and its answer.
-#[derive(Drop)]
+#[derive(Clone, Copy)]
 pub struct Served {
     pub held: Held,
     pub answer: Answer,
@@ -44,7 +44,7 @@ fn read_bytes(mem: &[u64], page: HostPhysical, address: u64, width: u64) -> u64
 }
 
 // What a store to a word leaves; not ok: damaged tables were met, and no guest word is changed.
-#[derive(Drop)]
+#[derive(Clone, Copy)]
 pub struct Put {
     pub pool: Pool,
     pub exits: u64,

@@ -15,7 +15,7 @@ use Rattle.spec.specs.declared.Fault.TheVariants.{Absent, Malformed, Protected, 
 use Rattle.spec.specs.Config.{Config, frame_bits}
 use Rattle.spec.specs.Entry.{bit_set, present, writable, frame_of, large, frames_below, malformed}
 use Rattle.spec.specs.Walk.{Walk, done, fail, host, word, ◌>>=◌, ◌>>◌, World, Trace, granted, failed, trace}
-use Rattle.spec.specs.Plain.{Place, Lead, to, into, span, is_span, first_frame, must, hosted, entry, next, entry_lead, span_lead, onward, turn, levels, walk}
+use Rattle.spec.specs.Plain.{Place, Lead, to, into, span, is_span, first_frame, must, mapped, hosted, entry, next, entry_lead, span_lead, onward, turn, levels, walk}
 use Rattle.spec.specs.Prefix.{All}
 use Rattle.spec_laws.proofs.Lists.{and_first, and_second, or_first, or_second}
 use Rattle.spec_laws.proofs.Granted.{no_grant, granted_is, failed_is}
@@ -148,7 +148,11 @@ module _ (c : Config) (F : ℕ → Type 0) (real : (t : ℕ) → F t → is_span
 
   pub hosted_asks : (g : ℕ) (R : Place → Type 0) → g < 2 ^ frame_bits c → ((r : Place) → F r.0 → R r) → Guest (hosted g) R
   unfolding hosted
-  hosted_asks g R b h = (b, λ x. elim x [ none ↦ λ q. b | some r ↦ λ q. h r q ])
+  hosted_asks g R b h = (b, go)
+    where
+      go : (x : Option Place) → AnswerIn F x → Guest (mapped g x) R
+      go none q = b
+      go (some r) q = h r q
 
   entry_asks : (n t i : ℕ) (R : ℕ → Type 0) → F t → i < 512 → ((e : ℕ) → malformed c n e ≡ false → R e) → Guest (entry c n t i) R
   unfolding entry

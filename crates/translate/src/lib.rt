@@ -18,14 +18,14 @@ use walk::{Trail, Walked};
 
 // What is held: the shadow tables, and the host frame of the path of no index, which stands in the record; frame 0 if it is
 // not held.
-#[derive(Drop)]
+#[derive(Clone, Copy)]
 pub struct Held {
     pub pool: Pool,
     pub frame: HostPhysical,
 }
 
 // A load or a store of the guest, at the depth that the marks give its address.
-#[derive(Drop)]
+#[derive(Clone, Copy)]
 pub struct Request {
     pub store: bool,
     pub address: GuestVirtual,
@@ -34,7 +34,7 @@ pub struct Request {
 
 // What a translation leaves: what is held then, the exits so far, what the request came to, and whether its bits are to be set before
 // its word is used.
-#[derive(Drop)]
+#[derive(Clone, Copy)]
 pub struct Translated {
     pub held: Held,
     pub exits: u64,
@@ -43,7 +43,7 @@ pub struct Translated {
 }
 
 // What the accessed and dirty bits of a walk say: that they are set or may be, or what the request meets instead, with its exit.
-#[derive(Drop)]
+#[derive(Clone, Copy)]
 pub enum Checked {
     Clear { lack: bool },
     Stopped { fault: Fault, exits: u64 },
@@ -51,7 +51,7 @@ pub enum Checked {
 }
 
 // What becomes of a request past its shadow part: its path is filled, and then its bits may be to be set; or it ends without.
-#[derive(Drop)]
+#[derive(Clone, Copy)]
 pub enum Verdict {
     Fill {
         writable: bool,

@@ -14,7 +14,7 @@ use spec::Fault;
 // What a walk comes to, with the words read: whether stores pass and where it arrived, why it stopped, or damaged tables. Down to a table it may
 // arrive within a large page: then the number is a span's, beyond the frames of the memory. The right comes first, since a fault begins with
 // a byte too: where numbers of different sizes share a place, the compiler takes them apart (docs/SPEED.md).
-#[derive(Drop)]
+#[derive(Clone, Copy)]
 pub enum Walked {
     Arrived {
         writable: bool,
@@ -168,7 +168,7 @@ fn into_span(
 }
 
 // Where one level leads, with the right and the words read by then: to a guest frame, into a large page, or no further.
-#[derive(Drop)]
+#[derive(Clone, Copy)]
 enum Led {
     To {
         right: bool,
@@ -318,7 +318,7 @@ fn descend(
 }
 
 // A walk's end, and the places that it went through, the first one first: the host frames of guest tables, then spans; 0 beyond.
-#[derive(Drop)]
+#[derive(Clone, Copy)]
 pub struct Trail {
     pub walked: Walked,
     pub tables: [u64; 8],
