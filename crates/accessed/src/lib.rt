@@ -1,5 +1,7 @@
 // Accessed and dirty bits of the guest entries that a walk read: whether one lacks a bit, whether it may be set, and setting them all.
 // The entries are those at the `steps` lowest indexes of a page number, one in each of the tables.
+#![tactic(auto)]
+
 ghost use Rattle.std.specs.Prelude.{◌≡◌, ◌&&◌, ◌||◌, ◌+◌, ◌≤◌, eqb};
 ghost use Rattle.spec.specs.Entry.{indexes};
 ghost use Rattle.spec.specs.Bits.{has_bits, lacks, may_write, dirty_at};

@@ -1,4 +1,6 @@
 // A radix tree of tables in an area of frames: lookup and insert.
+#![tactic(auto)]
+
 ghost use Rattle.std.specs.Prelude.{◌≡◌, ◌+◌, ◌-◌, ◌<◌, ◌≤◌, leb};
 ghost use Rattle.spec.specs.Entry.{index, indexes, frame_limit};
 ghost use Rattle.area.specs.Tree.{new_top_of, lookup_of, room_of, new_table_of, enter_of, attach_of, descend_of, down_of, place_of, insert_of};

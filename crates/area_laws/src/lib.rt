@@ -1,1 +1,2 @@
 // Laws of the table area, by paths; no code.
+#![tactic(auto)]

@@ -1,6 +1,8 @@
 // Marks set and cleared, by the operator and by the automatic choice (document 02, 7): the head by value, the arrays of the record lent
 // and written where they stand. Each move drops the paths that begin with the mark's indexes, and changes the marks only then. Not ok:
 // damaged tables were met, and head and arrays are as they were.
+#![tactic(auto)]
+
 ghost use Rattle.std.specs.Prelude.{◌≡◌, ◌<◌, ◌≤◌, ◌%◌, ◌^◌, get_or};
 ghost use Rattle.words.specs.After.{yields};
 ghost use Rattle.marks.specs.Table.{with_key};

@@ -1,5 +1,7 @@
 // The calls on a record in parts: its head by value and its arrays lent, so that no call copies an array. Each is told whether the record
 // breaks no rule (3); what comes back is what the call can change of the head.
+#![tactic(auto)]
+
 ghost use Rattle.std.specs.Prelude.{◌≡◌, ◌<◌, ◌≤◌, length, T, true, ◌≢◌};
 ghost use Rattle.spec.specs.Bytes.{width_fits};
 ghost use Rattle.words.specs.After.{yields};

@@ -1,6 +1,8 @@
 // The unit's calls for C and for Rust. The record is lent in four parts, its head of 20 words, the places of its marks and the two arrays
 // of the automatic choice, and the memory beside it; the answer is numbers. Nothing is asked of the caller but that those words are at
 // those places.
+#![tactic(auto)]
+
 ghost use Rattle.std.specs.Prelude.{◌≡◌, ◌+◌, ◌*◌, ◌^◌, ◌<◌};
 ghost use Rattle.words.specs.After.{yields};
 ghost use Rattle.calls.specs.Calls.{head_held, head_remapped, open_call, load_call, store_call, device_call, root_call, map_call, unmap_call, set_mark_call, clear_mark_call, forecast_call};

@@ -1,5 +1,7 @@
 // What a guest store is charged to (document 02, 7): one pass over the shadow tables, which reads only. It looks for the tables of
 // level 1 in which a path ends whose level 1 word is stored to, and takes the lowest of their prefixes.
+#![tactic(auto)]
+
 ghost use Rattle.std.specs.Prelude.{◌≡◌, ◌-◌, ◌<◌, ◌≤◌};
 ghost use Rattle.spec.specs.Entry.{frame_limit};
 ghost use Rattle.layout.specs.Layout.{LayoutFits, config};

@@ -1,5 +1,7 @@
 // What the automatic choice keeps: the window of the last requests, and which marks are automatic (document 02, 7). A request that is
 // charged to nobody shifts one word; the arrays change where a store is charged or a mark moves, and are written where they stand.
+#![tactic(auto)]
+
 ghost use Rattle.std.specs.Prelude.{◌≡◌, ◌<◌, ◌≤◌, ◌%◌, length, take, set, get_or};
 ghost use Rattle.choice.specs.Window.{room, shifted, requested_of, emptied_of, tally_charged, prefix_in, charges_of};
 ghost use Rattle.choice.specs.Order.{entry_fits, order_fits, choice_fits, automatic_at, prefix_at, charges_at, leaving_of, place_by, with_count, but, fronted, count_with, order_with, relocated};

@@ -1,1 +1,2 @@
 // The claims about the unit over whole runs; no code.
+#![tactic(auto)]

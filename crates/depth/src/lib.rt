@@ -1,5 +1,7 @@
 // The depth of an address: the greatest level among the marks that hold for it, found in one pass over the set places. A mark of
 // the highest level ends the pass.
+#![tactic(auto)]
+
 ghost use Rattle.std.specs.Prelude.{◌≡◌, ◌+◌, ◌-◌, ◌≤◌};
 ghost use Rattle.std.specs.Int.Count.{ones};
 ghost use Rattle.marks.specs.Key.{low_page};

@@ -1,4 +1,6 @@
 // Held paths dropped: at which entries of the shadow tables they are cut, and the scan that clears them.
+#![tactic(auto)]
+
 ghost use Rattle.std.specs.Prelude.{◌≡◌, ◌+◌, ◌-◌, ◌<◌, ◌≤◌};
 ghost use Rattle.spec.specs.Entry.{index, indexes, frame_limit};
 ghost use Rattle.layout.specs.Layout.{LayoutFits, config};

@@ -1,4 +1,6 @@
 // The three address sorts, the widths of an access and the bits of an entry. What each function yields is what the specification's definition gives.
+#![tactic(auto)]
+
 ghost use Rattle.std.specs.Prelude.{◌≡◌, ◌+◌, ◌*◌, ◌%◌, ◌<◌, ◌≤◌, not, ◌&&◌, ◌||◌, T, ◌==◌, nat_lt};
 ghost use Rattle.spec.specs.Config.{frame_bits};
 ghost use Rattle.spec.specs.Bytes.{width_fits, aligned};

@@ -1,5 +1,7 @@
 // A forecast: what a list of loads would cost, and how many shadow tables would be in use at most. No word is written. The paths that the
 // list itself would fill are kept by their keys in a room of the call's own, one for each address at most.
+#![tactic(auto)]
+
 ghost use Rattle.std.specs.Prelude.{◌≡◌, not, ◌+◌, ◌-◌, ◌*◌, ◌<◌, ◌≤◌, eqb, length};
 ghost use Rattle.spec.specs.Count.{one};
 ghost use Rattle.spec.specs.Entry.{frame_limit};

@@ -1,4 +1,6 @@
 // The host tables: from a guest frame to the host frame that it is mapped to; mapping and unmapping.
+#![tactic(auto)]
+
 ghost use Rattle.std.specs.Prelude.{◌≡◌, ◌<◌, ◌≤◌};
 ghost use Rattle.area_laws.specs.Host.{host_entry};
 ghost use Rattle.layout.specs.Layout.{LayoutFits, config};

@@ -1,4 +1,6 @@
 // The job program: records from standard input, a line for each.
+#![tactic(auto)]
+
 fn main() {
     job_stream::run();
 }

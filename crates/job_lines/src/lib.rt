@@ -1,4 +1,6 @@
 // The line of a record: its number and what the unit answered, in ASCII, into a buffer that the caller lends.
+#![tactic(auto)]
+
 ghost use Rattle.std.specs.Prelude.{◌≡◌, ◌+◌, ◌≤◌, ◌<◌, length, take};
 ghost use Rattle.job_lines.specs.Text.{digit, decimal, hexadecimal, number, pair, fault_of, answer_text, line_of};
 ghost use Rattle.puts.specs.Puts.{Puts};

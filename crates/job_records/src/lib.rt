@@ -1,4 +1,6 @@
 // The records of a job: where one stands in the input, and what it asks for.
+#![tactic(auto)]
+
 ghost use Rattle.std.specs.Prelude.{◌≡◌, ◌+◌, ◌≤◌, ◌<◌, length};
 ghost use Rattle.job_records.specs.Records.{number, cut_at, body_of, next_of, job_of, open_body, map_body, number_body, mark_body, pair_body, job_at};
 

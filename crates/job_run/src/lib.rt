@@ -1,4 +1,6 @@
 // What a record of a job does to the unit.
+#![tactic(auto)]
+
 ghost use Rattle.std.specs.Prelude.{◌≡◌, false};
 ghost use Rattle.words.specs.After.{yields};
 ghost use Rattle.calls.specs.Calls.{open_call, call_of};

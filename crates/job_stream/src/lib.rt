@@ -2,6 +2,8 @@
 // No contract can say which bytes a read gave or a write took: libc::read and libc::write promise a count only. All else is said: a read
 // puts its bytes behind those that are not run yet, in a buffer that has room for them; what is handed over to be written is the line of the record; and
 // every turn runs the next record, or reads. That each line is handed over once is read in run_record.
+#![tactic(auto)]
+
 ghost use Rattle.std.specs.Prelude.{◌≡◌, ◌+◌, ◌≤◌, ◌<◌, length, take, drop};
 ghost use Rattle.words.specs.After.{yields};
 ghost use Rattle.job_lines.specs.Text.{line_of};

@@ -1,5 +1,7 @@
 // How the lent memory is laid out: host tables, shadow tables, then the guest area. What the entry at the end of a path in either
 // set of tables names.
+#![tactic(auto)]
+
 ghost use Rattle.std.specs.Prelude.{◌≡◌, ◌≤◌};
 ghost use Rattle.spec.specs.Entry.{indexes};
 ghost use Rattle.spec.specs.Refusal.{in_guest_area, frame_fits};

@@ -1,6 +1,8 @@
 // The load program: seed and count from standard input, the records of their load to standard output, for the job program.
 // All is put into one buffer and written at once. No contract can say which bytes a read gave: that the input is what was read, and that its load is
 // handed over once, is read in main.
+#![tactic(auto)]
+
 ghost use Rattle.std.specs.Prelude.{◌≡◌, length};
 ghost use Rattle.load_spec.specs.Load.{longest, load_by};
 

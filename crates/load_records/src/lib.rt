@@ -1,4 +1,6 @@
 // A load that anyone can repeat: calls drawn from a seed, and the bytes of their records.
+#![tactic(auto)]
+
 ghost use Rattle.std.specs.Prelude.{◌≡◌, ◌++◌, ◌+◌, ◌*◌, ◌≤◌, ◌<◌, length, take};
 ghost use Rattle.puts.specs.Puts.{Puts};
 ghost use Rattle.job_records.specs.Encoded.{bytes_of, record_bytes, call_bytes};

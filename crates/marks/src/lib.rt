@@ -1,6 +1,8 @@
 // The table of marks. A mark stands in one word, its key (specs/Key); the keys of the set places ascend in the order of the places.
 // So one pass shows that no two are alike, and a mark of the highest level stands among the first places.
 // What is called often takes the places by reference; a table is passed by value only where it changes.
+#![tactic(auto)]
+
 ghost use Rattle.std.specs.Prelude.{◌≡◌, not, ◌&&◌, [], eqb, ltb, ◌-◌, ◌<◌, min, max};
 ghost use Rattle.std.specs.Int.Count.{ones};
 ghost use Rattle.spec.specs.Prefix.{any};

@@ -1,4 +1,6 @@
 // The opening of a memory: judged, its host and shadow frames cleared, the first record made.
+#![tactic(auto)]
+
 ghost use Rattle.std.specs.Prelude.{◌≡◌, ◌+◌, ◌≤◌};
 ghost use Rattle.words.specs.After.{yields};
 ghost use Rattle.record.specs.Record.{zeros};

@@ -1,4 +1,6 @@
 // Frames of an area of the lent memory handed out and given back, and the words of the tables in them.
+#![tactic(auto)]
+
 ghost use Rattle.std.specs.Prelude.{◌≡◌, ◌+◌, ◌<◌, eqb};
 ghost use Rattle.spec.specs.Entry.{frame_limit};
 ghost use Rattle.pool.specs.Header.{frame_at, upper_of, entry_at_of, high_of, put_entry_of, guest_of, level_of, parent_of, slot_of, written, upper_bits, header_of, inside_of, bare_of};

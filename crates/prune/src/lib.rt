@@ -1,4 +1,6 @@
 // A path removed from the tree of tables of an area, and the tables that it leaves empty given back.
+#![tactic(auto)]
+
 ghost use Rattle.std.specs.Prelude.{◌≡◌, ◌+◌, ◌-◌, ◌<◌, ◌≤◌};
 ghost use Rattle.spec.specs.Entry.{index, indexes, frame_limit};
 ghost use Rattle.prune.specs.Remove.{detach_of, release_top, release_of, last_table_of, clear_of, remove_of};

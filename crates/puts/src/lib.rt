@@ -1,4 +1,6 @@
 // Bytes put into a buffer, one behind the other, and the part of it that they fill.
+#![tactic(auto)]
+
 ghost use Rattle.std.specs.Prelude.{◌≡◌, [], ◌∷◌, ◌+◌, ◌≤◌, length, take};
 ghost use Rattle.puts.specs.Puts.{Puts};
 

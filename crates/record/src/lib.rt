@@ -1,4 +1,6 @@
 // The unit's record, by value; whether it breaks a rule (3); the opening.
+#![tactic(auto)]
+
 ghost use Rattle.std.specs.Prelude.{◌≡◌};
 ghost use Rattle.spec.specs.Refusal.{words_fit, areas_fit, top_fits};
 ghost use Rattle.layout.specs.Layout.{LayoutFits, config};

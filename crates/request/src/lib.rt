@@ -1,4 +1,6 @@
 // Load, store and device store: from an address and its depth to the bytes read or written, and the held paths that a store drops.
+#![tactic(auto)]
+
 ghost use Rattle.std.specs.Prelude.{◌≡◌, true, false, not, eqb, ◌<◌, ◌≤◌};
 ghost use Rattle.spec.specs.Bytes.{bytes_at, with_bytes};
 ghost use Rattle.spec.specs.Entry.{word_of, frame_limit};

@@ -1,4 +1,6 @@
 // The shadow tables: held paths found and filled, and the guest tables that they watch.
+#![tactic(auto)]
+
 ghost use Rattle.std.specs.Prelude.{◌≡◌, cond, ◌+◌, ◌-◌, ◌<◌, ◌≤◌};
 ghost use Rattle.spec.specs.Entry.{indexes, frame_limit};
 ghost use Rattle.layout.specs.Layout.{LayoutFits, config};

@@ -1,4 +1,6 @@
 // From an address and its depth to a host frame or a fault: a held path is found, or the guest tables are walked and the path filled.
+#![tactic(auto)]
+
 ghost use Rattle.std.specs.Prelude.{◌≡◌, true, false, ◌&&◌, ◌+◌, ◌-◌, ◌<◌, ◌≤◌};
 ghost use Rattle.spec.specs.Entry.{indexes, page_of, frame_limit};
 ghost use Rattle.spec.specs.Bits.{lacks};

@@ -1,4 +1,6 @@
 // The unit's ten calls by value: record and memory in, record and answer out. Each is a line or two over the call in parts.
+#![tactic(auto)]
+
 ghost use Rattle.std.specs.Prelude.{◌≡◌};
 ghost use Rattle.words.specs.After.{yields};
 ghost use Rattle.calls.specs.Calls.{Promises, served_reply, windowed_reply, turn_reply, turn_in, remap_reply, answer_of, open_call, load_call, store_call, device_call, root_call, map_call, unmap_call, mark_call, set_mark_call, clear_mark_call, forecast_call};

@@ -1,5 +1,7 @@
 // The plain walk: from a guest-virtual address to the host frame of its page, by the guest's tables and then the host's.
 // One loop serves the whole walk, its upper part and its lower part.
+#![tactic(auto)]
+
 ghost use Rattle.std.specs.Prelude.{◌≡◌, true, false, ◌&&◌, ◌||◌, not, ◌+◌, ◌<◌, ◌≤◌, eqb, ltb};
 ghost use Rattle.spec.specs.Entry.{bit_set, indexes, frame_limit};
 ghost use Rattle.spec.specs.Plain.{span_lead, next, turn};

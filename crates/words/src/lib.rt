@@ -1,4 +1,6 @@
 // Words of the lent memory: total reads and stores, by place and by frame, a frame set to 0, and a part of a word.
+#![tactic(auto)]
+
 ghost use Rattle.std.specs.Prelude.{◌≡◌, ◌+◌, ◌*◌, ◌<◌, ◌≤◌, get_or, set};
 ghost use Rattle.spec.specs.Bytes.{part, with_part};
 ghost use Rattle.spec.specs.Entry.{frame_limit};

@@ -1,1 +1,2 @@
 // Wrong units, and that the claims refuse each; no code.
+#![tactic(auto)]

@@ -6,37 +6,29 @@ use lib.Pow.{shl_exact}
 use borrow.Author.Rules.{rules}
 use Rattle.spec.specs.Bytes.{part, with_part}
 use Rattle.spec_laws.proofs.Bytes.{part_lt, part_le, put_lt, put_changes}
-use Rattle.words.proofs.with_part.Statement.{statement}
-use Rattle.words.proofs.with_part.Tie as tie
+use Rattle.words.proofs.with_part.Goals as goal
 
 -- a part r of e, moved up to bit k
 moved : (n k i e r : ℕ) → r ≡ part n i e → n + k ≤ 64 → r * 2 ^ k % 18446744073709551616 ≡ part n i e * 2 ^ k
 moved n k i e r h l = ap (λ z. z * 2 ^ k % 18446744073709551616) h ∙ shl_exact n k 64 (part_lt n i e) l
-
-sub-result : tie.Need-overflow_sub-result
-sub-result c =
-    let n = c.before.args.bits in
-    let k = c.before.args.from in
-    let e = c.before.args.word in
-    omega (arith, moved n k k e c.part.result c.part.ensures (omega arith), part_le n k e)
 
 -- the sum is the word with the new part
 sum : (n k v e old new : ℕ) → old ≡ part n k e → new ≡ part n 0 v → n + k ≤ 64
     → e - old * 2 ^ k % 18446744073709551616 + new * 2 ^ k % 18446744073709551616 ≡ with_part n k v e
 sum n k v e old new h g l = omega (arith, moved n k k e old h l, moved n k 0 v new g l, part_le n k e, put_changes n k v e)
 
-add-result : tie.Need-overflow_add-result
-add-result c =
-    let n = c.before.before.args.bits in
-    let k = c.before.before.args.from in
-    let e = c.before.before.args.word in
-    let v = c.before.before.args.value in
-    omega (arith, sum n k v e c.before.part.result c.part2.result c.before.part.ensures c.part2.ensures (omega arith), put_lt n k v e 64 (omega arith) (omega arith))
+pub overflow_sub-result : goal.overflow_sub-result
+overflow_sub-result c = let n = c.args.bits in
+    let k = c.args.from in
+    let e = c.args.word in
+    omega (arith, moved n k k e c.part.result c.part.ensures (omega arith), part_le n k e)
 
-returns : tie.Need-returns
-returns c = sum _ _ _ _ _ _ c.before.part.ensures c.part2.ensures (omega arith)
+pub overflow_add-result : goal.overflow_add-result
+overflow_add-result c = let n = c.args.bits in
+    let k = c.args.from in
+    let e = c.args.word in
+    let v = c.args.value in
+    omega (arith, sum n k v e c.part.result c.part-2.result c.part.ensures c.part-2.ensures (omega arith), put_lt n k v e 64 (omega arith) (omega arith))
 
-pub with_part_spec : {M : Type 1} → statement M
-with_part_spec =
-    tie.close
-    (tie.spec (λ c κs. search rules) (λ c. search rules) sub-result (λ c κs. search rules) (λ c. search rules) add-result returns)
+pub returns : goal.returns
+returns c = sum _ _ _ _ _ _ c.part.ensures c.part-2.ensures (omega arith)

@@ -4,15 +4,10 @@ use Prim.Native.Nat.{ℕ, ◌+◌, ◌-◌, ◌*◌, ◌/◌, ◌%◌, ◌^◌}
 use native.Mathlib.Omega.{arith}
 use borrow.Author.Rules.{rules}
 use Rattle.spec_laws.proofs.Bytes.{part_shifts}
-use Rattle.words.proofs.part.Statement.{statement}
-use Rattle.words.proofs.part.Tie as tie
+use Rattle.words.proofs.part.Goals as goal
 
-returns : tie.Need-returns
-returns c =
-    let n = c.args.bits in
+pub returns : goal.returns
+returns c = let n = c.args.bits in
     let x : ℕ = 64 - n in
     let word : 64 ≡ n + x = omega arith in
     ap (λ y. c.args.word / 2 ^ c.args.from * 2 ^ x % 2 ^ y / 2 ^ x) word ∙ part_shifts n c.args.from x c.args.word
-
-pub part_spec : {M : Type 1} → statement M
-part_spec = tie.close (tie.spec (λ c. search rules) (λ c. search rules) (λ c. search rules) (λ c. search rules) (λ c. search rules) returns)

@@ -3,32 +3,25 @@ use Rattle.std.proofs.Common.{◌≡◌, ◌*◌, ◌%◌, ◌^◌, ◌∙◌, o
 use Rattle.spec.specs.Entry.{bit_set, with_bit}
 use Rattle.spec_laws.proofs.EntryBits.{bit_clear}
 use Rattle.entry.proofs.Entries.{bit_room}
-use Rattle.entry.proofs.with_bit.Statement.{statement}
-use Rattle.entry.proofs.with_bit.Tie as tie
+use Rattle.entry.proofs.with_bit.Goals as goal
 
-returns : tie.Need-returns
+pub returns-then-e-bit-eq1 : goal.returns-then-e-bit-eq1
 unfolding with_bit bit_set
-returns c =
-    let if1 = c.if1 in
+returns-then-e-bit-eq1 c = let if1 = c.if-e-bit-eq1 in
     rw (eq-eqb _ 1 if1.true)
 
-add-result : tie.Need-overflow_add-result
+pub overflow_add-result : goal.overflow_add-result
 unfolding bit_set
-add-result c =
-    let if1 = c.if1 in
-    let args = c.before.args in
-    let pre = c.before.requires in
+overflow_add-result c = let if1 = c.if-e-bit-eq1 in
+    let args = c.args in
+    let pre = c.requires in
     let one : 1 * 2 ^ args.bit % 2 ^ 64 ≡ 2 ^ args.bit = shl_exact 1 args.bit 64 (lit< tt) (omega arith) ∙ one-mul _ in
     let room = bit_room args.bit args.e pre (omega arith) (bit_clear args.bit args.e (ne_eqb _ 1 if1.false)) in
     omega (arith, one, room)
 
-returns-2 : tie.Need-returns-2
+pub returns : goal.returns
 unfolding with_bit bit_set
-returns-2 c =
-    let if1 = c.if1 in
-    let args = c.before.args in
+returns c = let if1 = c.if-e-bit-eq1 in
+    let args = c.args in
     let one : 1 * 2 ^ args.bit % 2 ^ 64 ≡ 2 ^ args.bit = shl_exact 1 args.bit 64 (lit< tt) (omega arith) ∙ one-mul _ in
     rw (ne_eqb _ 1 if1.false, one)
-
-pub with_bit_spec : {M : Type 1} → statement M
-with_bit_spec = tie.close (tie.spec (λ c. search rules) returns (λ c. search rules) add-result returns-2)

@@ -1,0 +1,8 @@
+-- At most 64 bits are set. Assumes nothing.
+use native.Mathlib.Omega.{arith}
+use lib.Count.{ones-le}
+use borrow.Author.Rules.{rules}
+use Rattle.bits.proofs.count.Goals as goal
+
+pub overflow_cast-result : goal.overflow_cast-result
+overflow_cast-result c = omega (arith, ones-le 64 c.args.x (omega arith))
