@@ -7,6 +7,7 @@ use native.Mathlib.Omega.{arith}
 use mathlib.Core.List.{List, [], ◌∷◌}
 use lib.ListN.{get_or, length, length-set}
 use lib.Seq.{get_or-set_other}
+use Rattle.spec.specs.Entry.{entry_limit}
 use Rattle.words.specs.Words.{at, set_in, zeroed}
 use Rattle.words.proofs.Laws.{zeroed_length, zeroed_below, zeroed_above}
 use Rattle.pool.specs.Header.{put_entry_of, written, header_of}
@@ -42,7 +43,7 @@ put_out b s m f i e l h k = set_out b s m f i _ l h k
 written_out : (b s : ℕ) (m : List ℕ) (f k : ℕ) (vs : List ℕ) → b ≤ f → f < b + s → k + length vs ≤ 512 → SameOutside b s m (written m f k vs)
 unfolding written
 written_out b s m f k [] l h e = out_refl b s m
-written_out b s m f k (v ∷ vs) l h e = out_trans b s _ _ _ (written_out b s _ f (suc k) vs l h (omega arith)) (set_out b s m f k _ l h (omega arith))
+written_out b s m f k (v ∷ vs) l h e = out_trans b s _ _ _ (written_out b s (set_in m f k (v * entry_limit)) f (suc k) vs l h (omega arith)) (set_out b s m f k _ l h (omega arith))
 
 pub head_out : (b s : ℕ) (m : List ℕ) (f guest level parent slot : ℕ) → b ≤ f → f < b + s → SameOutside b s m (header_of m f guest level parent slot)
 unfolding header_of

@@ -1,0 +1,6 @@
+-- The high parts of four words, put together as in the definition.
+use borrow.Author.Rules.{rules}
+use Rattle.pool.proofs.upper.Goals as goal
+
+pub returns : goal.returns
+returns c = rw (← c.high-d.ensures, ← c.high-c.ensures, ← c.high-b.ensures, ← c.high-a.ensures)
