@@ -1,14 +1,13 @@
 -- Lines of the sixteen-frame guest with accessed and dirty bits on, as a test that the checker computes. Document 02, 6). A load of
 -- 0x4000 reads entry 0 of the guest's table of level 1, which maps itself as its page 4.
 -- Assumes nothing.
-use Rattle.std.specs.Prelude.{ℕ, Bool, true, false, ◌&&◌, List, [], ◌∷◌, ◌++◌, T, replicate}
+use Rattle.std.specs.Prelude.{ℕ, Bool, true, false, ◌&&◌, List, [], ◌∷◌, ◌++◌, replicate}
 use Rattle.spec.specs.Answer.{ok, value, done, no}
 use Rattle.spec.specs.Config.{Config}
 use Rattle.spec.specs.Call.{root, map, set_mark, store, load_word, store_word, device_word, forecast}
 use Rattle.spec.specs.Refusal.{config_of}
 use Rattle.spec.specs.Run.{State, after, opening}
-use Rattle.spec.specs.Computing.{specifying}
-use Rattle.spec.specs.Guest.{guest_words, answers, from, begun, absent, protected, host_absent, host_read_only, given, searches_hold}
+use Rattle.spec.specs.Guest.{guest_words, answers, from, begun, absent, protected, host_absent, host_read_only}
 
 -- the guest of document 01 with six shadow frames, so that two of its paths fit: guest frames 0 to 7 at 10 to 17
 unfoldable pub config : Config
@@ -76,7 +75,3 @@ owed_lines s =
     && answers s (map 6 10 false ∷ device_word 0 0x6003 ∷ load_word 0 ∷ device_word 0 0x6023 ∷ load_word 0 ∷ []) (ok ∷ done 4 0 ∷ host_read_only 6 24 1 ∷ done 4 0 ∷ value 0x6023 4 1 ∷ [])
     -- no forecast, whatever its length
     && answers s (forecast [] ∷ forecast (replicate 257 0) ∷ []) (no 16 ∷ no 16 ∷ [])
-
-pub bits_hold : T (set_lines start && refill_lines start && owed_lines start)
-unfolding specifying config memory start answers set_lines refill_lines owed_lines
-bits_hold = given searches_hold tt

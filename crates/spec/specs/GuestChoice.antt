@@ -2,7 +2,7 @@
 -- level 1, in guest frame 3, hangs at three places: a load of 0, of 0x200000 and of 0x400000 reads its entry 0, by the prefixes (0, 0, 0),
 -- (0, 0, 1) and (0, 0, 2); its entry 4 maps the table itself, its entry 5 the table of level 2.
 -- Assumes nothing.
-use Rattle.std.specs.Prelude.{ℕ, zero, suc, ◌+◌, ◌-◌, ◌*◌, ◌^◌, Bool, true, false, not, ◌&&◌, List, [], ◌∷◌, ◌++◌, T, replicate}
+use Rattle.std.specs.Prelude.{ℕ, zero, suc, ◌+◌, ◌-◌, ◌*◌, ◌^◌, Bool, true, false, not, ◌&&◌, List, [], ◌∷◌, ◌++◌, replicate}
 use Rattle.std.proofs.Math.Option.{none, some}
 use Rattle.spec.specs.Answer.{Line, ok, value, done, no, figures}
 use Rattle.spec.specs.Config.{Config, guest_base}
@@ -11,9 +11,7 @@ use Rattle.spec.specs.Choice.{leaf_mark}
 use Rattle.spec.specs.Call.{Call, root, map, set_mark, clear_mark, load_word, store_word, device_word, forecast}
 use Rattle.spec.specs.Refusal.{config_of, choice_fits}
 use Rattle.spec.specs.Run.{State, after, opening}
-use Rattle.spec.specs.Computing.{specifying}
-use Rattle.spec.specs.Guest.{answers, from, begun, absent, given}
-use Rattle.spec.specs.GuestBits.{bits_hold}
+use Rattle.spec.specs.Guest.{answers, from, begun, absent}
 
 -- n levels, n host frames, s shadow frames, eight guest frames, room for so many marks
 unfoldable pub config : ℕ → ℕ → ℕ → Config
@@ -177,36 +175,3 @@ deep_lines =
     let tables : List Call = device_word 0 0x1003 ∷ device_word 0x1000 0x2003 ∷ device_word 0x2000 0x3003 ∷ device_word 0x3000 0x4003 ∷ device_word 0x4000 0x5003 ∷ device_word 0x4020 0x4003 ∷ [] in
     answers (start true (config 5 5 64) tables) (times 3 (load_word 0 ∷ store_word 0x4000 0x5003 ∷ []) ++ (load_word 0 ∷ load_word 0x200000 ∷ []))
     (value 0 5 1 ∷ done 5 2 ∷ times 2 (value 0 5 1 ∷ done 5 1 ∷ []) ++ (value 0 10 1 ∷ absent 2 24 1 ∷ []))
-
--- what has to be opened to compute the lines
-choosing : ℕ
-unfolding specifying answers config mapped turned start guest times low high charges thrice_lines afterwards charge_lines window_lines lowest_lines thrice charging charging_lines room_lines three again pressing leaving_lines rule_lines deep_lines
-choosing = 0
-
-pub charges_hold : T (charge_lines (start true (config 4 4 64) guest) (start false (config 4 4 64) guest))
-unfolding choosing
-charges_hold = given bits_hold tt
-
-pub window_holds : T (window_lines (start true (config 4 4 64) guest))
-unfolding choosing
-window_holds = given charges_hold tt
-
-pub lowest_holds : T lowest_lines
-unfolding choosing
-lowest_holds = given window_holds tt
-
-pub room_holds : T room_lines
-unfolding choosing
-room_holds = given lowest_holds tt
-
-pub leaving_holds : T leaving_lines
-unfolding choosing
-leaving_holds = given room_holds tt
-
-pub rules_hold : T rule_lines
-unfolding choosing
-rules_hold = given leaving_holds tt
-
-pub deep_holds : T deep_lines
-unfolding choosing
-deep_holds = given rules_hold tt

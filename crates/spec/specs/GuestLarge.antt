@@ -2,16 +2,13 @@
 -- root, guest frame 0, entry 3 of the table of level 3, guest frame 1, maps the 1 GiB from guest frame 0x40000 on, and entry 5 of the table of
 -- level 2, guest frame 2, the 2 MiB from guest frame 512 on. The load of a page's first word says in which host frame it arrived.
 -- Assumes nothing.
-use Rattle.std.specs.Prelude.{ℕ, ◌+◌, ◌^◌, Bool, true, false, ◌&&◌, List, [], ◌∷◌, ◌++◌, T, replicate}
+use Rattle.std.specs.Prelude.{ℕ, ◌+◌, ◌^◌, Bool, true, false, ◌&&◌, List, [], ◌∷◌, ◌++◌, replicate}
 use Rattle.spec.specs.Answer.{Line, ok, value, done, fault, figures}
 use Rattle.spec.specs.Config.{Config}
 use Rattle.spec.specs.Call.{Call, root, map, set_mark, clear_mark, load_word, store_word, device_word, forecast}
 use Rattle.spec.specs.Refusal.{config_of}
 use Rattle.spec.specs.Run.{State, after, opening}
-use Rattle.spec.specs.Quiet.{met, only_granted, none_watched, touched, all_fit, quiet, new_paths, quiet_exits}
-use Rattle.spec.specs.Computing.{specifying}
-use Rattle.spec.specs.Guest.{frame, answers, costs, from, begun, host_absent, host_read_only, given}
-use Rattle.spec.specs.GuestChoice.{deep_holds}
+use Rattle.spec.specs.Guest.{frame, answers, costs, from, begun, host_absent, host_read_only}
 
 -- twenty frames: 7 for host tables, 5 for shadow tables, 8 for the guest from frame 12 on
 unfoldable pub config : Bool → Config
@@ -140,39 +137,3 @@ five_lines =
     let s : State = after (map 0 10 true ∷ []) (from (begun (opening c false (replicate 5120 0 ++ frame (3 ∷ 0x83 ∷ []) [])))) in
     answers s (load_word 0x200000 ∷ load_word 0x40000000 ∷ load_word (2 ^ 39) ∷ load_word (2 ^ 48) ∷ set_mark 0 6 ∷ load_word 0 ∷ load_word 0x200000 ∷ load_word 0x40000000 ∷ [])
     (value 3 5 1 ∷ value 3 5 1 ∷ malformed_at 4 12 1 ∷ malformed_at 5 6 1 ∷ ok ∷ value 3 35 0 ∷ value 3 29 0 ∷ value 3 23 0 ∷ [])
-
-pub large_walks_hold : T (walk_lines (start false false))
-unfolding specifying config memory start answers walk_lines
-large_walks_hold = given deep_holds tt
-
-pub large_depths_hold : T (depth_lines (start false false))
-unfolding specifying config memory start answers depth_lines
-large_depths_hold = given large_walks_hold tt
-
-pub large_malformed_hold : T (malformed_lines (start false false))
-unfolding specifying config memory start answers malformed_lines
-large_malformed_hold = given large_depths_hold tt
-
-pub large_faults_hold : T (fault_lines (start false false))
-unfolding specifying config memory start answers fault_lines
-large_faults_hold = given large_malformed_hold tt
-
-pub large_drops_hold : T (drop_lines (start false false))
-unfolding specifying config memory start answers drop_lines
-large_drops_hold = given large_faults_hold tt
-
-pub large_stretches_hold : T (stretch_lines (start false false))
-unfolding specifying config memory start met only_granted none_watched touched all_fit quiet new_paths quiet_exits costs stretch_lines
-large_stretches_hold = given large_drops_hold tt
-
-pub large_bits_hold : T (bit_lines (start true false))
-unfolding specifying config memory start answers bit_lines
-large_bits_hold = given large_stretches_hold tt
-
-pub large_choice_holds : T (choice_lines (start false true))
-unfolding specifying config memory start answers choice_lines
-large_choice_holds = given large_bits_hold tt
-
-pub large_five_levels_hold : T five_lines
-unfolding specifying answers five_lines
-large_five_levels_hold = given large_choice_holds tt

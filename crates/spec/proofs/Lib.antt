@@ -1,0 +1,4 @@
+pub mod Guest
+pub mod GuestBits
+pub mod GuestChoice
+pub mod GuestLarge
