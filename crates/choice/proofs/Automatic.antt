@@ -1,5 +1,4 @@
 -- The automatic marks as places of a table: which places they are, that no two are alike, and where a key stands.
--- Assumes nothing.
 use mathlib.Core.Path.{◌≡◌, refl, sym, ap, ap₂, ◌∙◌, subst}
 use mathlib.Core.Bool.{Bool, true, false, not, ◌&&◌, ◌||◌, cond, and-false, or-true, true≢false, false≢true}
 use mathlib.Core.List.Permᴰ

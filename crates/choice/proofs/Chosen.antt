@@ -1,5 +1,4 @@
 -- What the automatic choice keeps in numbers, beside what the book says: they agree after every change, and answer alike.
--- Assumes nothing.
 use mathlib.Core.Path.{◌≡◌, refl, sym, ap, ap₂, ◌∙◌, subst}
 use mathlib.Core.Bool.{Bool, true, false, not, ◌&&◌, ◌||◌, cond, or-true, true≢false}
 use mathlib.Core.List.Permᴰ

@@ -1,6 +1,5 @@
 -- The automatic marks in numbers: their places in the table of marks, in the order in which they were set, the oldest first. They are the
 -- first words of an array; what stands behind them is nobody's.
--- Assumes nothing.
 use Rattle.std.specs.Prelude.{ℕ, suc, ◌-◌, ◌/◌, ◌%◌, ◌^◌, Bool, true, not, ◌&&◌, ◌||◌, cond, List, [], ◌∷◌, ◌++◌, map, reverse, eqb, leb, ltb, length, take, drop, set, get_or}
 use Rattle.std.proofs.Math.Option.{Option, none, some}
 use Rattle.spec.specs.Prefix.{any, keep}

@@ -1,5 +1,4 @@
 -- What the automatic choice keeps, in the specification's terms.
--- Assumes nothing.
 use Rattle.std.specs.Prelude.{ℕ, zero, suc, ◌-◌, ◌/◌, ◌%◌, Bool, true, false, List, [], ◌∷◌, map, reverse, eqb, take, get_or}
 use Rattle.std.proofs.Math.Option.{none, some}
 use Rattle.spec.specs.Entry.{indexes}

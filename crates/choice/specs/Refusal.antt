@@ -1,5 +1,4 @@
 -- The operator's marks among automatic ones: which are theirs, whether there is room for one more, and why a set or a clear is refused.
--- Assumes nothing.
 use Rattle.std.specs.Prelude.{ℕ, Bool, not, ◌&&◌, ◌||◌, List, [], ◌∷◌, ltb}
 use Rattle.std.proofs.Math.Option.{Option}
 use Rattle.std.specs.Int.Count.{ones}

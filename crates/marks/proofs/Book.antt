@@ -1,5 +1,4 @@
 -- A table of marks beside the book's: the same depth, the same rule, and the same marks after a set or a clear.
--- Assumes nothing.
 use mathlib.Core.Path.{◌≡◌, refl, sym, ap, ◌∙◌}
 use mathlib.Core.Bool.{Bool, true, false, not, cond}
 use mathlib.Core.List.Permᴰ

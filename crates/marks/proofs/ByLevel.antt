@@ -1,5 +1,5 @@
 -- The two tables by level: a key below its level's end fits, and the page begins with the indexes of one that is wanted.
--- Each law holds for any key, damaged ones too. Assumes nothing.
+-- Each law holds for any key, damaged ones too.
 use mathlib.Core.Path.{◌≡◌, refl, sym, ap, ◌∙◌}
 use mathlib.Core.Bool.{Bool, true, false, ◌&&◌, cond}
 use mathlib.Core.List.{List, [], ◌∷◌}

@@ -1,5 +1,4 @@
 -- What a list says does not turn on its order. `SameMembers` is the same elements, each as often, in any order.
--- Assumes nothing.
 use mathlib.Core.Path.{◌≡◌, refl, sym, ap, ap₂, ◌∙◌, subst}
 use mathlib.Core.Bool.{Bool, true, false, not, ◌&&◌, ◌||◌, cond}
 use mathlib.Core.List.Permᴰ

@@ -1,4 +1,4 @@
--- The page number in the low bits of an address: it fits the indexes and has them. Assumes nothing.
+-- The page number in the low bits of an address: it fits the indexes and has them.
 use mathlib.Core.Path.{◌≡◌}
 use Prim.Native.Nat.{ℕ, ◌*◌, ◌^◌, ◌<◌, ◌≤◌}
 use native.Mathlib.Nat.{mod-lt, mod-eq_of_lt}

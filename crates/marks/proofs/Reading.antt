@@ -1,5 +1,5 @@
 -- Keys say what marks say: level and prefix, whether they fit, whether they are alike, what a search among them finds.
--- Each law holds for any key, damaged ones too, where it does not ask that the key fits. Assumes nothing.
+-- Each law holds for any key, damaged ones too, where it does not ask that the key fits.
 use mathlib.Core.Path.{◌≡◌, refl, sym, ap, ap₂, ◌∙◌}
 use mathlib.Core.Bool.{Bool, true, false, not, ◌&&◌, ◌||◌, cond, and-false, and-true}
 use mathlib.Core.List.{List, [], ◌∷◌, map}

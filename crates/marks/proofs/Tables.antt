@@ -1,5 +1,4 @@
 -- The keys of a table with a key more and with a key less; that they ascend still.
--- Assumes nothing.
 use mathlib.Core.Path.{◌≡◌, refl, sym, ap, ◌∙◌}
 use mathlib.Core.Bool.{Bool, true, false, ◌&&◌, ◌||◌}
 use mathlib.Core.List.Permᴰ

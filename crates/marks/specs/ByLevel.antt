@@ -1,5 +1,5 @@
 -- Two tables of eight words, one for each number that the low three bits of a key hold: to judge a key and to match it is then
--- one read and one comparison. Assumes nothing.
+-- one read and one comparison.
 use Rattle.std.specs.Prelude.{ℕ, ◌-◌, ◌*◌, ◌%◌, ◌^◌, Bool, cond, List, [], ◌∷◌, map, eqb, ltb, get_or}
 use Rattle.spec.specs.Refusal.{level_fits}
 use Rattle.entry.specs.Levels.{of_levels}

@@ -1,7 +1,6 @@
 -- A mark in one word, its key: the level in the low three bits, above them the indexes that it keeps, as one number.
 -- So an address begins with them where its page number, shifted by the levels below, equals that number. The bits of an address
 -- above its indexes, all set in the upper half, are in no key.
--- Assumes nothing.
 use Rattle.std.specs.Prelude.{ℕ, suc, ◌+◌, ◌-◌, ◌*◌, ◌/◌, ◌%◌, ◌^◌, Bool, true, not, ◌&&◌, cond, List, [], ◌∷◌, eqb, leb, ltb}
 use Rattle.spec.specs.declared.Lookup.{Lookup}
 use Rattle.spec.specs.Entry.{page_of}

@@ -1,5 +1,4 @@
 -- What a table of keys says in the specification's terms.
--- Assumes nothing.
 use Rattle.std.specs.Prelude.{ℕ, suc, ◌-◌, ◌*◌, ◌/◌, ◌%◌, ◌^◌, cond, List, map, ltb}
 use Rattle.spec.specs.Entry.{indexes}
 use Rattle.spec.specs.Book.{Mark}

@@ -1,6 +1,5 @@
 -- The table of marks: which keys it holds, and what it is with a key more and a key less.
--- Assumes nothing.
-use Rattle.std.specs.Prelude.{ℕ, ◌-◌, ◌^◌, min, max, Bool, not, cond, List, [], ◌∷◌, ◌++◌, map, eqb, ltb, length, get_or, replicate}
+use Rattle.std.specs.Prelude.{ℕ, ◌-◌, ◌^◌, min, max, cond, List, [], ◌∷◌, ◌++◌, map, eqb, ltb, length, get_or, replicate}
 use Rattle.std.proofs.Math.Option.{Option, none, some}
 use Rattle.std.specs.Int.Count.{ones}
 use Rattle.spec.specs.declared.Lookup.{Lookup}

@@ -1,4 +1,4 @@
--- The places left hold it exactly if all do. Assumes nothing.
+-- The places left hold it exactly if all do.
 use mathlib.Core.Path.{◌≡◌, refl, sym, ap, ◌∙◌}
 use mathlib.Core.Bool.{◌||◌}
 use Prim.Native.Nat.{◌+◌, ◌-◌, ◌≤◌}

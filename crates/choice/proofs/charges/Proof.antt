@@ -1,4 +1,4 @@
--- Those found, with those among the words left, are all. Assumes nothing.
+-- Those found, with those among the words left, are all.
 use mathlib.Core.Path.{◌≡◌}
 use mathlib.Core.Logic.{⊎_elim}
 use Prim.Native.Nat.{◌+◌, ◌<◌, ◌≤◌}

@@ -1,4 +1,4 @@
--- The charges of the prefix that stands there. Assumes nothing.
+-- The charges of the prefix that stands there.
 use borrow.Author.Rules.{rules}
 use Rattle.choice.proofs.charges_at.Statement.{statement}
 use Rattle.choice.proofs.charges_at.Tie as tie

@@ -1,4 +1,4 @@
--- Each way goes by its test. Assumes nothing.
+-- Each way goes by its test.
 use borrow.Author.Tests.{lt-ltb, le-ltb, eq-eqb, ne_eqb}
 use borrow.Author.Rules.{rules}
 use Rattle.choice.proofs.entry_fits.Statement.{statement}

@@ -1,4 +1,4 @@
--- Each way goes by its test. Assumes nothing.
+-- Each way goes by its test.
 use mathlib.Core.Path.{sym}
 use mathlib.Core.Bool.{◌&&◌, and-false, and-true}
 use Prim.Native.Nat.{◌<◌}

@@ -1,4 +1,4 @@
--- Each way goes by its test. Assumes nothing.
+-- Each way goes by its test.
 use borrow.Author.Tests.{lt-ltb, le-ltb}
 use Rattle.choice.specs.Refusal.{room_in}
 use borrow.Author.Rules.{rules}

@@ -1,4 +1,4 @@
--- The one kept is the first of those met, seen from the last back, and `fewest` are its charges. Assumes nothing.
+-- The one kept is the first of those met, seen from the last back, and `fewest` are its charges.
 use mathlib.Core.Path.{◌≡◌}
 use mathlib.Core.Logic.{⊎_elim}
 use mathlib.Core.Option.{some}

@@ -1,4 +1,4 @@
--- The places left fit, with those set that were not met, exactly if all do. Assumes nothing.
+-- The places left fit, with those set that were not met, exactly if all do.
 use mathlib.Core.Path.{◌≡◌, refl, sym, ap, ◌∙◌}
 use mathlib.Core.Bool.{◌&&◌}
 use Prim.Native.Nat.{◌+◌, ◌-◌, ◌^◌, ◌<◌, ◌≤◌}

@@ -1,4 +1,4 @@
--- With no level the prefix has no bit; else the remainder is taken. Assumes nothing.
+-- With no level the prefix has no bit; else the remainder is taken.
 use mathlib.Core.Path.{◌≡◌}
 use native.Mathlib.Omega.{arith}
 use lib.Pow.{pow_pos}

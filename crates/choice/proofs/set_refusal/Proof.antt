@@ -1,4 +1,4 @@
--- Each refusal by its test, in their order. Assumes nothing.
+-- Each refusal by its test, in their order.
 use mathlib.Core.Path.{sym, ◌∙◌}
 use native.Mathlib.Omega.{arith}
 use borrow.Author.Tests.{not-true, not-false}

@@ -1,4 +1,4 @@
--- By whether it was charged. Assumes nothing.
+-- By whether it was charged.
 use native.Mathlib.Omega.{arith}
 use Rattle.choice.specs.Window.{shifted}
 use borrow.Author.Rules.{rules}

@@ -1,4 +1,4 @@
--- The set places less those that the search left are those that it read. Assumes nothing.
+-- The set places less those that the search left are those that it read.
 use mathlib.Core.Path.{◌≡◌, ap₂}
 use Prim.Native.Nat.{◌-◌}
 use native.Mathlib.Omega.{arith}

@@ -1,5 +1,5 @@
 -- What is found so far and the lookup among the places left make the whole, at each page that wants these keys; a level above all
--- tables' is above what is found. Assumes nothing.
+-- tables' is above what is found.
 use mathlib.Core.Path.{◌≡◌, sym, ap, ◌∙◌}
 use Prim.Native.Nat.{ℕ, ◌%◌, ◌<◌, ◌≤◌, ◌^◌}
 use native.Mathlib.Omega.{arith}

@@ -1,4 +1,4 @@
--- A key that is not wanted is passed over. Assumes nothing.
+-- A key that is not wanted is passed over.
 use mathlib.Core.Path.{◌≡◌, refl, sym, ap, ◌∙◌}
 use Prim.Native.Nat.{◌<◌, ◌≤◌, ◌^◌, ◌-◌}
 use native.Mathlib.Omega.{arith}

@@ -1,4 +1,4 @@
--- Level by level. Assumes nothing.
+-- Level by level.
 use Rattle.marks.specs.ByLevel.{wants_of}
 use borrow.Author.Rules.{rules}
 use Rattle.depth.proofs.wants_of.Statement.{statement}

@@ -1,4 +1,4 @@
--- The word is cleared, the rest is kept. Assumes nothing.
+-- The word is cleared, the rest is kept.
 use mathlib.Core.Path.{refl}
 use Rattle.choice.specs.Window.{emptied_of}
 use Rattle.choice.proofs.Tally.emptied.Statement.{statement}

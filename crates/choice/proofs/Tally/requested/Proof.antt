@@ -1,4 +1,4 @@
--- Each way goes by its test. Assumes nothing.
+-- Each way goes by its test.
 use borrow.Author.Tests.{eq-eqb, ne_eqb}
 use Rattle.choice.specs.Window.{requested_of}
 use borrow.Author.Rules.{rules}
