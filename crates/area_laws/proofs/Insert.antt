@@ -170,7 +170,7 @@ down_is {p = p} {ts = ts} {fl = fl} {ps = ps} {m = m} g gs x d f i [] e dx tx hi
 down_is {a = a} {p = p} {ts = ts} {lv = lv} {guest = guest} {fl = fl} {ps = ps} {m = m} g gs x d f i (j ∷ is) e dx tx hi r thin set room = go (ts (i ∷ x)) refl
     (λ h c. down_is g gs (i ∷ x) (d + 1) h j is e (omega arith) c r.small.0 (route_tail (i ∷ x) j is r) thin set
     (subst (λ k. p.used + k ≤ a.size) (lacks_some ts (i ∷ x) j is h c) room))
-    (λ u c. down_is u.tables gs (i ∷ x) (d + 1) u.frame j is e (omega arith) (upd_at ts (i ∷ x) (some u.frame)) r.small.0
+    (λ u c. down_is {p = u.pool} u.tables gs (i ∷ x) (d + 1) u.frame j is e (omega arith) (upd_at ts (i ∷ x) (some u.frame)) r.small.0
     (route_upd (i ∷ x) j is (some u.frame) (route_tail (i ∷ x) j is r)) thin set
     (let k = u.used in let n = lacks_none ts (i ∷ x) j is c in let v = lacks_upd ts (i ∷ x) (some u.frame) (j ∷ i ∷ x) is (omega arith) in omega (arith, room)))
   where

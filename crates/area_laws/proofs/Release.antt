@@ -184,7 +184,7 @@ pub release_is : {a : Area} {p : Pool} {ts : List ℕ → Option ℕ} {lv guest 
 unfolding release_of
 release_is g stays [] f e all = last g stays f e all
 release_is {a = a} {p = p} {ts = ts} {lv = lv} {guest = guest} {m = m} g stays (i ∷ x) f e all = go (bare_of m f 512) refl
-    (λ u. release_is u.tables stays x (parent_of m f) (upd_other ts (i ∷ x) none x (λ q. longer i x (sym q)) ∙ (g.link i x f e).0) (λ y k. rest y k (eq? (i ∷ x) y)))
+    (λ u. release_is {p = with_freed p f} u.tables stays x (parent_of m f) (upd_other ts (i ∷ x) none x (λ q. longer i x (sym q)) ∙ (g.link i x f e).0) (λ y k. rest y k (eq? (i ∷ x) y)))
   where
     rest : (y : List ℕ) → IsSome (upd ts (i ∷ x) none y) → Dec (i ∷ x ≡ y) → (y ≡ x) ⊎ Ext y x ⊎ Leaf lv y
     rest y k (yes q) = absurd (subst IsSome (upd_on ts (i ∷ x) none y q) k)

@@ -1,0 +1,12 @@
+-- By the kind of cut; a remainder by 512 leaves room for the 1 that is added.
+use borrow.Author.Rules.{rules}
+use Rattle.drops.proofs.end.Goals as goal
+
+pub returns-in-Word : goal.returns-in-Word
+returns-in-Word c = rw c.in-Word.is
+
+pub returns-in-Names : goal.returns-in-Names
+returns-in-Names c = rw c.in-Names.is
+
+pub returns-in-Slot : goal.returns-in-Slot
+returns-in-Slot c = rw c.in-Slot.is
