@@ -1,6 +1,6 @@
 -- The window in numbers. One word has a bit for each of the last 64 requests, the newest lowest: was it charged? A ring of words has the
 -- prefixes charged, written round and round. So a request that is charged to nobody shifts the word, and nothing else.
-use Rattle.std.specs.Prelude.{ℕ, zero, suc, ◌+◌, ◌-◌, ◌*◌, ◌%◌, ◌^◌, Bool, false, true, cond, List, ◌++◌, reverse, eqb, length, take, drop, set}
+use Rattle.std.specs.Prelude.{ℕ, ◌+◌, ◌-◌, ◌*◌, ◌%◌, ◌^◌, Bool, false, true, cond, List, ◌++◌, reverse, eqb, length, take, drop, set}
 use Rattle.std.specs.Int.Count.{ones}
 use Rattle.spec.specs.Prefix.{keep}
 use Rattle.choice.specs.declared.Tally.{Tally}
