@@ -1,5 +1,4 @@
 -- What it means that bytes were put behind those that stood in a buffer, and how two such steps make one.
--- Assumes nothing.
 use Rattle.std.specs.Prelude.{ℕ, suc, ◌+◌, ◌<◌, ◌≡◌, List, [], ◌∷◌, ◌++◌, length, take, set, get_or}
 use Rattle.std.proofs.Common.{arith, take-suc, take-suc-set, sym, ap, ◌∙◌, append_assoc}
 
