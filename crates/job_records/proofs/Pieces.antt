@@ -11,7 +11,6 @@ use lib.ListN.{length, take, drop, length-drop, length-append, get_or-append}
 use lib.Seq.{get_or-drop, drop-drop, drop-append-le, take-append-le}
 use Rattle.job_records.specs.declared.Cut.{Cut}
 use Rattle.job_records.specs.declared.Cut.TheVariants.{Body, Short, Wrong}
-use Rattle.job_records.specs.declared.Job.TheVariants as job
 use Rattle.job_records.specs.Records.{number, cut_by, cut_at, next_of, job_of, job_by, job_at}
 use Rattle.job_records.specs.Laws.{Within, cut_within}
 
