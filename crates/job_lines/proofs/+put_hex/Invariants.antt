@@ -1,0 +1,5 @@
+-- By the digits to be put.
+use Rattle.job_lines.proofs.+put_hex.Given as goal
+
+abbrev pub decreases-put_hex : goal.decreases-put_hex
+decreases-put_hex l = l.width
