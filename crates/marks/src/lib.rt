@@ -36,6 +36,7 @@ fn smaller(a: u64, b: u64) -> u64
 }
 
 // The page number in the low bits of an address, those that its indexes take.
+#[tactic(auto, unfolding(crate::specs::Key::low_page))]
 fn low_page(levels: u64, address: GuestVirtual) -> u64
     ensures { result ≡ low_page levels address.0 }
 {

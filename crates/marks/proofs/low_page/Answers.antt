@@ -3,16 +3,11 @@ use mathlib.Core.Path.{◌∙◌, sym}
 use Prim.Native.Nat.{◌*◌}
 use native.Mathlib.Omega.{arith}
 use lib.Pow.{pow_pos}
-use Rattle.marks.specs.Key.{low_page}
 use Rattle.marks.proofs.Pages.{low_all}
 use Rattle.marks.proofs.low_page.Goals as goal
 
 pub nonzero_rem-result : goal.nonzero_rem-result
 nonzero_rem-result c = rw c.power.ensures (omega (arith, pow_pos (9 * c.args.levels)))
 
-pub returns-then-levels-lt6 : goal.returns-then-levels-lt6
-unfolding low_page
-returns-then-levels-lt6 c = rw (c.page.ensures, c.power.ensures)
-
 pub returns : goal.returns
-returns c = c.page-2.ensures ∙ sym (low_all c.args.levels c.args.address.0 c.if-levels-lt6.false (omega arith))
+returns c = c.page-2.ensures ∙ sym (low_all c.args.levels c.args.address.0 (omega arith) (omega arith))
