@@ -248,6 +248,7 @@ fn owned(t: Tally, order: &[u64; 64], place: &[u64; 64], set: u64, key: u64) -> 
 }
 
 // Is there room for one more? A place is free, or an automatic mark can leave.
+#[tactic(auto, unfolding(crate::specs::Refusal::room_in))]
 fn has_room(t: Tally, place: &[u64; 64], set: u64) -> bool
     ensures { result ≡ room_in t (record { set = set; place = place.now }) }
 {

@@ -1,5 +1,6 @@
 -- The one kept is the first of those met, seen from the last back, and `fewest` are its charges.
 use mathlib.Core.Path.{◌≡◌}
+use Prim.Native.Nat.{◌<◌}
 use native.Mathlib.Omega.{arith}
 use borrow.Author.Tests.{lt-ltb, le-ltb}
 use Rattle.choice.specs.Order.{leaves_before}
@@ -26,7 +27,7 @@ loop-i-preserved c = let args = c.args in
     let turn = first_turn before args.order.now loop.i loop.best (omega (arith, whole.ensures)) loop.invariant.2 in
     let told = rw (← many.ensures, ← loop.invariant.3) at turn in
     elim c.if-many-fewest.branch [
-      | then-many-fewest w ↦ (omega arith, omega arith, rw w.best-is (rw (lt-ltb _ _ w.if-many-fewest.true) at told), rw (w.best-is, w.fewest-is) many.ensures)
+      | then-many-fewest w ↦ let few : many.result < loop.fewest = omega arith in (omega arith, omega arith, rw w.best-is (rw (lt-ltb _ _ few) at told), rw (w.best-is, w.fewest-is) many.ensures)
       | else-many-fewest w ↦ (omega arith, omega arith, rw w.best-is (rw (le-ltb _ _ w.if-many-fewest.false) at told), rw (w.best-is, w.fewest-is) loop.invariant.3)
     ]
 
