@@ -21,8 +21,7 @@ use Rattle.translate.specs.declared.Held.{Held}
 use Rattle.translate.specs.Translate.{whole as wholeWalk, exit_by, translation, settled_by, judged_by, lacking_by, debt_by, entries_of, checked_of}
 use Rattle.translate.proofs.Bits.{whole_checked, chosen_off, chosen_on, unshadowed_off, unshadowed_on}
 use borrow.Author.Rules.{rules}
-use Rattle.translate.proofs.unshadowed.Statement.{statement}
-use Rattle.translate.proofs.unshadowed.Tie as tie
+use Rattle.translate.proofs.unshadowed.Goals as goal
 
 -- entries of which none lacks a bit are clear
 entries_clear : (c : Config) (ht : ℕ) (m : List ℕ) (root : ℕ) (st : Bool) (d : ℕ) (xs : List (ℕ × ℕ)) → lacks (words_of m) st xs ≡ false → entries_of c ht m root st d xs ≡ checked.Clear false
@@ -40,28 +39,28 @@ unlacking h k lack (walked.Arrived w t n) e f = ap (settled_by h n (walked.Arriv
 unlacking h k lack (walked.Faulted x n) e f = refl
 unlacking h k lack walked.Damaged e f = refl
 
-returns : tie.Need-returns
-returns c =
+pub returns-then-space-eq0 : goal.returns-then-space-eq0
+returns-then-space-eq0 c =
     let plain = c.plain in
-    let if1 = c.before.if1 in
-    let args = c.before.before.before.before.args in
+    let if1 = c.if-space-eq0 in
+    let args = c.args in
     plain.ensures ∙ sym (unshadowed_off (config args.space.layout) args.space.top args.mem.now args.held args.root.0 args.request.store args.request.address.0 args.request.depth (chosen_off _ if1.true))
 
-lacking-requires : tie.Need-lacking-requires
-lacking-requires c κs =
-    let pre = c.before.before.before.before.before.before.requires in
+pub lacking-requires : goal.lacking-requires
+lacking-requires c =
+    let pre = c.requires in
     (pre, omega (arith, pre.0))
 
-returns-2 : tie.Need-returns-2
+pub returns-then-not-lacking : goal.returns-then-not-lacking
 unfolding root_trail
-returns-2 c =
+returns-then-not-lacking c =
     let as_walked = c.as_walked in
-    let if2 = c.before.if2 in
-    let lacking = c.before.before.lacking in
-    let whole = c.before.before.before.before.before.whole in
-    let if1 = c.before.before.before.before.before.before.if1 in
-    let args = c.before.before.before.before.before.before.before.before.before.args in
-    let pre = c.before.before.before.before.before.before.before.before.before.requires in
+    let if2 = c.if-not-lacking in
+    let lacking = c.lacking in
+    let whole = c.whole-trail in
+    let if1 = c.if-space-eq0 in
+    let args = c.args in
+    let pre = c.requires in
     let came : walked_of (config args.space.layout) args.space.top args.mem.now 0 (wholeWalk (config args.space.layout) args.request.store args.root.0 args.request.address.0) ≡ whole.result.walked = sym (ap (λ (t : Trail). t.walked) whole.ensures) in
     let on = chosen_on _ if1.false in
     let clear : (w : Bool) (t : HostPhysical) (n : ℕ) → whole.result.walked ≡ walked.Arrived w t n → ((config args.space.layout).bits && lacks (words_of args.mem.now) args.request.store (seen_entries whole.result.tables (seen_of (config args.space.layout) whole.result.tables args.space.layout.levels (page_of args.request.address.0)))) ≡ false → checked_of (config args.space.layout) args.space.top args.mem.now args.root.0 args.request.store args.request.address.0 args.request.depth ≡ checked.Clear false = λ w t n e none.
@@ -69,28 +68,15 @@ returns-2 c =
     sym bits ∙ entries_clear (config args.space.layout) args.space.top args.mem.now args.root.0 args.request.store args.request.depth _ (both_on _ _ on none)
     in
     as_walked.ensures
-    ∙ sym (unlacking args.held _ _ whole.result.walked (sym lacking.ensures ∙ not-true lacking.result if2.true) clear)
+    ∙ sym (unlacking args.held _ _ whole.result.walked (sym lacking.ensures ∙ if2.true) clear)
     ∙ sym (unshadowed_on (config args.space.layout) args.space.top args.mem.now args.held args.root.0 args.request.store args.request.address.0 args.request.depth _ on came)
 
-returns-3 : tie.Need-returns-3
+pub returns : goal.returns
 unfolding root_trail
-returns-3 c =
+returns c =
     let judged = c.judged in
-    let whole = c.before.before.before.before.before.whole in
-    let if1 = c.before.before.before.before.before.before.if1 in
-    let args = c.before.before.before.before.before.before.before.before.before.args in
+    let whole = c.whole-trail in
+    let if1 = c.if-space-eq0 in
+    let args = c.args in
     let came : walked_of (config args.space.layout) args.space.top args.mem.now 0 (wholeWalk (config args.space.layout) args.request.store args.root.0 args.request.address.0) ≡ whole.result.walked = sym (ap (λ (t : Trail). t.walked) whole.ensures) in
     judged.ensures ∙ sym (unshadowed_on (config args.space.layout) args.space.top args.mem.now args.held args.root.0 args.request.store args.request.address.0 args.request.depth _ (chosen_on _ if1.false) came)
-
-pub unshadowed_spec : {M : Type 1} → statement M
-unshadowed_spec =
-    tie.close
-    (tie.spec
-    (λ c κs. search rules)
-    returns
-    (λ c κs. search rules)
-    lacking-requires
-    (λ c κs. search rules)
-    returns-2
-    (λ c κs. search rules)
-    returns-3)

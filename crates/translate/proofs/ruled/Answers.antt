@@ -3,28 +3,18 @@ use mathlib.Core.Path.{sym, ◌∙◌}
 use Rattle.layout.specs.Layout.{config}
 use Rattle.translate.proofs.Bits.{chosen_off, chosen_on, verdict_off, verdict_on}
 use borrow.Author.Rules.{rules}
-use Rattle.translate.proofs.ruled.Statement.{statement}
-use Rattle.translate.proofs.ruled.Tie as tie
+use Rattle.translate.proofs.ruled.Goals as goal
 
-strict-requires : tie.Need-strict-requires
-strict-requires c κs = search rules
-
-returns : tie.Need-returns
-returns c =
+pub returns-then-space-ne0 : goal.returns-then-space-ne0
+returns-then-space-ne0 c =
     let strict = c.strict in
-    let if1 = c.before.if1 in
-    let args = c.before.before.before.before.args in
+    let if1 = c.if-space-ne0 in
+    let args = c.args in
     strict.ensures ∙ sym (verdict_on (config args.space.layout) args.space.top args.mem.now args.root.0 args.guests.now args.request.store args.request.address.0 args.request.depth args.before args.writable args.walked (chosen_on _ if1.true))
 
-lax-requires : tie.Need-lax-requires
-lax-requires c κs = search rules
-
-returns-2 : tie.Need-returns-2
-returns-2 c =
+pub returns : goal.returns
+returns c =
     let lax = c.lax in
-    let if1 = c.before.if1 in
-    let args = c.before.before.before.before.args in
+    let if1 = c.if-space-ne0 in
+    let args = c.args in
     lax.ensures ∙ sym (verdict_off (config args.space.layout) args.space.top args.mem.now args.root.0 args.guests.now args.request.store args.request.address.0 args.request.depth args.before args.writable args.walked (chosen_off _ if1.false))
-
-pub ruled_spec : {M : Type 1} → statement M
-ruled_spec = tie.close (tie.spec strict-requires returns lax-requires returns-2)

@@ -1,0 +1,9 @@
+-- By the walk through the tables. Assumes nothing.
+use borrow.Author.Rules.{rules}
+use Rattle.translate.proofs.direct_trail.Goals as goal
+
+pub returns : goal.returns
+returns c =
+    let walk-tables = c.walk_tables in
+    let page = c.page in
+    rw page.ensures at walk-tables.ensures

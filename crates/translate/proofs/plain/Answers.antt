@@ -1,0 +1,12 @@
+-- Of the whole walk's trail only its end is used. Assumes nothing.
+use Rattle.walk.specs.Memory.{root_trail}
+use Rattle.translate.specs.Translate.{plain_of}
+use borrow.Author.Rules.{rules}
+use Rattle.translate.proofs.plain.Goals as goal
+
+pub returns : goal.returns
+unfolding plain_of root_trail
+returns c =
+    let as_walked = c.as_walked in
+    let whole = c.whole-trail in
+    rw (as_walked.ensures, whole.ensures)
