@@ -260,7 +260,7 @@ module _ (c : Config) (x : Cut) (C : List ℕ → Bool) (guest : List ℕ → �
     }
     clear_is {lv = lv} {m = m} s but (suc k) i l =
         let o = one_is s but i (omega arith) in
-        let w = clear_is o.now o.but k (suc i) (omega arith) in
+        let w = clear_is {lv = o.left} {m = o.memory} o.now o.but k (suc i) (omega arith) in
         rw o.done record {
           left = w.left;
           memory = w.memory;
