@@ -1,0 +1,15 @@
+-- The loop comes down over the places, as that of `knows` does.
+use mathlib.Core.Path.{◌≡◌, refl}
+use Prim.Native.Nat.{◌≤◌}
+use native.Mathlib.Omega.{arith}
+use Rattle.spec.specs.Prefix.{any}
+use Rattle.forecast.specs.Forecast.{newest, passes}
+use Rattle.forecast.proofs.Laws.{any_step, any_none}
+use borrow.Author.Rules.{rules}
+use Rattle.forecast.proofs.stands.Given as goal
+
+abbrev pub invariant-loop-left : goal.invariant-loop-left
+invariant-loop-left l = (l.left ≤ l.count) × (any (passes l.level l.indexes) (newest l.room l.left) ≡ any (passes l.level l.indexes) (newest l.room l.count))
+
+abbrev pub decreases-loop-left : goal.decreases-loop-left
+decreases-loop-left l = l.left

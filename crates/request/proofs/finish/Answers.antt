@@ -1,0 +1,8 @@
+-- By the promise of the bytes. Assumes nothing.
+use borrow.Author.Rules.{rules}
+use Rattle.request.proofs.finish.Goals as goal
+
+pub returns : goal.returns
+returns c =
+    let put-bytes = c.put_bytes in
+    rw put-bytes.ensures
