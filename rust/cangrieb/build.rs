@@ -1,12 +1,12 @@
-//! Links the proved static library, libcangrieb.a as `rt staticlib cangrieb` writes it. Its folder is CANGRIEB_LIB_DIR,
-//! or target/staticlib of the repository.
+//! Links the proved static library, libcangrieb.a as `rt lib` in crates/cangrieb writes it. Its folder is CANGRIEB_LIB_DIR,
+//! or crates/cangrieb/out of the repository.
 
 use std::path::PathBuf;
 
 fn main() {
     let folder = match std::env::var_os("CANGRIEB_LIB_DIR") {
         Some(folder) => PathBuf::from(folder),
-        None => PathBuf::from(env!("CARGO_MANIFEST_DIR")).join("../../target/staticlib"),
+        None => PathBuf::from(env!("CARGO_MANIFEST_DIR")).join("../../crates/cangrieb/out"),
     };
     println!("cargo:rerun-if-env-changed=CANGRIEB_LIB_DIR");
     println!("cargo:rerun-if-changed={}", folder.join("libcangrieb.a").display());

@@ -1,4 +1,4 @@
-/* The proved memory unit, for a monitor to link: libcangrieb.a, as `rt staticlib cangrieb` writes it (x86-64).
+/* The proved memory unit, for a monitor to link: libcangrieb.a, as `rt lib` in crates/cangrieb writes it (x86-64).
 
    The monitor owns a memory of 64-bit words in frames of 512: first the host frames, then the shadow frames, then the
    guest area. It also keeps the unit's record, a head and three rows of 64 words, and lends memory and record to each call.

@@ -17,7 +17,7 @@ fn package() -> &'static Path {
 /// What the program prints, once compiled.
 fn printed(compiler: &str, standard: &str, source: &Path, name: &str) -> String {
     let folder = std::env::var_os("CANGRIEB_LIB_DIR").map(PathBuf::from);
-    let archive = folder.unwrap_or(package().join("../../target/staticlib")).join("libcangrieb.a");
+    let archive = folder.unwrap_or(package().join("../../crates/cangrieb/out")).join("libcangrieb.a");
     let program = Path::new(env!("CARGO_TARGET_TMPDIR")).join(name);
     let compiled = Command::new(compiler)
         .args([standard, "-Wall", "-Wextra", "-Werror", "-O2", "-I"])

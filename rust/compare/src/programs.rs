@@ -1,5 +1,5 @@
-//! The proved programs as processes of their own. `rt check NAME` builds each into target/bin; CANGRIEB_ with the name in
-//! capitals, as CANGRIEB_JOB, names another place.
+//! The proved programs as processes of their own. `rt run` in crates/NAME builds each as crates/NAME/out/NAME; CANGRIEB_ with the
+//! name in capitals, as CANGRIEB_JOB, names another place.
 
 use std::io::{Read, Write};
 use std::path::PathBuf;
@@ -8,7 +8,7 @@ use std::thread;
 
 /// The program of that name, its input and output piped.
 pub fn program(name: &str) -> Command {
-    let built = PathBuf::from(env!("CARGO_MANIFEST_DIR")).join("../../target/bin").join(name);
+    let built = PathBuf::from(env!("CARGO_MANIFEST_DIR")).join("../../crates").join(name).join("out").join(name);
     let other = std::env::var_os(format!("CANGRIEB_{}", name.to_uppercase()));
     let mut command = Command::new(other.map_or(built, PathBuf::from));
     command.stdin(Stdio::piped()).stdout(Stdio::piped());

@@ -1,5 +1,5 @@
 //! The program `job` beside the second walker: random jobs, every way to 13, and how its pipes behave.
-//! `rt check job` builds it; CANGRIEB_JOB names another place.
+//! `rt run` in crates/job builds it; CANGRIEB_JOB names another place.
 
 use std::io::Write;
 use std::time::{Duration, Instant};

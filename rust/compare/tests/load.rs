@@ -1,5 +1,5 @@
 //! The program `load` (document 02, 10) beside the second walker: its bytes, what its input may be, and the jobs that it writes.
-//! `rt check load` builds it, `rt check job` the job program; CANGRIEB_LOAD and CANGRIEB_JOB name other places.
+//! `rt run` in crates/load builds it, in crates/job the job program; CANGRIEB_LOAD and CANGRIEB_JOB name other places.
 //! `-- --nocapture` shows which kinds and answers the jobs had.
 
 use std::collections::{BTreeMap, BTreeSet};
