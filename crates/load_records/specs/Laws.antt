@@ -1,7 +1,7 @@
 -- A draw is below 2^31, and so is the state after a call; a number, byte by byte; a load, record by record.
--- Assumes nothing.
-use Rattle.std.specs.Prelude.{ℕ, zero, suc, ◌+◌, ◌-◌, ◌/◌, ◌%◌, ◌≤◌, ◌<◌, ◌≡◌, refl, Bool, true, false, cond, List, [], ◌∷◌, ◌++◌, eqb, length}
-use Rattle.std.proofs.Common.{arith, ap, lt-ltb, le-ltb}
+use Rattle.std.specs.Prelude.{ℕ, zero, suc, ◌+◌, ◌-◌, ◌*◌, ◌/◌, ◌%◌, ◌≤◌, ◌<◌, ◌≡◌, refl, Bool, true, false, cond, List, [], ◌∷◌, ◌++◌, eqb, length}
+use Rattle.std.proofs.Common.{arith, ap, ap₂, sym, ◌∙◌, lt-ltb, le-ltb, length-append}
+use Rattle.std.proofs.lemmas.List.{get_or_append_left}
 use Rattle.job_records.specs.Records.{number}
 use Rattle.job_records.specs.Encoded.{bytes_of, open_bytes, call_bytes}
 use Rattle.load_spec.specs.declared.Drawn.{Drawn}
@@ -87,3 +87,17 @@ load_cut input h = rw (lt-ltb (length input) 16 h)
 pub load_whole_lem : (input : List ℕ) → 16 ≤ length input → load_by input ≡ load_of (number 8 input 0) (number 8 input 8)
 unfolding load_by
 load_whole_lem input h = rw (le-ltb (length input) 16 h)
+
+-- ---- bytes behind the first 16 do not count
+
+number_front : (w : ℕ) (s t : List ℕ) (i : ℕ) → i + w ≤ length s → number w (s ++ t) i ≡ number w s i
+number_front zero s t i h = refl
+number_front (suc w) s t i h =
+    ap₂ (λ (x y : ℕ). x + 256 * y) (get_or_append_left s t 0 i (omega arith)) (number_front w s t (i + 1) (omega arith))
+
+pub load_front : (s t : List ℕ) → length s ≡ 16 → load_by (s ++ t) ≡ load_by s
+load_front s t h =
+    let more : length (s ++ t) ≡ length s + length t = length-append s t in
+    load_whole_lem (s ++ t) (omega arith)
+    ∙ ap₂ load_of (number_front 8 s t 0 (omega arith)) (number_front 8 s t 8 (omega arith))
+    ∙ sym (load_whole_lem s (omega arith))
