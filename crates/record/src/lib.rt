@@ -382,8 +382,8 @@ impl Record {
     }
 
     // The record without its arrays.
-    pub fn head(self) -> Head
-        ensures { result ≡ head_of self }
+    pub fn head(&self) -> Head
+        ensures { result ≡ head_of self.now }
     {
         let layout = self.layout;
         let pools = self.pools;
@@ -401,8 +401,8 @@ impl Record {
     }
 
     // Does the record break no rule on a memory of that length?
-    pub fn fits(self, len: usize) -> bool
-        ensures { result ≡ fits_of self len }
+    pub fn fits(&self, len: usize) -> bool
+        ensures { result ≡ fits_of self.now len }
     {
         let words = head_words(self.head());
         fits(

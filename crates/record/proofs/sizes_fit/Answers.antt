@@ -10,38 +10,34 @@ use lib.Dec.{eqb}
 use borrow.Author.Tests.{le-leb, lt-leb, lt-ltb, eq-eqb, ne_eqb}
 use Rattle.record.specs.Record.{sizes_fit}
 use borrow.Author.Rules.{rules}
-use Rattle.record.proofs.sizes_fit.Statement.{statement}
-use Rattle.record.proofs.sizes_fit.Tie as tie
+use Rattle.record.proofs.sizes_fit.Goals as goal
 
 zero : (b d : Bool) → false ≡ (b && false && d)
 zero true d = refl
 zero false d = refl
 
-returns : tie.Need-returns
+pub returns-then-l-eq0 : goal.returns-then-l-eq0
 unfolding sizes_fit
-returns c =
-    let args = c.before.before.args in
+returns-then-l-eq0 c =
+    let args = c.args in
     rw (le-ltb 0 args.l.frames (omega arith)) (zero (eqb args.len (args.l.frames * 512)) (areas_fit (config args.l)))
 
-returns-2 : tie.Need-returns-2
+pub returns-then-l-gt65536 : goal.returns-then-l-gt65536
 unfolding sizes_fit
-returns-2 c =
-    let args = c.before.before.before.before.args in
-    let if2 = c.if2 in
+returns-then-l-gt65536 c =
+    let args = c.args in
+    let if2 = c.if-l-gt65536 in
     let some : 0 < args.l.frames = omega arith in rw (lt-ltb _ _ some, lt-leb _ _ if2.true) (zero (eqb args.len (args.l.frames * 512)) (areas_fit (config args.l)))
 
-returns-3 : tie.Need-returns-3
+pub returns-then-len-l : goal.returns-then-len-l
 unfolding sizes_fit
-returns-3 c = rw (ne_eqb _ _ c.if3.true)
+returns-then-len-l c = rw (ne_eqb _ _ c.if-len-l.true)
 
-returns-4 : tie.Need-returns-4
+pub returns : goal.returns
 unfolding sizes_fit
-returns-4 c =
-    let args = c.before.before.before.before.before.before.before.args in
-    let if2 = c.before.before.before.if2 in
-    let if3 = c.before.if3 in
+returns c =
+    let args = c.args in
+    let if2 = c.if-l-gt65536 in
+    let if3 = c.if-len-l in
     let areas-fit = c.areas_fit in
     let some : 0 < args.l.frames = omega arith in rw (eq-eqb _ _ if3.false, lt-ltb _ _ some, le-leb _ _ if2.false) areas-fit.ensures
-
-pub sizes_fit_spec : {M : Type 1} → statement M
-sizes_fit_spec = tie.close (tie.spec returns returns-2 (λ c. search rules) returns-3 (λ c κs. search rules) returns-4)
