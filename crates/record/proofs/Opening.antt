@@ -1,5 +1,4 @@
 -- What an opening leaves: the answer of the specification, the guest words, a record that breaks no rule, tables of no leaf.
--- Assumes nothing.
 use mathlib.Core.Path.{◌≡◌, refl, sym, ◌∙◌}
 use mathlib.Core.Logic.{◌≢◌, inl, inr}
 use mathlib.Core.Bool.{Bool, true, false, cond}

@@ -1,14 +1,11 @@
-
 use mathlib.Core.Path.{◌≡◌, sym, ◌∙◌}
-use mathlib.Core.Bool.{true, false}
+use mathlib.Core.Bool.{true}
 use Prim.Native.Nat.{◌^◌, ◌<◌}
 use native.Mathlib.Omega.{arith}
 use lib.ListN.{get_or}
-use borrow.Author.Tests.{not-true, not-false}
 use Rattle.record.specs.Words.{head_in}
 use Rattle.record.specs.Record.{choices_fit, sizes_fit}
 use Rattle.record.proofs.Rules.{sized_layout, sizes_say, fits_by, choices_levels, fits_choices}
-use borrow.Author.Rules.{rules}
 use Rattle.record.proofs.fits.Goals as goal
 
 pub returns-then-not-choices_fit : goal.returns-then-not-choices_fit

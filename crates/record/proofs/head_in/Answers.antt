@@ -1,5 +1,3 @@
-
-use borrow.Author.Rules.{rules}
 use Rattle.record.proofs.head_in.Goals as goal
 
 pub returns : goal.returns

@@ -1,6 +1,5 @@
 -- 0 says that no frame is held; any other frame is tested against the guest area, as in the rule.
 use borrow.Author.Tests.{eq-eqb, ne_eqb}
-use borrow.Author.Rules.{rules}
 use Rattle.record.proofs.held_fits.Goals as goal
 
 pub returns-then-held-eq0 : goal.returns-then-held-eq0

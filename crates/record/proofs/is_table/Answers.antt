@@ -1,7 +1,6 @@
 -- The low 12 bits are a link's or not; then the frame number is tested against the area.
 use borrow.Author.Tests.{eq-eqb, ne_eqb}
 use Rattle.record.specs.Record.{is_table}
-use borrow.Author.Rules.{rules}
 use Rattle.record.proofs.is_table.Goals as goal
 
 pub returns-then-e-ne1 : goal.returns-then-e-ne1

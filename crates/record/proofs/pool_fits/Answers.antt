@@ -1,7 +1,6 @@
 -- Each test that fails ends the rule with no; a top entry of 0 needs no further test.
 use borrow.Author.Tests.{le-leb, lt-leb, eq-eqb, ne_eqb}
 use Rattle.record.specs.Record.{pool_fits}
-use borrow.Author.Rules.{rules}
 use Rattle.record.proofs.pool_fits.Goals as goal
 
 pub returns-then-size-pool : goal.returns-then-size-pool

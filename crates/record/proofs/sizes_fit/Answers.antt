@@ -9,7 +9,6 @@ use native.Mathlib.Omega.{arith}
 use lib.Dec.{eqb}
 use borrow.Author.Tests.{le-leb, lt-leb, lt-ltb, eq-eqb, ne_eqb}
 use Rattle.record.specs.Record.{sizes_fit}
-use borrow.Author.Rules.{rules}
 use Rattle.record.proofs.sizes_fit.Goals as goal
 
 zero : (b d : Bool) → false ≡ (b && false && d)

@@ -1,7 +1,5 @@
 -- Four tests in the rule's order: the held frame, the top host table, the host pool, the shadow pool.
-use borrow.Author.Tests.{not-true, not-false}
 use Rattle.record.specs.Record.{pools_fit, tables_fit}
-use borrow.Author.Rules.{rules}
 use Rattle.record.proofs.tables_fit.Goals as goal
 
 pub returns-then-not-held_fits : goal.returns-then-not-held_fits

@@ -1,4 +1,4 @@
--- Each way goes by its test; no word is no frame. Assumes nothing.
+-- Each way goes by its test; no word is no frame.
 use borrow.Author.Tests.{eq-eqb, ne_eqb, le-ltb, lt-ltb}
 use Prim.Native.Nat.{◌/◌}
 use native.Mathlib.Omega.{arith}

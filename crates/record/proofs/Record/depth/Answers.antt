@@ -1,5 +1,4 @@
 -- The record is handed back as it came, with what the search found.
-use borrow.Author.Rules.{rules}
 use Rattle.record.proofs.Record.depth.Goals as goal
 
 pub returns : goal.returns

@@ -1,6 +1,5 @@
 -- Both pools are those from which nothing was handed out, and the choice keeps nothing; all else is 0 already.
 use Rattle.record.specs.Record.{zeros}
-use borrow.Author.Rules.{rules}
 use Rattle.record.proofs.Record.zeros.Goals as goal
 
 pub returns : goal.returns
