@@ -1,7 +1,7 @@
 -- Held paths never lie on one another: one that another began with would end at a table, from which the other's walk read on.
 -- Assumes nothing.
 use mathlib.Core.Path.{◌≡◌, refl, sym, ap, ◌∙◌, subst}
-use Prim.Native.Nat.{ℕ, suc, pred, ◌-◌, ◌+◌, ◌<◌, ◌≤◌}
+use Prim.Native.Nat.{ℕ, suc, ◌-◌, ◌<◌, ◌≤◌}
 use native.Mathlib.Omega.{arith}
 use mathlib.Core.Bool.{Bool, true, false, cond, false≢true}
 use mathlib.Core.Logic.{◌⊎◌, inl, inr}
@@ -28,7 +28,7 @@ use Rattle.spec_laws.proofs.Large.{walk_real}
 use Rattle.spec_laws.proofs.Depth.{MarkFits, begins_is, PathFits, no_proper_prefix, fill_fits, large_fits}
 use Rattle.spec_laws.proofs.Indexes.{indexes_length}
 use Rattle.spec_laws.proofs.Runs.{HeldFits, BookFits}
-use Rattle.spec_laws.proofs.Keeps.{again, booked, Valid}
+use Rattle.spec_laws.proofs.Keeps.{again, Valid}
 
 -- a walk from a table reads an entry
 reads_on_lem : (w : World) (c : Config) (n t : ℕ) (v : Bool) (is : List ℕ) (r : Place) → 0 < length is → is_span c t ≡ false

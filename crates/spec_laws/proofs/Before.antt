@@ -16,7 +16,7 @@ use Rattle.spec.specs.Walk.{World, Trace, Result, granted, failed, trace}
 use Rattle.spec.specs.Plain.{Place, upper, shadow_part, direct_part}
 use Rattle.spec.specs.Machine.{Machine, world, word_in, stored}
 use Rattle.spec.specs.Bits.{owed, owes, judged, dirty_at, set_bits, bits_set}
-use Rattle.spec.specs.Book.{Book, depth, find, holding, fill}
+use Rattle.spec.specs.Book.{Book, find, holding, fill}
 use Rattle.spec.specs.Choice.{charge_of}
 use Rattle.spec.specs.Call.{Call, root, map, unmap, set_mark, clear_mark, load, store, device, forecast, Outcome, done, value, fault, address_indexes, plain, verdict, device_walk, access, machine_step}
 use Rattle.spec.specs.Count.{Counted, one, host_exit, is_granted, serves, held_by, late_exit, arrived, shadowed, unshadowed, request_depth, request, storing, windowed, book_step}

@@ -19,7 +19,7 @@ use Rattle.spec.specs.Walk.{done, ◌>>◌, World, Trace, Result, granted, faile
 use Rattle.spec.specs.Plain.{Place, is_span, must, hosted, upper, walk}
 use Rattle.spec.specs.Machine.{Machine, Mapping, world, place, word_in, stored, remapped, lookup, with, without}
 use Rattle.spec.specs.Bits.{lacks, dirty_at, bits_set}
-use Rattle.spec.specs.Book.{Held, Book, mark_at, depth, reads_word, uses_mapping, drop_mapping, drop_word}
+use Rattle.spec.specs.Book.{Held, Book, mark_at, reads_word, uses_mapping, drop_mapping, drop_word}
 use Rattle.spec.specs.Call.{Call, root, map, unmap, set_mark, clear_mark, load, store, device, forecast, address_indexes, plain, verdict, device_walk, access, machine_step}
 use Rattle.spec.specs.Count.{Counted, is_granted, held_by, right_of, others, request_depth, request, storing, book_step, unshadowed}
 use Rattle.spec.specs.Refusal.{refusal}

@@ -10,7 +10,7 @@ use lib.ListN.{take-append-drop}
 use lib.Seq.{length-take-le}
 use Rattle.spec.specs.declared.Fault.{Fault}
 use Rattle.spec.specs.Config.{Config}
-use Rattle.spec.specs.Walk.{Walk, ◌>>=◌, ◌>>◌, World, Trace, granted, failed, trace}
+use Rattle.spec.specs.Walk.{Walk, ◌>>=◌, World, Trace, granted, failed, trace}
 use Rattle.spec.specs.Plain.{Place, hosted, turn, levels, walk, shadow_part, direct_part}
 use Rattle.spec_laws.proofs.Bind.{and_then, onto, more, trace_bind, bind_assoc, bind_cong}
 

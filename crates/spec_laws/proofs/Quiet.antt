@@ -2,7 +2,7 @@
 -- Assumes nothing.
 use mathlib.Core.Path.{◌≡◌, refl, sym, ap, ap₂, ◌∙◌, subst}
 use mathlib.Core.Logic.{inl, inr}
-use Prim.Native.Nat.{ℕ, ◌+◌, ◌-◌, ◌^◌, ◌≤◌, ◌<◌}
+use Prim.Native.Nat.{ℕ, ◌+◌, ◌^◌, ◌≤◌, ◌<◌}
 use native.Mathlib.Nat.{add-zero}
 use native.Mathlib.Omega.{arith}
 use mathlib.Core.Bool.{Bool, true, false, not, ◌&&◌, ◌||◌, cond, or-true}
@@ -17,7 +17,7 @@ use Rattle.spec.specs.Prefix.{All, same, any, tables_of, distinct}
 use Rattle.spec.specs.Walk.{Result, granted, failed}
 use Rattle.spec.specs.Plain.{Place, upper}
 use Rattle.spec.specs.Machine.{Machine, stored}
-use Rattle.spec.specs.Book.{Held, Book, depth, find, paths, holding, watched, reads_word}
+use Rattle.spec.specs.Book.{Held, Book, find, paths, holding, watched, reads_word}
 use Rattle.spec.specs.Call.{Call, root, map, unmap, set_mark, clear_mark, load, store, device, forecast, Outcome, address_indexes, plain, access, machine_step}
 use Rattle.spec.specs.Choice.{charge_of}
 use Rattle.spec.specs.Count.{Counted, one, serves, others, is_granted, depth_in, request_depth, request, storing, book_step, windowed}

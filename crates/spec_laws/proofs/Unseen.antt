@@ -10,7 +10,6 @@ use mathlib.Core.Option.{Option, none, some}
 use lib.Dec.{leb, leb→le}
 use lib.ListN.{length}
 use Rattle.spec.specs.declared.Fault.{Fault}
-use Rattle.spec.specs.Answer as say
 use Rattle.spec.specs.Answer.{Line}
 use Rattle.spec.specs.Config.{Config}
 use Rattle.spec.specs.Entry.{word_of}

@@ -1,7 +1,6 @@
 -- At most 64 bits are set. Assumes nothing.
 use native.Mathlib.Omega.{arith}
 use lib.Count.{ones-le}
-use borrow.Author.Rules.{rules}
 use Rattle.bits.proofs.count.Goals as goal
 
 pub overflow_cast-result : goal.overflow_cast-result

@@ -1,5 +1,5 @@
 -- A shift by 9 bits a level is a power of 512. Assumes nothing.
-use Rattle.std.proofs.Common.{◌≡◌, ℕ, pred, ◌-◌, ◌*◌, ◌^◌, ◌<◌, sym, ap, ◌∙◌, one-mul, arith, shl_exact, rules}
+use Rattle.std.proofs.Common.{◌≡◌, ℕ, pred, ◌-◌, ◌*◌, ◌^◌, ◌<◌, sym, ap, ◌∙◌, one-mul, arith, shl_exact}
 use Rattle.spec.specs.Entry.{frames_below}
 use Rattle.entry.proofs.frames_below.Goals as goal
 

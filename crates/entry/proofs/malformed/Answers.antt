@@ -1,5 +1,5 @@
 -- The bits above a guest frame number come first, then bit 7 above level 1. Assumes nothing.
-use Rattle.std.proofs.Common.{◌≡◌, ℕ, ◌/◌, ◌%◌, ◌<◌, ◌≤◌, eqb, sym, ap, ◌∙◌, arith, rules, eq-eqb}
+use Rattle.std.proofs.Common.{◌≡◌, ℕ, ◌/◌, ◌%◌, ◌<◌, ◌≤◌, eqb, sym, ap, ◌∙◌, arith, eq-eqb}
 use Rattle.spec.specs.Entry.{bit_set}
 use Rattle.entry.specs.Levels.{of_levels}
 use Rattle.entry.proofs.Entries.{malformed_high, malformed_low, malformed_off, malformed_on}

@@ -1,5 +1,5 @@
 -- Above level 3 bit 7 is enough; below, the frame's low bits tell. Assumes nothing.
-use Rattle.std.proofs.Common.{ℕ, pred, ◌*◌, ◌%◌, ◌<◌, ◌≤◌, not, ◌||◌, eqb, ltb, sym, ap, ◌∙◌, subst, ap₂, arith, pow_pos, rules, le-ltb, lt-ltb}
+use Rattle.std.proofs.Common.{ℕ, pred, ◌*◌, ◌%◌, ◌<◌, ◌≤◌, not, ◌||◌, eqb, sym, ap, ◌∙◌, subst, ap₂, arith, pow_pos, le-ltb, lt-ltb}
 use Rattle.spec.specs.Entry.{frame_of, frames_below}
 use Rattle.entry.proofs.misplaced.Goals as goal
 

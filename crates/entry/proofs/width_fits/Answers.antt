@@ -1,5 +1,5 @@
 -- 0 is none, nor is what is above 8; from 1 to 8 by the bits (spec_laws Bytes). Assumes nothing.
-use Rattle.std.proofs.Common.{◌≡◌, suc, ◌-◌, eqb, sym, ap, ◌∙◌, arith, rules}
+use Rattle.std.proofs.Common.{◌≡◌, suc, ◌-◌, eqb, sym, ap, ◌∙◌, arith}
 use lib.Bits.{bit_and}
 use Rattle.spec.specs.Bytes.{width_fits}
 use Rattle.spec_laws.proofs.Bytes.{width_none, width_power}

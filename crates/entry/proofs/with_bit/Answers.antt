@@ -1,5 +1,5 @@
 -- Where the bit is not set there is room for it. Assumes nothing.
-use Rattle.std.proofs.Common.{◌≡◌, ◌*◌, ◌%◌, ◌^◌, ◌∙◌, one-mul, arith, lit<, shl_exact, rules, eq-eqb, ne_eqb}
+use Rattle.std.proofs.Common.{◌≡◌, ◌*◌, ◌%◌, ◌^◌, ◌∙◌, one-mul, arith, lit<, shl_exact, eq-eqb, ne_eqb}
 use Rattle.spec.specs.Entry.{bit_set, with_bit}
 use Rattle.spec_laws.proofs.EntryBits.{bit_clear}
 use Rattle.entry.proofs.Entries.{bit_room}

@@ -1,5 +1,4 @@
 -- By the calls' promises. Assumes nothing.
-use Rattle.std.proofs.Common.{rules}
 use Rattle.entry.proofs.with_bits.Goals as goal
 
 pub returns-then-ends : goal.returns-then-ends

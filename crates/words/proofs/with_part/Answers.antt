@@ -3,7 +3,6 @@ use mathlib.Core.Path.{◌≡◌, ap, ◌∙◌}
 use Prim.Native.Nat.{ℕ, ◌+◌, ◌-◌, ◌*◌, ◌%◌, ◌^◌, ◌≤◌}
 use native.Mathlib.Omega.{arith}
 use lib.Pow.{shl_exact}
-use borrow.Author.Rules.{rules}
 use Rattle.spec.specs.Bytes.{part, with_part}
 use Rattle.spec_laws.proofs.Bytes.{part_lt, part_le, put_lt, put_changes}
 use Rattle.words.proofs.with_part.Goals as goal

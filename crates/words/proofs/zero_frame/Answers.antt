@@ -1,9 +1,6 @@
 -- Invariant: i words from the frame's first place on are set to 0, the rest as lent; a round sets one more, and 512 are all.
-use Prim.Native.Nat.{◌-◌, ◌*◌, ◌≤◌}
 use mathlib.Core.Path.{◌≡◌, sym}
-use lib.ListN.{length}
 use native.Mathlib.Omega.{arith}
-use Rattle.words.specs.Words.{zeroed}
 use Rattle.words.proofs.Laws.{zeroed_none, zeroed_more}
 use borrow.Author.Rules.{rules}
 use Rattle.words.proofs.zero_frame.Goals as goal
