@@ -1,13 +1,8 @@
 -- The words below i are 0.
-use Prim.Native.Nat.{◌+◌}
-use mathlib.Core.Path.{◌≡◌, sym}
+use mathlib.Core.Path.{◌≡◌}
 use Prim.Native.Nat.{◌*◌, ◌-◌, ◌≤◌}
 use lib.ListN.{length}
-use native.Mathlib.Omega.{arith}
 use Rattle.words.specs.Words.{zeroed}
-use Rattle.words.proofs.Laws.{zeroed_none, zeroed_more}
-use Rattle.record.specs.Open.{cleared_of}
-use borrow.Author.Rules.{rules}
 use Rattle.opening.proofs.clear_frames.Given as goal
 
 abbrev pub invariant-loop-i : goal.invariant-loop-i

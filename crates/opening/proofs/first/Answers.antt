@@ -1,6 +1,5 @@
 -- The shadow pool, the marks and the choice are the empty ones, by the promises of the calls that make them.
 use Rattle.record.specs.Open.{first_of}
-use borrow.Author.Rules.{rules}
 use Rattle.opening.proofs.first.Goals as goal
 
 pub returns : goal.returns

@@ -5,7 +5,6 @@ use lib.ListN.{length}
 use borrow.Author.Tests.{eq-eqb, ne_eqb}
 use Rattle.record.specs.Open.{open_of}
 use Rattle.record.proofs.Rules.{granted_sized}
-use borrow.Author.Rules.{rules}
 use Rattle.opening.proofs.open.Goals as goal
 
 pub returns-then-refusal-ne0 : goal.returns-then-refusal-ne0

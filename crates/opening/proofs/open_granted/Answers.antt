@@ -1,7 +1,6 @@
 -- The pool and the memory are those of the top table handed out.
 use native.Mathlib.Omega.{arith}
 use Rattle.record.specs.Open.{granted_of, entered_of}
-use borrow.Author.Rules.{rules}
 use Rattle.opening.proofs.open_granted.Goals as goal
 
 pub enter-went-requires : goal.enter-went-requires

@@ -1,8 +1,6 @@
 -- The words are tested before the areas, in the order of the rule's list; 0 says that no test failed.
-use borrow.Author.Tests.{not-true, not-false}
 use Rattle.spec.specs.Refusal.{open_refusal}
 use Rattle.record.specs.Open.{refusal_of}
-use borrow.Author.Rules.{rules}
 use Rattle.opening.proofs.open_refusal.Goals as goal
 
 pub returns-then-not-words_fit : goal.returns-then-not-words_fit
