@@ -1,5 +1,4 @@
 -- A move of marks on a record in parts: the paths are cut first; then head and arrays change, or nothing does.
--- Assumes nothing.
 use mathlib.Core.Path.{◌≡◌, refl, sym, ap, ◌∙◌, subst}
 use Prim.Native.Nat.{ℕ, suc}
 use mathlib.Core.Bool.{Bool, true, false, cond}
