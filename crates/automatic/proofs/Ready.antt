@@ -1,6 +1,6 @@
 -- A move leaves a record in its ranges.
-use mathlib.Core.Path.{◌≡◌, refl, sym, ap, ◌∙◌, subst}
-use Prim.Native.Nat.{ℕ, suc, ◌-◌, ◌≤◌, ◌<◌}
+use mathlib.Core.Path.{◌≡◌, refl}
+use Prim.Native.Nat.{ℕ, suc, ◌≤◌}
 use native.Mathlib.Omega.{arith}
 use borrow.Author.Tests.{ltb-true}
 use mathlib.Core.Bool.{Bool, true, false, not, cond}
@@ -8,19 +8,15 @@ use mathlib.Core.List.{List}
 use lib.Dec.{eqb, ltb}
 use lib.Count.{ones}
 use lib.ListN.{length, take, length-take}
-use Rattle.spec.specs.Prefix.{keep}
 use Rattle.spec_laws.proofs.Choice.{keep_most}
 use Rattle.marks.specs.declared.Marks.{Marks}
 use Rattle.marks.specs.Table.{room}
 use Rattle.choice.specs.declared.Choice.{Choice}
-use Rattle.choice.specs.Window as window
-use Rattle.choice.specs.Order.{without_of, with_of, moved_of, leaving_of, place_by}
+use Rattle.choice.specs.Order.{without_of, with_of, leaving_of, place_by}
 use Rattle.record.specs.declared.Record.{Record}
 use Rattle.record.specs.Record.{config_of, head_tables, with_marks}
-use Rattle.layout.specs.Layout.{LayoutFits}
 use Rattle.drops.proofs.Fresh.{prefix_fits_lem}
 use Rattle.drops.specs.Drop.{drop_prefix_of}
-use Rattle.words.specs.After.{After}
 use Rattle.spec.specs.Entry.{indexes}
 use Rattle.automatic.specs.Moves.{Sound, Ready, moved, marked_of, withdrawn_of, room_made_of}
 

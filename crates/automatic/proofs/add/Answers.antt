@@ -9,7 +9,6 @@ use Rattle.choice.specs.Order.{moved_of}
 use Rattle.record.specs.Record.{record_by}
 use Rattle.automatic.specs.Moves.{above, marked_of}
 use Rattle.automatic.proofs.Parts.{marked_damaged, marked_cut}
-use borrow.Author.Rules.{rules}
 use Rattle.automatic.proofs.add.Goals as goal
 
 pub cut-m-requires : goal.cut-m-requires

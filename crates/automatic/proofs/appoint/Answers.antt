@@ -10,7 +10,6 @@ use Rattle.choice.specs.Order.{with_order, with_of, count_with, order_with, move
 use Rattle.record.specs.Record.{record_by}
 use Rattle.automatic.specs.Moves.{marked_of, appointed_of}
 use Rattle.automatic.proofs.Parts.{marked_damaged, marked_cut, with_parts}
-use borrow.Author.Rules.{rules}
 use Rattle.automatic.proofs.appoint.Goals as goal
 
 pub cut-m-requires : goal.cut-m-requires

@@ -2,7 +2,6 @@
 use borrow.Author.Tests.{lt-ltb, le-ltb}
 use lib.Count.{ones}
 use native.Mathlib.Omega.{arith}
-use borrow.Author.Rules.{rules}
 use Rattle.automatic.proofs.appoint_in.Goals as goal
 
 pub returns-then-count-lt64 : goal.returns-then-count-lt64

@@ -10,7 +10,6 @@ use Rattle.choice.specs.Window.{tally_charged}
 use Rattle.record.specs.Record.{record_by, head_tally, with_marks}
 use Rattle.automatic.specs.Moves.{Move, entered_of, judged_of, charged_of, moved_in, kept_by}
 use Rattle.automatic.proofs.Parts.{kept_goes, kept_back, kept_instead}
-use borrow.Author.Rules.{rules}
 use Rattle.automatic.proofs.charge.Goals as goal
 
 pub judge-m-requires : goal.judge-m-requires

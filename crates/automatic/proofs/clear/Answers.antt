@@ -7,7 +7,6 @@ use Rattle.choice.specs.declared.Choice.{Choice}
 use Rattle.record.specs.Record.{record_by}
 use Rattle.automatic.specs.Moves.{above, marked_of, cleared_of}
 use Rattle.automatic.proofs.Parts.{marked_damaged, marked_cut}
-use borrow.Author.Rules.{rules}
 use Rattle.automatic.proofs.clear.Goals as goal
 
 pub cut-m-requires : goal.cut-m-requires

@@ -1,7 +1,6 @@
 -- By whether the drop met damage.
 use borrow.Author.Tests.{not-true, not-false}
 use Rattle.automatic.specs.Moves.{cut_of}
-use borrow.Author.Rules.{rules}
 use Rattle.automatic.proofs.cut.Goals as goal
 
 pub returns-then-not-left : goal.returns-then-not-left

@@ -1,6 +1,6 @@
 -- By the charges; then room is made, and the mark set.
 use mathlib.Core.Path.{◌≡◌, sym, ap, ◌∙◌, subst}
-use mathlib.Core.Bool.{true, false}
+use mathlib.Core.Bool.{false}
 use native.Mathlib.Omega.{arith}
 use borrow.Author.Tests.{lt-leb, le-leb, not-true, not-false}
 use Rattle.words.specs.After.{After, yields}
@@ -8,7 +8,6 @@ use Rattle.record.specs.Record.{record_by}
 use Rattle.automatic.specs.Moves.{Move, Ready, then_by, room_made_of, appointed_in, moved_in, kept_by}
 use Rattle.automatic.proofs.Ready.{room_ready}
 use Rattle.automatic.proofs.Parts.{room_kept, appointed_kept, kept_damaged, then_damaged, second_damaged, second_goes}
-use borrow.Author.Rules.{rules}
 use Rattle.automatic.proofs.judge.Goals as goal
 
 pub returns-then-charges-lt3 : goal.returns-then-charges-lt3

@@ -3,7 +3,6 @@ use borrow.Author.Tests.{lt-ltb, le-ltb, eq-eqb, ne_eqb}
 use Rattle.automatic.specs.Moves.{room_made_of}
 use lib.Count.{ones}
 use native.Mathlib.Omega.{arith}
-use borrow.Author.Rules.{rules}
 use Rattle.automatic.proofs.make_room.Goals as goal
 
 pub returns-then-count-lt64 : goal.returns-then-count-lt64

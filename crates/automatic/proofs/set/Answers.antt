@@ -1,13 +1,12 @@
 -- An automatic mark becomes the operator's; for any other room is made first.
 use mathlib.Core.Path.{◌≡◌, sym, ap, ◌∙◌, subst}
-use mathlib.Core.Bool.{true, false}
+use mathlib.Core.Bool.{false}
 use borrow.Author.Tests.{not-true, not-false}
 use Rattle.words.specs.After.{After, yields}
 use Rattle.record.specs.Record.{record_by}
 use Rattle.automatic.specs.Moves.{Move, Ready, then_by, room_made_of, added_of, taken_over_of, set_of, moved_in, kept_by}
 use Rattle.automatic.proofs.Ready.{room_ready}
 use Rattle.automatic.proofs.Parts.{marked_kept, room_kept, kept_damaged, then_damaged, second_damaged, second_goes}
-use borrow.Author.Rules.{rules}
 use Rattle.automatic.proofs.set.Goals as goal
 
 pub returns-then-automatic_at : goal.returns-then-automatic_at

@@ -7,7 +7,6 @@ use Rattle.choice.specs.Order.{without_of}
 use Rattle.record.specs.Record.{head_tally, head_marks}
 use Rattle.automatic.specs.Moves.{above, taken_over_of}
 use Rattle.automatic.proofs.Parts.{cut_set, marked_damaged, marked_cut}
-use borrow.Author.Rules.{rules}
 use Rattle.automatic.proofs.take_over.Goals as goal
 
 pub cut-m-requires : goal.cut-m-requires

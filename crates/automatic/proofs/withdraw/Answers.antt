@@ -7,7 +7,6 @@ use Rattle.choice.specs.Order.{prefix_at, without_of}
 use Rattle.record.specs.Record.{record_by}
 use Rattle.automatic.specs.Moves.{marked_of, withdrawn_of}
 use Rattle.automatic.proofs.Parts.{marked_damaged, marked_cut}
-use borrow.Author.Rules.{rules}
 use Rattle.automatic.proofs.withdraw.Goals as goal
 
 pub cut-m-requires : goal.cut-m-requires
