@@ -17,7 +17,7 @@ import re
 import sys
 
 DECLARED = re.compile(r"(?m)^(?:pub +|abbrev +|unfoldable +|data +|record +|ruleset +)*([^\s(){}.;,@\"«»:=]+)(?: *[({][^\n]*?[)}])* +:(?=\s)")
-INNER = re.compile(r"(?m)^ +(?:pub )?([a-z][^\s(){}.;,@\"«»:=]*) :(?=\s)")
+INNER = re.compile(r"(?m)^ +(?:pub +|abbrev +|unfoldable +)*([a-z][^\s(){}.;,@\"«»:=]*) :(?=\s)")
 HEAD = re.compile(r"^(?:pub +|abbrev +|unfoldable +)*(data|record|module)\b")
 MADE = re.compile(r"Need-|InvT|MeasureT|invariant-|decreases-")
 TOKEN = re.compile(r"[^\s(){}.;,@\"«»\[\]`]+")
@@ -65,7 +65,7 @@ def turned(name):
         # a lemma on a type keeps the dash behind the type's name
         head, dash, rest = name.partition("-")
         return head + dash + turned(rest) if dash and re.match(r"[a-z]", rest) else name
-    words = re.sub(r"(?<=[a-z0-9])[A-Z](?=[a-z])", lambda m: "_" + m[0].lower(), name)
+    words = re.sub(r"(?<=[a-z0-9])[A-Z]|(?<=[A-Z])[A-Z](?=[a-z])", lambda m: "_" + m[0].lower(), name)
     return re.sub(r"(?<=[\w₀-₉'])-(?=[a-z0-9])", "_", words)
 
 

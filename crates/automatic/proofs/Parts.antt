@@ -36,15 +36,15 @@ module _ (h : Head) (place ring order m : List ℕ) (k p : ℕ) (t : Marks) (x :
   abbrev whole : Record
   whole = record_by h place ring order
 
-  abbrev leftBut : Bool → After Move
-  leftBut b = left_by whole (with_marks whole t x) (held_after k h.held) (yields (record { pool = (dropped h m k p).result.pool; ok = b }) (dropped h m k p).memory)
+  abbrev left_but : Bool → After Move
+  left_but b = left_by whole (with_marks whole t x) (held_after k h.held) (yields (record { pool = (dropped h m k p).result.pool; ok = b }) (dropped h m k p).memory)
 
   -- damage was met, and all is as it was
   pub marked_damaged : (o : After Moved) → o ≡ cut_of h m k p → o.result.ok ≡ false → yields (moved_in place ring order o.result) o.memory ≡ marked_of whole m k p t x
   unfolding cut_of marked_of head_tables with_marks
   marked_damaged o e f = go (dropped h m k p).result.ok e
     where
-      go : (b : Bool) → o ≡ cut_by h m k p b → yields (moved_in place ring order o.result) o.memory ≡ leftBut b
+      go : (b : Bool) → o ≡ cut_by h m k p b → yields (moved_in place ring order o.result) o.memory ≡ left_but b
       go true q = no_way (sym (ap (λ (y : After Moved). y.result.ok) q) ∙ f)
       go false q = ap (λ (y : After Moved). yields (moved_in place ring order y.result) y.memory) q
 
@@ -54,7 +54,7 @@ module _ (h : Head) (place ring order m : List ℕ) (k p : ℕ) (t : Marks) (x :
   unfolding cut_of marked_of head_marks head_tables with_marks
   marked_cut o e f = go (dropped h m k p).result.ok e
     where
-      go : (b : Bool) → o ≡ cut_by h m k p b → moved (record_by (head_marks o.result.head t.set x.tally) t.place x.ring x.order) true o.memory ≡ leftBut b
+      go : (b : Bool) → o ≡ cut_by h m k p b → moved (record_by (head_marks o.result.head t.set x.tally) t.place x.ring x.order) true o.memory ≡ left_but b
       go true q = ap (λ (y : After Moved). moved (record_by (head_marks y.result.head t.set x.tally) t.place x.ring x.order) true y.memory) q
       go false q = no_way (sym f ∙ ap (λ (y : After Moved). y.result.ok) q)
 

@@ -147,8 +147,8 @@ module _ (s : State) (r : Record) (m : List ℕ) (h : Inv s r m) (g : ℕ) (ys :
   c = config_of r
 
   -- machine and book after it
-  abbrev changedState : State
-  changedState = record { config = config_of r; machine = remapped s.machine ys; book = holding s.book (drop_mapping g s.book.held) }
+  abbrev changed_state : State
+  changed_state = record { config = config_of r; machine = remapped s.machine ys; book = holding s.book (drop_mapping g s.book.held) }
 
   held : List Held
   held = s.book.held
@@ -167,20 +167,20 @@ module _ (s : State) (r : Record) (m : List ℕ) (h : Inv s r m) (g : ℕ) (ys :
   -- with shadow tables that hold what the drop leaves
   moved : (q : Holding) (o : List ℕ) → Beside (shadow_area (config_of r)) n o → (q.frame.0 ≡ 0) ⊎ InGuestArea (config_of r) q.frame.0
       → Holds (shadow_area (config_of r)) false q.pool o (leaf_at (entry_of (config_of r) F) (longer left)) F → q.frame.0 ≡ top_by (F []) (find [] left)
-      → Inv changedState (with_held (with_host r p) q) o
+      → Inv changed_state (with_held (with_host r p) q) o
   unfolding head_held head_host head_tables c left held F
   moved q o k fits holds is =
       let old = inv_fits h in
       let after : Maps c ys p o = maps_beside c k maps in
       let area = shadow_drop c k ∙ host_drop c beside ∙ h.area in
-      let now : Stands c changedState.machine p.top o = stands c changedState.machine p o after area in
+      let now : Stands c changed_state.machine p.top o = stands c changed_state.machine p o after area in
       let few = h.maps.few in
       let long : length m ≡ length o = sym (k.len ∙ beside.len) in
-      invariant changedState (with_held (with_host r p) q) o
+      invariant changed_state (with_held (with_host r p) q) o
       (subst (Fits (with_held (with_host r p) q)) long (fits_held (fits_host old p (holds_pool after.holds) (holds_top after.holds)) q (holds_pool holds) fits))
       h.sorted h.root after area book (all_map _ _ left (λ x v. v.after) staying) h.marks (still_chosen h left)
-      (shadow_on left s.machine changedState.machine (host_top r) p.top m o (inv_stands h) now (inv_root h) (inv_root h) few staying holds)
-      (is ∙ top_on c left s.machine changedState.machine (host_top r) p.top m o (inv_stands h) now (inv_root h) (inv_root h) few staying)
+      (shadow_on left s.machine changed_state.machine (host_top r) p.top m o (inv_stands h) now (inv_root h) (inv_root h) few staying holds)
+      (is ∙ top_on c left s.machine changed_state.machine (host_top r) p.top m o (inv_stands h) now (inv_root h) (inv_root h) few staying)
 
   entries : (hs : List Held) → All (Valid (config_of r) s.machine) hs
       → HeldEntries (config_of r) F (named_in (config_of r) m F) s.machine.root (entry_of (config_of r) F) hs
@@ -188,7 +188,7 @@ module _ (s : State) (r : Record) (m : List ℕ) (h : Inv s r m) (g : ℕ) (ys :
   entries hs a = valid_entries (config_of r) s.machine (host_top r) m (inv_stands h) (inv_root h) h.maps.few hs a
 
   -- if the frame is the root's, every path used its mapping and goes
-  all_left : g ≡ s.machine.root → Inv changedState (with_held (with_host r p) nothing) n
+  all_left : g ≡ s.machine.root → Inv changed_state (with_held (with_host r p) nothing) n
   unfolding left held
   all_left e =
       let gone : drop_mapping g held ≡ [] = ap (λ x. drop_mapping x held) e ∙ mapping_all (entries held h.valid) in
@@ -203,7 +203,7 @@ module _ (s : State) (r : Record) (m : List ℕ) (h : Inv s r m) (g : ℕ) (ys :
   shadow_stays = holds_beside (inv_shadow h) (host_area (config_of r)) n (inr (omega arith)) beside
 
   -- nothing is dropped where the frame was not mapped
-  none_left : lookup g s.machine.mappings ≡ none → Inv changedState (with_host r p) n
+  none_left : lookup g s.machine.mappings ≡ none → Inv changed_state (with_host r p) n
   unfolding head_held head_host head_tables left held F
   none_left e =
       let same : drop_mapping g held ≡ held = keep_all _ held (all_map _ _ held (λ x v. ap not (valid_unused (config_of r) s.machine x v g e)) h.valid) in
@@ -245,22 +245,22 @@ module _ (s : State) (r : Record) (m : List ℕ) (h : Inv s r m) (g : ℕ) (ys :
 
   -- the paths that used the mapping go, and no other
   scan_left : g ≢ s.machine.root
-      → Moved changedState r (dropped_by r (with_host r p) r.guest.held (scan_of (config_of r) (Names (guest_frame g)) r.pools.shadow n))
+      → Moved changed_state r (dropped_by r (with_host r p) r.guest.held (scan_of (config_of r) (Names (guest_frame g)) r.pools.shadow n))
   unfolding head_held head_host head_tables left held F
   scan_left other = go (drop_mapping_lem shadow_stays entries_after g other)
     where
-      go : {t : After Left} → Dropped (config_of r) n (leaf_at (entry_of (config_of r) F) (drop_mapping g (longer held))) F t → Moved changedState r (dropped_by r (with_host r p) r.guest.held t)
-      go d = dropped_left d changedState r (with_host r p) r.guest.held refl
+      go : {t : After Left} → Dropped (config_of r) n (leaf_at (entry_of (config_of r) F) (drop_mapping g (longer held))) F t → Moved changed_state r (dropped_by r (with_host r p) r.guest.held t)
+      go d = dropped_left d changed_state r (with_host r p) r.guest.held refl
           (moved (record { pool = d.pool; frame = r.guest.held }) d.memory d.beside (inv_fits h).held
           (subst (λ hs. Holds (shadow_area (config_of r)) false d.pool d.memory (leaf_at (entry_of (config_of r) F) hs) F) (sym (longer_keep (λ x. not (uses_mapping g x)) held)) d.holds)
           (top_stays other))
 
-  unmapped_left : Moved changedState r (unmapped_of r p n g)
+  unmapped_left : Moved changed_state r (unmapped_of r p n g)
   unfolding unmapped_of head_held head_host head_tables
   unmapped_left = go (eqb g r.guest.root.0) refl
     where
       go : (b : Bool) → eqb g r.guest.root.0 ≡ b
-          → Moved changedState r (cond b (ended (with_held (with_host r p) nothing) answer.Ok n) (dropped_by r (with_host r p) r.guest.held (scan_of (config_of r) (Names (guest_frame g)) r.pools.shadow n)))
+          → Moved changed_state r (cond b (ended (with_held (with_host r p) nothing) answer.Ok n) (dropped_by r (with_host r p) r.guest.held (scan_of (config_of r) (Names (guest_frame g)) r.pools.shadow n)))
       go true e = record { config = refl; says = refl; next = all_left (eqb-true g r.guest.root.0 e ∙ h.root) }
       go false e = scan_left (λ k. eqb-false g r.guest.root.0 e (k ∙ sym h.root))
 

@@ -532,8 +532,8 @@ module _ (r : Record) (st : Bool) (a d : ℕ) where
   abbrev rt : ℕ
   rt = root_of r
 
-  abbrev pub foundIn : List ℕ → HostWalk
-  foundIn m = found_of c m (held_of r) a d
+  abbrev pub found_in : List ℕ → HostWalk
+  found_in m = found_of c m (held_of r) a d
 
   -- the direct part of memory m from there, the whole plain walk, and the words of both
   abbrev from : List ℕ → ℕ → Bool → Walked
@@ -550,7 +550,7 @@ module _ (r : Record) (st : Bool) (a d : ℕ) where
 
   -- served by its held path, or at depth N + 1
   pub data Reaches (m : List ℕ) : Type 0 where
-    held : (t : HostPhysical) (w : Bool) → d ≤ c.levels → foundIn m ≡ hosts.Found t w → serves_of st d w ≡ true → Reaches m
+    held : (t : HostPhysical) (w : Bool) → d ≤ c.levels → found_in m ≡ hosts.Found t w → serves_of st d w ≡ true → Reaches m
     plain : c.levels < d → Reaches m
 
   -- at depth d
@@ -558,7 +558,7 @@ module _ (r : Record) (st : Bool) (a d : ℕ) where
   unfolding translated_of
   translated_is m e = ap (translate_of c ht m hold rt st a) e
 
-  found_local : (m n : List ℕ) → SameWords m n (path_words r m a d) → foundIn n ≡ foundIn m
+  found_local : (m n : List ℕ) → SameWords m n (path_words r m a d) → found_in n ≡ found_in m
   unfolding found_of shadowed path_words
   found_local m n h = go (ltb d c.levels) h
     where
@@ -570,12 +570,12 @@ module _ (r : Record) (st : Bool) (a d : ℕ) where
           (same_entries m n (entries_read c.hosts c.shadows m r.pools.shadow.top (path_indexes c d a)) q))
       go false q = refl
 
-  held_is : (m : List ℕ) → At m → (t : HostPhysical) (w : Bool) → d ≤ c.levels → foundIn m ≡ hosts.Found t w → serves_of st d w ≡ true
+  held_is : (m : List ℕ) → At m → (t : HostPhysical) (w : Bool) → d ≤ c.levels → found_in m ≡ hosts.Found t w → serves_of st d w ≡ true
       → translated_of r m st a ≡ yields (through_of c ht m hold rt st a d t.0 w) m
   unfolding translate_of
   held_is m e t w l f s =
       translated_is m e
-      ∙ ap (λ b. cond b (yields (unshadowed_of c ht m hold rt st a d) m) (found_by c ht m hold rt st a d (foundIn m))) (le-ltb c.levels d l)
+      ∙ ap (λ b. cond b (yields (unshadowed_of c ht m hold rt st a d) m) (found_by c ht m hold rt st a d (found_in m))) (le-ltb c.levels d l)
       ∙ ap (found_by c ht m hold rt st a d) f
       ∙ ap (λ b. cond b (yields (through_of c ht m hold rt st a d t.0 w) m) (missed_of c ht m hold rt st a d)) s
 
@@ -583,30 +583,30 @@ module _ (r : Record) (st : Bool) (a d : ℕ) where
   unfolding translate_of
   plain_is m e l =
       translated_is m e
-      ∙ ap (λ b. cond b (yields (unshadowed_of c ht m hold rt st a d) m) (found_by c ht m hold rt st a d (foundIn m)))
+      ∙ ap (λ b. cond b (yields (unshadowed_of c ht m hold rt st a d) m) (found_by c ht m hold rt st a d (found_in m)))
       (lt-ltb c.levels d l)
 
   -- the words that it counts
-  abbrev countedAt : List ℕ → ℕ → List Word
-  countedAt m k = cond (leb k c.levels) (path_words r m a k ++ direct_words c ht m st a k (found_of c m hold a k)) (plainly m)
+  abbrev counted_at : List ℕ → ℕ → List Word
+  counted_at m k = cond (leb k c.levels) (path_words r m a k ++ direct_words c ht m st a k (found_of c m hold a k)) (plainly m)
 
-  held_counted : (m : List ℕ) → At m → (t : HostPhysical) (w : Bool) → d ≤ c.levels → foundIn m ≡ hosts.Found t w
+  held_counted : (m : List ℕ) → At m → (t : HostPhysical) (w : Bool) → d ≤ c.levels → found_in m ≡ hosts.Found t w
       → counted_of r m st a ≡ path_words r m a d ++ directly m t.0 w
   unfolding counted_of
   held_counted m e t w l f =
-      ap (countedAt m) e
-      ∙ ap (λ b. cond b (path_words r m a d ++ direct_words c ht m st a d (foundIn m)) (plainly m)) (is_true (leb d c.levels) (le→leb d c.levels l))
+      ap (counted_at m) e
+      ∙ ap (λ b. cond b (path_words r m a d ++ direct_words c ht m st a d (found_in m)) (plainly m)) (is_true (leb d c.levels) (le→leb d c.levels l))
       ∙ ap (λ x. path_words r m a d ++ direct_words c ht m st a d x) f
 
   plain_counted : (m : List ℕ) → At m → c.levels < d → counted_of r m st a ≡ plainly m
   unfolding counted_of
   plain_counted m e l =
-      ap (countedAt m) e
-      ∙ ap (λ b. cond b (path_words r m a d ++ direct_words c ht m st a d (foundIn m)) (plainly m))
+      ap (counted_at m) e
+      ∙ ap (λ b. cond b (path_words r m a d ++ direct_words c ht m st a d (found_in m)) (plainly m))
       (is_false (leb d c.levels) (λ z. let k = leb→le d c.levels z in omega arith))
 
   -- the shadow entries on the path are N − d words where it is held
-  path_reads : (m : List ℕ) (t : HostPhysical) (w : Bool) → d ≤ c.levels → foundIn m ≡ hosts.Found t w → length (path_words r m a d) ≡ c.levels - d
+  path_reads : (m : List ℕ) (t : HostPhysical) (w : Bool) → d ≤ c.levels → found_in m ≡ hosts.Found t w → length (path_words r m a d) ≡ c.levels - d
   unfolding path_words found_of shadowed
   path_reads m t w l f = go (ltb d c.levels) refl f
     where
@@ -766,7 +766,7 @@ module _ (r : Record) (st : Bool) (a d : ℕ) where
   abbrev turned : List ℕ → HostWalk → ℕ
   turned m = depth_by c ht m rt a marked
 
-  module _ (m n : List ℕ) (t : HostPhysical) (w : Bool) (f : foundIn m ≡ hosts.Found t w) (s : SameWords m n (path_words r m a d)) (up : marked < c.levels) where
+  module _ (m n : List ℕ) (t : HostPhysical) (w : Bool) (f : found_in m ≡ hosts.Found t w) (s : SameWords m n (path_words r m a d)) (up : marked < c.levels) where
     -- what the shorter path of a large page meets is met again
     upward_local : d ≡ 0 → found_of c n hold a marked ≡ found_of c m hold a marked
     upward_local e =
@@ -804,7 +804,7 @@ module _ (r : Record) (st : Bool) (a d : ℕ) where
     ]
     turned_local hosts.Damaged q e = ap (turned n) (upward_local (sym e) ∙ q) ∙ e
 
-  depth_local : (m n : List ℕ) → 3 ≤ c.levels → At m → (t : HostPhysical) (w : Bool) → foundIn m ≡ hosts.Found t w → SameWords m n (path_words r m a d) → At n
+  depth_local : (m n : List ℕ) → 3 ≤ c.levels → At m → (t : HostPhysical) (w : Bool) → found_in m ≡ hosts.Found t w → SameWords m n (path_words r m a d) → At n
   unfolding depth_of may_turn
   depth_local m n three at t w f s = go (eqb marked 0) (ltb marked 3) refl at
     where

@@ -27,7 +27,7 @@ use Rattle.spec_laws.proofs.Choice.{all_in}
 use Rattle.record.specs.Record.{config_by}
 use Rattle.claims.specs.Run.{machine_run}
 use Rattle.wrong_units.specs.Unit.{MemoryUnit, run_by, after_by, specified, Demand-3, ChoiceUnseen}
-use Rattle.wrong_units.specs.WrongChoice.{told_by, answered_by, step_by, keeping, our_enters, our_charges, load_choosing, store_choosing, faults_left_out, root_keeps_window, counted_before, to_the_highest, charged_for_overflow, devices_charge, exit_forAMark, never_leaves, order_step, ordering, our_order, lowest_leaves, newest_leaves, age_kept, set_refused, clear_refused, seven_too_early, automatic_is_set, clears_automatic}
+use Rattle.wrong_units.specs.WrongChoice.{told_by, answered_by, step_by, keeping, our_enters, our_charges, load_choosing, store_choosing, faults_left_out, root_keeps_window, counted_before, to_the_highest, charged_for_overflow, devices_charge, exit_for_a_mark, never_leaves, order_step, ordering, our_order, lowest_leaves, newest_leaves, age_kept, set_refused, clear_refused, seven_too_early, automatic_is_set, clears_automatic}
 use Rattle.wrong_units.proofs.Ours.{demand_3_unseen}
 use Rattle.wrong_units.proofs.Refute.{unseen_last, differ}
 use Rattle.wrong_units.proofs.Zeros.{memory, grants, all_mapped, refuted_after}
@@ -171,9 +171,9 @@ devices_charge_refuted =
 -- ---- automatic marks
 
 -- two charges, and a third, which sets the mark: the store says done 4 2, not 4 1
-pub exit_for_a_mark_refuted : Demand-3 exit_forAMark → ⊥
-unfolding booking exit_forAMark
-exit_for_a_mark_refuted = refuted exit_forAMark (charges 2 ++ (load_word 0 ∷ [])) low (done 4 2) (done 4 1) refl refl tt
+pub exit_for_a_mark_refuted : Demand-3 exit_for_a_mark → ⊥
+unfolding booking exit_for_a_mark
+exit_for_a_mark_refuted = refuted exit_for_a_mark (charges 2 ++ (load_word 0 ∷ [])) low (done 4 2) (done 4 1) refl refl tt
 
 -- the table is full, one of its marks is automatic; three charges to (0, 0, 1) make that one leave. If it stays, a load of 0x200000 says 0 4 1,
 -- not 0 8 1

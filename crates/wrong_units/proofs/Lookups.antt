@@ -18,7 +18,7 @@ use Rattle.record.specs.Record.{config_by}
 use Rattle.calls.specs.Calls.{call_of}
 use Rattle.claims.specs.Lookups.{marks_in}
 use Rattle.wrong_units.specs.Unit.{after_by, specified, Demand-3, Searches, told, unit_by, cangrieb, Lookups}
-use Rattle.wrong_units.specs.Wrong.{search_to, ends_atN, loads_end_atN, counts_places, last_not_counted}
+use Rattle.wrong_units.specs.Wrong.{search_to, ends_at_n, loads_end_at_n, counts_places, last_not_counted}
 use Rattle.wrong_units.proofs.Computing.{calling}
 use Rattle.wrong_units.proofs.Mapped.{memory, grants, opens, opened_record, opened_words, first_record}
 use Rattle.wrong_units.proofs.Filled.{mapped_words, other_maps}
@@ -45,32 +45,32 @@ not_found f ys a clash l = clash (subst (λ (e : Record × List ℕ). f e.0 a �
 abbrev both : List Call
 both = set_mark 0 4 ∷ set_mark 0 5 ∷ []
 
-ends_at_n_says : ends_atN (left both) 0 ≡ record { depth = 4; read = 1 }
-unfolding ends_atN search_to after_by calling
+ends_at_n_says : ends_at_n (left both) 0 ≡ record { depth = 4; read = 1 }
+unfolding ends_at_n search_to after_by calling
 ends_at_n_says = refl
 
 both_right : searched (left both) 0 ≡ record { depth = 5; read = 2 }
 unfolding after_by calling
 both_right = refl
 
-pub ends_at_n_refuted : Lookups ends_atN → ⊥
-ends_at_n_refuted = not_found ends_atN both 0 (λ e. let z = ap (λ (f : Lookup). f.read) (sym ends_at_n_says ∙ e ∙ both_right) in omega arith)
+pub ends_at_n_refuted : Lookups ends_at_n → ⊥
+ends_at_n_refuted = not_found ends_at_n both 0 (λ e. let z = ap (λ (f : Lookup). f.read) (sym ends_at_n_says ∙ e ∙ both_right) in omega arith)
 
 -- its loads: at depth 5 a load reads 24 words, and at depth 4 it reads 20 and fills a path
-loads_comes : Comes loads_end_atN begin (first_record, mapped_words)
-unfolding loads_end_atN after_by
-loads_comes = begins_at loads_end_atN refl other_maps
+loads_comes : Comes loads_end_at_n begin (first_record, mapped_words)
+unfolding loads_end_at_n after_by
+loads_comes = begins_at loads_end_at_n refl other_maps
 
-loads_say : ((unit_by loads_end_atN).call (load_word 0) (after_by (unit_by loads_end_atN) both (first_record, mapped_words))).0 ≡ value 0x3003 20 1
-unfolding loads_end_atN ends_atN search_to after_by calling
+loads_say : ((unit_by loads_end_at_n).call (load_word 0) (after_by (unit_by loads_end_at_n) both (first_record, mapped_words))).0 ≡ value 0x3003 20 1
+unfolding loads_end_at_n ends_at_n search_to after_by calling
 loads_say = refl
 
 loads_right : (step (load_word 0) (specified memory 4 4 false false (begin ++ both))).0 ≡ value 0x3003 24 0
 unfolding specifying
 loads_right = refl
 
-pub loads_end_at_n_refuted : Demand-3 (unit_by loads_end_atN) → ⊥
-loads_end_at_n_refuted = refuted loads_end_atN begin both (load_word 0) (first_record, mapped_words) (value 0x3003 20 1) (value 0x3003 24 0) loads_comes loads_say loads_right tt
+pub loads_end_at_n_refuted : Demand-3 (unit_by loads_end_at_n) → ⊥
+loads_end_at_n_refuted = refuted loads_end_at_n begin both (load_word 0) (first_record, mapped_words) (value 0x3003 20 1) (value 0x3003 24 0) loads_comes loads_say loads_right tt
 
 -- ---- a mark that was cleared leaves its place: only the mark of level 5, at the second one, is set and read
 

@@ -426,12 +426,12 @@ search_to last p [] = none
 search_to last p (k ∷ ks) = more (level_at p k) (cond (leb last (level_at p k)) none (search_to last p ks))
 
 -- it ends at a mark of level N
-unfoldable pub ends_atN : Searches
-ends_atN r a = search_to r.layout.levels (low_page r.layout.levels a) (keys_of r)
+unfoldable pub ends_at_n : Searches
+ends_at_n r a = search_to r.layout.levels (low_page r.layout.levels a) (keys_of r)
 
 -- and loads take their depth from it
-unfoldable pub loads_end_atN : Calls
-loads_end_atN = on_loads (load_by address_fits (λ r a. (ends_atN r a).depth)) call_of
+unfoldable pub loads_end_at_n : Calls
+loads_end_at_n = on_loads (load_by address_fits (λ r a. (ends_at_n r a).depth)) call_of
 
 -- places are counted, also those at which no mark is set
 unfoldable pub counts_places : Searches

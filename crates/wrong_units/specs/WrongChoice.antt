@@ -131,8 +131,8 @@ abbrev pub costing : Option (List ℕ) → Counted → Counted
 costing x k = record { references = k.references; exits = k.exits + one (has_set x k.book); book = k.book }
 
 -- to set one costs the store an exit
-unfoldable pub exit_forAMark : MemoryUnit
-exit_forAMark = entering (λ c r x k. costing x (windowed c x k))
+unfoldable pub exit_for_a_mark : MemoryUnit
+exit_for_a_mark = entering (λ c r x k. costing x (windowed c x k))
 
 -- none leaves for a charged prefix
 unfoldable pub never_leaves : MemoryUnit

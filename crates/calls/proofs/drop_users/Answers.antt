@@ -1,0 +1,27 @@
+-- All paths go where the frame is the root's; else those of the scan, or it meets damage. Assumes nothing.
+use borrow.Author.Tests.{eq-eqb, ne_eqb, not-true, not-false}
+use Rattle.record.specs.Record.{head_tables}
+use Rattle.calls.specs.Calls.{head_held, head_host, unmapped_of}
+use borrow.Author.Rules.{rules}
+use Rattle.calls.proofs.drop_users.Goals as goal
+
+pub returns-then-guest-head : goal.returns-then-guest-head
+unfolding unmapped_of head_held head_host head_tables
+returns-then-guest-head c = rw (eq-eqb _ _ c.if-guest-head.true, c.held_none.ensures)
+
+pub drop_mapping-left-requires : goal.drop_mapping-left-requires
+drop_mapping-left-requires c = c.requires
+
+pub returns-then-not-left : goal.returns-then-not-left
+unfolding unmapped_of head_tables
+returns-then-not-left c =
+    let drop_mapping_lem = c.drop_mapping-left in
+    let if1 = c.if-guest-head in
+    rw (ne_eqb _ _ if1.false, ← drop_mapping_lem.ensures, c.if-not-left.true, c.unmoved.ensures)
+
+pub returns : goal.returns
+unfolding unmapped_of head_held head_host head_tables
+returns c =
+    let drop_mapping_lem = c.drop_mapping-left in
+    let if1 = c.if-guest-head in
+    rw (ne_eqb _ _ if1.false, ← drop_mapping_lem.ensures, c.if-not-left.false)

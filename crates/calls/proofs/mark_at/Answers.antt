@@ -1,0 +1,74 @@
+-- The number says which test failed; past them the marks are moved, or damage is met. Assumes nothing.
+use mathlib.Core.Path.{sym, ◌∙◌}
+use borrow.Author.Tests.{not-true, not-false}
+use Rattle.words.specs.After.{yields}
+use Rattle.record.specs.Record.{record_by}
+use Rattle.calls.specs.Calls.{mark_moves}
+use Rattle.calls.proofs.Laws.{broken}
+use Rattle.calls.proofs.Marks.{mark_refused, mark_moved, turn_moved, turn_damaged}
+use Rattle.calls.proofs.Ranges.{fits_levels, fits_ready, mark_level}
+use borrow.Author.Rules.{rules}
+use Rattle.calls.proofs.mark_at.Goals as goal
+
+pub returns-then-not-fits : goal.returns-then-not-fits
+returns-then-not-fits c =
+    let args = c.args in
+    let pre = c.requires in
+    rw c.refused_in.ensures (broken (record_by args.head args.place.now args.ring.now args.order.now) args.mem.now _ (sym pre ∙ c.if-not-fits.true))
+
+pub mark_refusal-refusal-requires : goal.mark_refusal-refusal-requires
+mark_refusal-refusal-requires c =
+    let if1 = c.if-not-fits in
+    let args = c.args in
+    let pre = c.requires in
+    let r = record_by args.head args.place.now args.ring.now args.order.now in
+    (fits_levels r _ (sym pre ∙ if1.false), (fits_ready r _ (sym pre ∙ if1.false)).2)
+
+pub returns-then-refusal-ne0 : goal.returns-then-refusal-ne0
+returns-then-refusal-ne0 c =
+    let if1 = c.if-not-fits in
+    let args = c.args in
+    let pre = c.requires in
+    let r = record_by args.head args.place.now args.ring.now args.order.now in
+    rw c.refused_in-then-refusal-ne0.ensures (mark_refused args.setting r args.mem.now args.address args.level (sym pre ∙ if1.false) _ c.mark_refusal-refusal.ensures c.if-refusal-ne0.true)
+
+pub mark_moves-moved-requires : goal.mark_moves-moved-requires
+mark_moves-moved-requires c =
+    let if2 = c.if-refusal-ne0 in
+    let mark-refusal = c.mark_refusal-refusal in
+    let if1 = c.if-not-fits in
+    let args = c.args in
+    let pre = c.requires in
+    let r = record_by args.head args.place.now args.ring.now args.order.now in
+    (fits_ready r _ (sym pre ∙ if1.false), mark_level args.setting r args.address args.level (fits_levels r _ (sym pre ∙ if1.false)) (sym mark-refusal.ensures ∙ if2.false))
+
+pub shape_of-mem-then-not-moved : goal.shape_of-mem-then-not-moved
+shape_of-mem-then-not-moved c = c.mark_moves-moved.auto.1.1.1.1.0
+
+pub returns-then-not-moved : goal.returns-then-not-moved
+returns-then-not-moved c =
+    let mark-moves = c.mark_moves-moved in
+    let if2 = c.if-refusal-ne0 in
+    let mark-refusal = c.mark_refusal-refusal in
+    let if1 = c.if-not-fits in
+    let args = c.args in
+    let pre = c.requires in
+    let r = record_by args.head args.place.now args.ring.now args.order.now in
+    rw c.refused_in-then-not-moved.ensures
+    (turn_damaged args.head args.place.now args.ring.now args.order.now (mark_moves args.setting r args.mem.now args.address args.level) (yields mark-moves.result mark-moves.new.1.1.1.1.0) _ _ mark-moves.ensures (c.if-not-moved.true)
+    ∙ mark_moved args.setting r args.mem.now args.address args.level (sym pre ∙ if1.false) (sym mark-refusal.ensures ∙ if2.false))
+
+pub shape_of-mem : goal.shape_of-mem
+shape_of-mem c = c.mark_moves-moved.auto.1.1.1.1.0
+
+pub returns : goal.returns
+returns c =
+    let mark-moves = c.mark_moves-moved in
+    let if2 = c.if-refusal-ne0 in
+    let mark-refusal = c.mark_refusal-refusal in
+    let if1 = c.if-not-fits in
+    let args = c.args in
+    let pre = c.requires in
+    let r = record_by args.head args.place.now args.ring.now args.order.now in
+    turn_moved args.head args.place.now args.ring.now args.order.now (mark_moves args.setting r args.mem.now args.address args.level) (yields mark-moves.result mark-moves.new.1.1.1.1.0) _ _ mark-moves.ensures (c.if-not-moved.false)
+    ∙ mark_moved args.setting r args.mem.now args.address args.level (sym pre ∙ if1.false) (sym mark-refusal.ensures ∙ if2.false)
