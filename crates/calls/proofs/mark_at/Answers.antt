@@ -41,34 +41,3 @@ mark_moves-moved-requires c =
     let pre = c.requires in
     let r = record_by args.head args.place.now args.ring.now args.order.now in
     (fits_ready r _ (sym pre ∙ if1.false), mark_level args.setting r args.address args.level (fits_levels r _ (sym pre ∙ if1.false)) (sym mark-refusal.ensures ∙ if2.false))
-
-pub shape_of-mem-then-not-moved : goal.shape_of-mem-then-not-moved
-shape_of-mem-then-not-moved c = c.mark_moves-moved.auto.1.1.1.1.0
-
-pub returns-then-not-moved : goal.returns-then-not-moved
-returns-then-not-moved c =
-    let mark-moves = c.mark_moves-moved in
-    let if2 = c.if-refusal-ne0 in
-    let mark-refusal = c.mark_refusal-refusal in
-    let if1 = c.if-not-fits in
-    let args = c.args in
-    let pre = c.requires in
-    let r = record_by args.head args.place.now args.ring.now args.order.now in
-    rw c.refused_in-then-not-moved.ensures
-    (turn_damaged args.head args.place.now args.ring.now args.order.now (mark_moves args.setting r args.mem.now args.address args.level) (yields mark-moves.result mark-moves.new.1.1.1.1.0) _ _ mark-moves.ensures (c.if-not-moved.true)
-    ∙ mark_moved args.setting r args.mem.now args.address args.level (sym pre ∙ if1.false) (sym mark-refusal.ensures ∙ if2.false))
-
-pub shape_of-mem : goal.shape_of-mem
-shape_of-mem c = c.mark_moves-moved.auto.1.1.1.1.0
-
-pub returns : goal.returns
-returns c =
-    let mark-moves = c.mark_moves-moved in
-    let if2 = c.if-refusal-ne0 in
-    let mark-refusal = c.mark_refusal-refusal in
-    let if1 = c.if-not-fits in
-    let args = c.args in
-    let pre = c.requires in
-    let r = record_by args.head args.place.now args.ring.now args.order.now in
-    turn_moved args.head args.place.now args.ring.now args.order.now (mark_moves args.setting r args.mem.now args.address args.level) (yields mark-moves.result mark-moves.new.1.1.1.1.0) _ _ mark-moves.ensures (c.if-not-moved.false)
-    ∙ mark_moved args.setting r args.mem.now args.address args.level (sym pre ∙ if1.false) (sym mark-refusal.ensures ∙ if2.false)

@@ -1,7 +1,8 @@
--- Damage met by the drops, or the charge on what they left, and then the rest. Assumes nothing.
+-- Damage met by the drops, or the charge on what they left, and then the rest.
 use mathlib.Core.Path.{◌≡◌, refl, sym, ap, ◌∙◌, subst}
 use Prim.Native.Nat.{◌+◌, ◌-◌, ◌*◌, ◌^◌, ◌≤◌}
 use native.Mathlib.Omega.{arith}
+use mathlib.Core.Bool.{true, false}
 use borrow.Author.Tests.{not-true, not-false}
 use lib.Pow.{pow_mono}
 use Rattle.spec.specs.Entry.{word_of}
@@ -16,14 +17,6 @@ use Rattle.calls.specs.Calls.{head_held, with_held, turn_in, store_charged_of}
 use Rattle.calls.proofs.Stores.{settled_turn_lem}
 use borrow.Author.Rules.{rules}
 use Rattle.calls.proofs.store_charged.Goals as goal
-
-pub returns-then-not-put : goal.returns-then-not-put
-unfolding store_charged_of
-returns-then-not-put c =
-    let drop-readers = c.drop_readers-put in
-    let args = c.args in
-    let r = record_by args.head args.place.now args.ring.now args.order.now in
-    rw (← drop-readers.ensures, c.if-not-put.true, c.refused_in.ensures)
 
 pub charge-moved-requires : goal.charge-moved-requires
 unfolding head_tables
@@ -51,26 +44,35 @@ store_settled-requires c =
     let pre = c.requires in
     (pre.0.0.0, pre.2.1, pre.1)
 
+pub returns-then-not-put : goal.returns-then-not-put
+unfolding store_charged_of
+returns-then-not-put c =
+    let drop-readers = c.drop_readers-put in
+    let args = c.args in
+    let r = record_by args.head args.place.now args.ring.now args.order.now in
+    let bad : drop-readers.result.ok ≡ false = not-true _ c.if-not-put.true in
+    rw (← drop-readers.ensures, bad, c.refused_in.ensures)
+
 pub shape_of-mem : goal.shape_of-mem
 shape_of-mem c =
     let charge = c.charge-moved in
     let drop-readers = c.drop_readers-put in
-    c.store_settled.auto.1.1.0 ∙ charge.auto.1.1.1.1.0 ∙ drop-readers.auto.0
+    c.store_settled.auto.mem ∙ charge.auto.mem ∙ drop-readers.auto.mem
 
 pub returns : goal.returns
 unfolding store_charged_of head_held head_tables
 returns c =
     let charge = c.charge-moved in
     let with-shadow = c.with_shadow in
-    let if1 = c.if-not-put in
     let drop-readers = c.drop_readers-put in
+    let good : drop-readers.result.ok ≡ true = not-false _ c.if-not-put.false in
     let args = c.args in
     let r = record_by args.head args.place.now args.ring.now args.order.now in
     let x = args.owed in
-    let y = yields (moved_in charge.new.1.0 charge.new.1.1.0 charge.new.1.1.1.0 charge.result) charge.new.1.1.1.1.0 in
+    let y = yields (moved_in charge.new.place charge.new.ring charge.new.order charge.result) charge.new.mem in
     let q = with_held r (record { pool = drop-readers.result.pool; frame = x.held.frame }) in
-    let m = automatic.charged_of q drop-readers.new.0 x.prefix in
+    let m = automatic.charged_of q drop-readers.new.mem x.prefix in
     let went : y ≡ kept_by q m = rw with-shadow.ensures at charge.ensures in
-    rw (← drop-readers.ensures, if1.false)
-    (ap (λ (t : After Turn). yields (turn_in charge.new.1.0 charge.new.1.1.0 charge.new.1.1.1.0 t.result) t.memory) c.store_settled.ensures
-    ∙ settled_turn_lem args.head args.place.now args.ring.now args.order.now args.address args.width args.value x (x.exits + drop-readers.result.exits) q m (yields charge.result charge.new.1.1.1.1.0) _ _ _ refl refl refl went)
+    rw (← drop-readers.ensures, good)
+    (ap (λ (t : After Turn). yields (turn_in charge.new.place charge.new.ring charge.new.order t.result) t.memory) c.store_settled.ensures
+    ∙ settled_turn_lem args.head args.place.now args.ring.now args.order.now args.address args.width args.value x (x.exits + drop-readers.result.exits) q m (yields charge.result charge.new.mem) _ _ _ refl refl refl went)

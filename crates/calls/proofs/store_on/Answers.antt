@@ -53,7 +53,7 @@ returns-then-store_plainly c =
     let args = c.args in
     let r = record_by args.head args.place.now args.ring.now args.order.now in
     let told = rw pre.0 at request-refusal.ensures in
-    rw (c.windowed.ensures, held_in_lem.ensures) (plain_stored r args.mem.now args.address args.width args.value _ (rw (depth.ensures, held_in_lem.ensures) at (ap (λ b. yields b store_plainly.new.0) (sym c.if-store_plainly.true) ∙ store_plainly.ensures)))
+    rw (c.windowed.ensures, held_in_lem.ensures) (plain_stored r args.mem.now args.address args.width args.value _ (rw (depth.ensures, held_in_lem.ensures) at (ap (λ b. yields b store_plainly.new.mem) (sym c.if-store_plainly.true) ∙ store_plainly.ensures)))
     ∙ taken r args.mem.now args.width (address_ok false (config_of r) args.address args.width) _ (sym if1.false ∙ told)
 
 pub store_translated-requires : goal.store_translated-requires
@@ -81,6 +81,6 @@ returns c =
     let args = c.args in
     let r = record_by args.head args.place.now args.ring.now args.order.now in
     let told = rw pre.0 at request-refusal.ensures in
-    let kept = plainly_keeps (config_of r) args.mem.now (held_of r) args.address args.width (depth_at r args.address) args.value _ (rw (depth.ensures, held_in_lem.ensures) at (ap (λ b. yields b store_plainly.new.0) (sym if2.false) ∙ store_plainly.ensures)) in
+    let kept = plainly_keeps (config_of r) args.mem.now (held_of r) args.address args.width (depth_at r args.address) args.value _ (rw (depth.ensures, held_in_lem.ensures) at (ap (λ b. yields b store_plainly.new.mem) (sym if2.false) ∙ store_plainly.ensures)) in
     rw (kept) at c.store_translated.ensures
     ∙ taken r args.mem.now args.width (address_ok false (config_of r) args.address args.width) _ (sym if1.false ∙ told)
