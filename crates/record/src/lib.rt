@@ -77,6 +77,7 @@ pub fn layout(words: u64, hosts: u64, shadows: u64, bits: bool) -> Layout
 // ---- the rules of a record
 
 // Are these choices that an opening has?
+#[tactic(auto, unfolding(crate::specs::Record::choices_fit))]
 fn choices_fit(l: Layout) -> bool
     ensures { result ≡ choices_fit l }
 {
@@ -86,7 +87,8 @@ fn choices_fit(l: Layout) -> bool
     l.bits <= 1
 }
 
-// Have the host tables and the shadow tables room, and is a guest frame left?
+// Have the host tables and the shadow tables room, and is a guest frame left? H is subtracted where the rule adds H and S, so that no sum
+// can overflow.
 pub fn areas_fit(l: Layout) -> bool
     ensures { result ≡ areas_fit (config l) }
 {
@@ -102,7 +104,8 @@ pub fn areas_fit(l: Layout) -> bool
     l.shadows < l.frames - l.hosts
 }
 
-// Are these the sizes of an opened memory of that length?
+// Are these the sizes of an opened memory of that length? The frames are tested before the length, so that their words cannot overflow.
+#[tactic(auto, unfolding(crate::specs::Record::sizes_fit))]
 fn sizes_fit(l: Layout, len: usize) -> bool
     ensures { result ≡ sizes_fit l len }
 {
@@ -119,6 +122,7 @@ fn sizes_fit(l: Layout, len: usize) -> bool
 }
 
 // Is it the entry of a table in an area of frames base to base + size?
+#[tactic(auto, unfolding(crate::specs::Record::is_table))]
 fn is_table(base: u64, size: u64, e: u64) -> bool
     ensures { result ≡ is_table base size e }
 {
@@ -129,6 +133,7 @@ fn is_table(base: u64, size: u64, e: u64) -> bool
 }
 
 // Is what an area keeps in its range?
+#[tactic(auto, unfolding(crate::specs::Record::pool_fits))]
 fn pool_fits(base: u64, size: u64, pool: Pool) -> bool
     ensures { result ≡ pool_fits base size pool }
 {
