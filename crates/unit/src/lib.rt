@@ -20,8 +20,9 @@ fn served(unit: Record, s: Served) -> Reply
 {
     let held = s.held;
     let answer = s.answer;
+    let head = calls::with_held(unit.head(), held);
     Reply {
-        unit: unit.with_head(calls::with_held(unit.head(), held)),
+        unit: unit.with_head(head),
         answer: answer,
     }
 }
@@ -33,8 +34,9 @@ fn windowed(unit: Record, s: Served) -> Reply
     let held = s.held;
     let answer = s.answer;
     let tally = calls::tally_after(unit.guest.choice.tally, answer);
+    let head = calls::with_held(unit.head(), held).with_tally(tally);
     Reply {
-        unit: unit.with_head(calls::with_held(unit.head(), held).with_tally(tally)),
+        unit: unit.with_head(head),
         answer: answer,
     }
 }

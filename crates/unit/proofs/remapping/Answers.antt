@@ -1,0 +1,6 @@
+-- The head gets the tables, and the record the head. Assumes nothing.
+use borrow.Author.Rules.{rules}
+use Rattle.unit.proofs.remapping.Goals as goal
+
+pub returns : goal.returns
+returns c = rw (c.with_head.ensures, c.with_tables-head.ensures, c.head.ensures)
