@@ -1,6 +1,6 @@
 // The job program: records from standard input, a line for each.
 #![tactic(auto)]
 
-fn main() {
-    job_stream::run();
+fn main(rt: HostRuntime) {
+    job_stream::run(&mut rt.stdin(), &mut rt.stdout());
 }

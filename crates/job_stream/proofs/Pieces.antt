@@ -1,9 +1,8 @@
 -- It does not matter in what pieces the input comes: a run of turns hands over what the whole input has written.
--- Assumes nothing.
 use mathlib.Core.Path.{◌≡◌, refl, sym, ap, ap₂, ◌∙◌, subst}
 use mathlib.Core.Bool.{Bool, true, false, cond}
 use mathlib.Core.List.{List, [], ◌∷◌, ◌++◌, append_assoc, append-nil}
-use Prim.Native.Nat.{ℕ, zero, suc, ◌+◌, ◌-◌, ◌≤◌, ◌<◌}
+use Prim.Native.Nat.{ℕ, zero, suc, ◌+◌, ◌≤◌, ◌<◌}
 use native.Mathlib.Omega.{arith}
 use borrow.Author.Tests.{eqb-true, eqb-false}
 use lib.Dec.{eqb}
@@ -225,7 +224,7 @@ both : (t : Bool) → t ≡ true → t ≡ false → ⊥
 both t p q = let z : ◌≡◌ {A = ℕ} 0 1 = cc in omega arith
 
 -- the input i, with whatever is still to come: what a run of turns hands over is what the whole of it has written, as far as it has come
-pub runs_write : {f g : Flow} {m n b c : List ℕ} {k : ℕ} {i o : List ℕ} → Runs f m b k i o g n c → (rest : List ℕ) → (g.more ≡ false → rest ≡ [])
+pub runs_write : {f : Flow} {m b : List ℕ} {g : Flow} {n c : List ℕ} {k : ℕ} {i o : List ℕ} → Runs f m b k i o g n c → (rest : List ℕ) → (g.more ≡ false → rest ≡ [])
     → to_write f m (unread f b ++ (i ++ rest)) ≡ o ++ to_write g n (unread g c ++ rest)
 runs_write start rest last = refl
 runs_write {f} {m} {b} (then {i} {o} {x} {y} {z} g n c t more turn) rest last =
