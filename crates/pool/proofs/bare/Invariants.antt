@@ -1,10 +1,7 @@
 -- The loop comes down from 512: while no entry from k on is present, the first k are bare exactly if all 512 are.
 use Prim.Native.Nat.{◌≤◌}
-use native.Mathlib.Omega.{arith}
-use mathlib.Core.Path.{◌≡◌, refl}
+use mathlib.Core.Path.{◌≡◌}
 use Rattle.pool.specs.Header.{bare_of}
-use Rattle.pool.proofs.Laws.{bare_more, bare_none}
-use borrow.Author.Rules.{rules}
 use Rattle.pool.proofs.bare.Given as goal
 
 abbrev pub invariant-loop-k : goal.invariant-loop-k

@@ -1,6 +1,5 @@
 -- The word read, less its header bits: the definition takes the same remainder.
 use Rattle.pool.specs.Header.{entry_at_of}
-use borrow.Author.Rules.{rules}
 use Rattle.pool.proofs.entry_at.Goals as goal
 
 pub returns : goal.returns

@@ -1,6 +1,5 @@
 -- Three ends, as the definition has them: not present, in the area, outside it.
 use Rattle.pool.specs.Pool.{follow_of}
-use borrow.Author.Rules.{rules}
 use Rattle.pool.proofs.follow.Goals as goal
 
 pub returns-then-inside : goal.returns-then-inside

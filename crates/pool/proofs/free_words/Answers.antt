@@ -1,6 +1,5 @@
 -- Word 0 gets the link, then word 1 is cleared: the definition's two stores, in its order.
 use Rattle.pool.specs.Pool.{free_words}
-use borrow.Author.Rules.{rules}
 use Rattle.pool.proofs.free_words.Goals as goal
 
 pub returns : goal.returns

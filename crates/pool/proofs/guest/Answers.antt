@@ -1,6 +1,5 @@
 -- The low bits and the upper ones, put together as in the definition.
 use Rattle.pool.specs.Header.{guest_of}
-use borrow.Author.Rules.{rules}
 use Rattle.pool.proofs.guest.Goals as goal
 
 pub returns : goal.returns

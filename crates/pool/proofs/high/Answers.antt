@@ -1,6 +1,5 @@
 -- The word read, divided by the entry limit as in the definition.
 use Rattle.pool.specs.Header.{high_of}
-use borrow.Author.Rules.{rules}
 use Rattle.pool.proofs.high.Goals as goal
 
 pub returns : goal.returns

@@ -1,6 +1,5 @@
 -- The header's frame number in words 2 and 3, which the call reads just as the definition says.
 use Rattle.pool.specs.Header.{parent_of}
-use borrow.Author.Rules.{rules}
 use Rattle.pool.proofs.parent.Goals as goal
 
 pub returns : goal.returns

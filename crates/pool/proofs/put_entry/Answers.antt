@@ -1,6 +1,5 @@
 -- The word stored has the header bits of the word read and the low 52 bits of e; the two share no bit, so their sum fits.
 use Rattle.pool.specs.Header.{put_entry_of}
-use borrow.Author.Rules.{rules}
 use Rattle.pool.proofs.put_entry.Goals as goal
 
 pub returns : goal.returns

@@ -4,7 +4,6 @@ use Prim.Native.Nat.{◌<◌}
 use native.Mathlib.Omega.{arith}
 use Rattle.pool.specs.Header.{guest_of}
 use Rattle.pool.proofs.Laws.{low_same, low_other}
-use borrow.Author.Rules.{rules}
 use Rattle.pool.proofs.stands_for.Goals as goal
 
 pub returns-then-frame_at-guest : goal.returns-then-frame_at-guest

@@ -3,7 +3,6 @@ use native.Mathlib.Omega.{arith}
 use borrow.Author.Tests.{lt-ltb, le-ltb}
 use Rattle.pool.specs.Pool.{take_of}
 use Rattle.pool.proofs.Laws.{follow_good}
-use borrow.Author.Rules.{rules}
 use Rattle.pool.proofs.take_frame.Goals as goal
 
 pub take_freed-requires : goal.take_freed-requires

@@ -1,6 +1,5 @@
 -- The link is read before the frame is set to 0, so it is the old memory's, as in the definition.
 use Rattle.pool.specs.Pool.{freed_of}
-use borrow.Author.Rules.{rules}
 use Rattle.pool.proofs.take_freed.Goals as goal
 
 pub returns : goal.returns

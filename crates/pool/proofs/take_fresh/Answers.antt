@@ -1,7 +1,6 @@
 -- One test: the next frame lies in the area and is set to 0, or the count of frames handed out is past it, which is damage.
 use borrow.Author.Tests.{lt-ltb, le-ltb}
 use Rattle.pool.specs.Pool.{fresh_of}
-use borrow.Author.Rules.{rules}
 use Rattle.pool.proofs.take_fresh.Goals as goal
 
 pub returns-then-pool-area : goal.returns-then-pool-area

@@ -1,5 +1,4 @@
 -- The high parts of four words, put together as in the definition.
-use borrow.Author.Rules.{rules}
 use Rattle.pool.proofs.upper.Goals as goal
 
 pub returns : goal.returns

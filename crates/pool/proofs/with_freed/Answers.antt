@@ -3,7 +3,6 @@ use Prim.Native.Nat.{◌-◌}
 use native.Mathlib.Omega.{arith}
 use mathlib.Core.Path.{◌≡◌, refl}
 use Rattle.pool.specs.Pool.{link, with_freed}
-use borrow.Author.Rules.{rules}
 use Rattle.pool.proofs.with_freed.Goals as goal
 
 pub returns-then-pool-eq0 : goal.returns-then-pool-eq0

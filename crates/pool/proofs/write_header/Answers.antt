@@ -1,6 +1,5 @@
 -- Five stores and those of the upper bits: each promise names the memory before it, as the definition nests them.
 use Rattle.pool.specs.Header.{written, header_of}
-use borrow.Author.Rules.{rules}
 use Rattle.pool.proofs.write_header.Goals as goal
 
 pub returns : goal.returns

@@ -1,6 +1,5 @@
 -- Four stores: each promise names the memory before it, as the definition nests them.
 use Rattle.pool.specs.Header.{written}
-use borrow.Author.Rules.{rules}
 use Rattle.pool.proofs.write_upper.Goals as goal
 
 pub returns : goal.returns
