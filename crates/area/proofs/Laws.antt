@@ -1,5 +1,4 @@
 -- The steps of the loops' definitions, and what tables handed out and lookups always satisfy.
--- Assumes nothing.
 use mathlib.Core.Path.{◌≡◌, refl, sym, ap}
 use Prim.Native.Nat.{ℕ, ◌+◌, ◌-◌, ◌≤◌, ◌<◌}
 use native.Mathlib.Omega.{arith}

@@ -3,7 +3,6 @@ use native.Mathlib.Omega.{arith}
 use Rattle.pool.specs.Pool.{link}
 use Rattle.area.specs.Tree.{attach_of}
 use Rattle.area.proofs.Laws.{table_good}
-use borrow.Author.Rules.{rules}
 use Rattle.area.proofs.attach.Goals as goal
 
 pub overflow_mul-h : goal.overflow_mul-h

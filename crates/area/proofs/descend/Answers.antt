@@ -1,6 +1,5 @@
 -- The entry at the index decides: the table it names, a new one attached there, or damage.
 use Rattle.area.specs.Tree.{descend_of}
-use borrow.Author.Rules.{rules}
 use Rattle.area.proofs.descend.Goals as goal
 
 pub returns-in-To : goal.returns-in-To

@@ -1,14 +1,12 @@
 -- The loop goes down the path: what is left of the descent, from table t with the pool so far, gives what the whole gives.
-use Prim.Native.Nat.{◌+◌, ◌-◌, ◌<◌}
+use Prim.Native.Nat.{◌+◌, ◌-◌}
 use native.Mathlib.Omega.{arith}
 use mathlib.Core.Path.{◌≡◌, sym, ◌∙◌}
-use lib.ListN.{length}
-use Rattle.spec.specs.Entry.{index, indexes, frame_limit}
+use Rattle.spec.specs.Entry.{index, indexes}
 use Rattle.area.specs.Tree.{onward, down_of}
 use Rattle.pool.proofs.Laws.{AreaGood}
 use Rattle.area.proofs.Laws.{descend_good, down_step, down_last}
 use Rattle.entry.proofs.Entries.{index_fits}
-use borrow.Author.Rules.{rules}
 use Rattle.words.specs.After.{yields}
 use Rattle.area.proofs.down.Goals.{After-descend-went}
 use Rattle.area.proofs.down.Goals as goal

@@ -1,6 +1,5 @@
 -- The pool's top entry decides: the table it names, a new top table, or damage.
 use Rattle.area.specs.Tree.{enter_of}
-use borrow.Author.Rules.{rules}
 use Rattle.area.proofs.enter.Goals as goal
 
 pub returns-in-To : goal.returns-in-To

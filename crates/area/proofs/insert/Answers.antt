@@ -6,7 +6,6 @@ use mathlib.Core.List.{◌∷◌}
 use Rattle.spec.specs.Entry.{index, indexes}
 use Rattle.area.specs.Tree.{room_of, insert_of}
 use Rattle.spec_laws.proofs.Indexes.{indexes_step}
-use borrow.Author.Rules.{rules}
 use Rattle.area.proofs.insert.Goals.{After-room}
 use Rattle.area.proofs.insert.Goals as goal
 

@@ -1,13 +1,10 @@
 -- The loop goes down the path: the lookup of what is left, from the entry at hand with the words read, is the whole lookup.
-use Prim.Native.Nat.{◌+◌, ◌-◌, ◌≤◌}
+use Prim.Native.Nat.{◌-◌}
 use native.Mathlib.Omega.{arith}
 use mathlib.Core.Path.{◌≡◌, sym, ◌∙◌}
-use Rattle.spec.specs.Entry.{indexes}
-use Rattle.area.specs.Tree.{lookup_of}
 use Rattle.pool.proofs.Laws.{follow_small}
 use Rattle.area.proofs.Laws.{look_step, look_last}
 use Rattle.entry.proofs.Entries.{index_fits}
-use borrow.Author.Rules.{rules}
 use Rattle.area.proofs.lookup.Goals as goal
 
 pub entry_at-at-requires : goal.entry_at-at-requires

@@ -2,7 +2,6 @@
 use native.Mathlib.Omega.{arith}
 use Rattle.area.specs.Tree.{new_table_of}
 use Rattle.pool.proofs.Laws.{take_good}
-use borrow.Author.Rules.{rules}
 use Rattle.area.proofs.new_table.Goals as goal
 
 pub write_header-requires : goal.write_header-requires

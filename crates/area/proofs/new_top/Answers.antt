@@ -3,7 +3,6 @@ use native.Mathlib.Omega.{arith}
 use Rattle.pool.specs.Pool.{link}
 use Rattle.area.specs.Tree.{new_top_of}
 use Rattle.area.proofs.Laws.{table_good}
-use borrow.Author.Rules.{rules}
 use Rattle.area.proofs.new_top.Goals as goal
 
 pub overflow_mul-f : goal.overflow_mul-f

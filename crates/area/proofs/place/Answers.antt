@@ -2,7 +2,6 @@
 use native.Mathlib.Omega.{arith}
 use Rattle.area.specs.Tree.{place_of}
 use Rattle.area.proofs.Laws.{enter_good}
-use borrow.Author.Rules.{rules}
 use Rattle.area.proofs.place.Goals as goal
 
 pub down-requires : goal.down-requires

@@ -4,7 +4,6 @@ use Rattle.spec.specs.Entry.{indexes}
 use Rattle.area.specs.Tree.{room_of}
 use Rattle.area.proofs.Laws.{LookGood, look_good}
 use Rattle.spec_laws.proofs.Indexes.{indexes_length}
-use borrow.Author.Rules.{rules}
 use Rattle.area.proofs.room.Goals.{After-lookup}
 use Rattle.area.proofs.room.Goals as goal
 
