@@ -1,5 +1,4 @@
 -- The steps of the loops' definitions, and what a table given back and a search always satisfy.
--- Assumes nothing.
 use mathlib.Core.Path.{◌≡◌, refl, ap}
 use Prim.Native.Nat.{ℕ, zero, suc, ◌-◌, ◌<◌}
 use native.Mathlib.Omega.{arith}

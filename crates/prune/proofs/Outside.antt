@@ -1,5 +1,4 @@
 -- Whatever the memory holds, no step of a remove changes a word outside the area.
--- Assumes nothing.
 use mathlib.Core.Path.{◌≡◌, refl}
 use Prim.Native.Nat.{ℕ, zero, suc, ◌<◌}
 use mathlib.Core.Bool.{Bool, true, false, cond}

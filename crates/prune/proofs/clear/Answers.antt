@@ -1,5 +1,4 @@
 -- The entry decides: if it is present, the tables are released in the memory in which it is 0, else nothing changes.
-use borrow.Author.Rules.{rules}
 use Rattle.prune.specs.Remove.{clear_of}
 use Rattle.prune.proofs.clear.Goals as goal
 

@@ -2,7 +2,6 @@
 use native.Mathlib.Omega.{arith}
 use Rattle.prune.specs.Remove.{detach_of}
 use Rattle.pool.proofs.Laws.{parent_small, slot_small}
-use borrow.Author.Rules.{rules}
 use Rattle.prune.proofs.detach.Goals as goal
 
 pub put_entry-requires : goal.put_entry-requires

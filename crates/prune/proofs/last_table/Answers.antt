@@ -1,13 +1,9 @@
 -- The loop goes down the path: the table that ends what is left, from the entry at hand, is the one that ends the whole.
-use Prim.Native.Nat.{◌≤◌}
 use native.Mathlib.Omega.{arith}
 use mathlib.Core.Path.{◌≡◌, sym, ◌∙◌}
-use Rattle.spec.specs.Entry.{index, indexes}
-use Rattle.prune.specs.Remove.{last_table_of}
 use Rattle.pool.proofs.Laws.{follow_small}
 use Rattle.prune.proofs.Laws.{last_step, last_none}
 use Rattle.entry.proofs.Entries.{index_fits}
-use borrow.Author.Rules.{rules}
 use Rattle.prune.proofs.last_table.Goals as goal
 
 pub entry_at-at-requires : goal.entry_at-at-requires

@@ -1,12 +1,7 @@
 -- The loop climbs from table to table: what is left of the release gives the whole; a table climbed to lies in the area.
-use Prim.Native.Nat.{◌<◌}
 use native.Mathlib.Omega.{arith}
 use mathlib.Core.Path.{◌≡◌, refl, ◌∙◌}
-use lib.ListN.{length}
-use Rattle.spec.specs.Entry.{frame_limit}
-use Rattle.prune.specs.Remove.{release_of}
 use Rattle.prune.proofs.Laws.{detach_good, release_step, release_none}
-use borrow.Author.Rules.{rules}
 use Rattle.prune.proofs.release.Goals as goal
 
 pub loop-links-init : goal.loop-links-init

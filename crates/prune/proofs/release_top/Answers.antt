@@ -1,6 +1,5 @@
 -- Three ends: the top table stays by the flag, goes since it is bare, or stays since it is not.
 use Rattle.prune.specs.Remove.{release_top}
-use borrow.Author.Rules.{rules}
 use Rattle.prune.proofs.release_top.Goals as goal
 
 pub returns-then-stays : goal.returns-then-stays

@@ -6,7 +6,6 @@ use Rattle.prune.specs.Remove.{remove_of}
 use Rattle.prune.proofs.Laws.{indexes_last, last_small}
 use Rattle.spec_laws.proofs.Indexes.{indexes_step, indexes_length}
 use Rattle.entry.proofs.Entries.{index_fits}
-use borrow.Author.Rules.{rules}
 use Rattle.prune.proofs.remove.Goals as goal
 
 pub clear-requires : goal.clear-requires
