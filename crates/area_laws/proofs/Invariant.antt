@@ -1,6 +1,5 @@
 -- Tables in an area by paths: which table stands for a prefix, which entry stands at a path.
 -- A path or prefix is written last index first here: i ∷ q is q and then i.
--- Assumes nothing.
 use mathlib.Core.Path.{◌≡◌, refl, sym, ap, ◌∙◌, subst}
 use mathlib.Core.Logic.{◌≢◌, ◌⊎◌, inl, inr}
 use Prim.Native.Nat.{ℕ, ◌+◌, ◌*◌, ◌-◌, ◌/◌, ◌%◌, ◌^◌, ◌<◌, ◌≤◌}

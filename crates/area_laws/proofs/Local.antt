@@ -1,5 +1,4 @@
 -- A lookup depends on the entries that it reads, and on no other word; for any memory.
--- Assumes nothing.
 use mathlib.Core.Path.{◌≡◌, refl, ap, ◌∙◌}
 use Prim.Native.Nat.{ℕ, suc, ◌+◌}
 use native.Mathlib.Omega.{arith}

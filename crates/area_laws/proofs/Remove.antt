@@ -1,5 +1,4 @@
 -- A remove by paths: that leaf is cleared, and every table left has a leaf below it.
--- Assumes nothing.
 use mathlib.Core.Path.{◌≡◌, refl, sym, ap, ◌∙◌, subst}
 use mathlib.Core.Logic.{◌≢◌}
 use Prim.Native.Nat.{ℕ, ◌+◌, ◌<◌}

@@ -1,5 +1,4 @@
 -- Where a list of calls begins: an area with nothing in it, with or without a top table that stays; and paths of one length always fit.
--- Assumes nothing.
 use mathlib.Core.Path.{◌≡◌, refl, sym, ap, ◌∙◌, subst}
 use mathlib.Core.Logic.{◌≢◌}
 use Prim.Native.Nat.{ℕ, ◌+◌, ◌*◌, ◌<◌, ◌≤◌}

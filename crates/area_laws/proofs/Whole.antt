@@ -1,6 +1,5 @@
 -- An area that holds exactly the leaves lv: tables stand above them and nowhere else, but for a top table that stays.
 -- What upper crates need of it: where it begins, lookup, insert and remove, and what of the memory it depends on.
--- Assumes nothing.
 use mathlib.Core.Path.{◌≡◌, refl, sym, ap, ◌∙◌, subst}
 use mathlib.Core.Logic.{◌≢◌, ◌⊎◌, inl, inr}
 use Prim.Native.Nat.{ℕ, ◌+◌, ◌*◌, ◌<◌, ◌≤◌}
