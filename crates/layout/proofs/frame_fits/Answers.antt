@@ -2,7 +2,6 @@
 use Rattle.spec.specs.Config.{frame_bits}
 use Rattle.layout.specs.Layout.{config}
 use Rattle.entry.proofs.Entries.{shift_out}
-use borrow.Author.Rules.{rules}
 use Rattle.layout.proofs.frame_fits.Goals as goal
 
 pub returns : goal.returns

@@ -1,6 +1,5 @@
 -- The guest area's first frame is the sum of two sizes, small by the layout; then the tests are the definition's.
 use borrow.Author.Tests.{le-leb, lt-leb}
-use borrow.Author.Rules.{rules}
 use Rattle.layout.proofs.in_guest_area.Goals as goal
 
 pub returns-then-layout-frame : goal.returns-then-layout-frame

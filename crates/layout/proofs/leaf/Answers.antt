@@ -1,6 +1,5 @@
 -- Absent, damaged or found: by the present bit, then by whether the frame lies in the guest area.
 use Rattle.layout.specs.Layout.{leaf_of}
-use borrow.Author.Rules.{rules}
 use Rattle.layout.proofs.leaf.Goals as goal
 
 pub returns-then-in_guest_area : goal.returns-then-in_guest_area

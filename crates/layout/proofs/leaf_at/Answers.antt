@@ -1,5 +1,4 @@
 -- The lookup comes to an entry, whose leaf is the answer, or to damage.
-use borrow.Author.Rules.{rules}
 use Rattle.layout.proofs.leaf_at.Goals as goal
 
 pub returns-in-Seen : goal.returns-in-Seen
