@@ -1,5 +1,4 @@
 -- A fill hands out no more frames than the shadow tables have.
--- Assumes nothing.
 use Prim.Native.Nat.{ℕ}
 use mathlib.Core.List.{List}
 use Rattle.spec.specs.Config.{Config}

@@ -1,5 +1,4 @@
 -- A fill changes nothing outside the shadow tables, whatever the memory holds.
--- Assumes nothing.
 use Prim.Native.Nat.{ℕ, ◌+◌, ◌<◌, ◌≤◌}
 use mathlib.Core.List.{List}
 use Rattle.spec.specs.Config.{Config}

@@ -2,7 +2,6 @@
 use native.Mathlib.Omega.{arith}
 use Rattle.shadow.specs.Held.{entry_for}
 use Rattle.shadow.proofs.Laws.{bit_small}
-use borrow.Author.Rules.{rules}
 use Rattle.shadow.proofs.entry_for.Goals as goal
 
 pub overflow_add-result : goal.overflow_add-result

@@ -1,7 +1,6 @@
 -- The first insert's way decides; only where it found no room is it tried again, from an empty pool, on the same area.
 use native.Mathlib.Omega.{arith}
 use Rattle.shadow.specs.Fill.{fill_of}
-use borrow.Author.Rules.{rules}
 use Rattle.shadow.proofs.fill.Goals as goal
 
 pub insert-went-requires : goal.insert-went-requires

@@ -1,6 +1,5 @@
 -- The leaf at the end of the path in the S frames after the host's: code and definition say the same.
 use Rattle.shadow.specs.Held.{held_of}
-use borrow.Author.Rules.{rules}
 use Rattle.shadow.proofs.held.Goals as goal
 
 pub returns : goal.returns

@@ -1,10 +1,7 @@
 -- The loop comes down over the frames handed out: none from k on watches, so any does exactly if one of the first k does.
-use mathlib.Core.Path.{◌≡◌, refl}
-use Prim.Native.Nat.{◌-◌, ◌≤◌}
-use native.Mathlib.Omega.{arith}
-use Rattle.shadow.specs.Watch.{watched_from, watched_of}
-use Rattle.shadow.proofs.Laws.{watched_step, watched_none}
-use borrow.Author.Rules.{rules}
+use mathlib.Core.Path.{◌≡◌}
+use Prim.Native.Nat.{◌≤◌}
+use Rattle.shadow.specs.Watch.{watched_from}
 use Rattle.shadow.proofs.watched.Given as goal
 
 abbrev pub invariant-loop-k : goal.invariant-loop-k

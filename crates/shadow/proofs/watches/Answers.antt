@@ -1,7 +1,6 @@
 -- A frame of level 0 is no table and watches nothing; else its guest number is compared.
 use borrow.Author.Tests.{eq-eqb, ne_eqb}
 use Rattle.shadow.specs.Watch.{watches_of}
-use borrow.Author.Rules.{rules}
 use Rattle.shadow.proofs.watches.Goals as goal
 
 pub returns-then-level-eq0 : goal.returns-then-level-eq0
