@@ -1,12 +1,8 @@
 -- Invariant: clearing on from i, in the memory so far, ends as clearing all from lo on; a damaged entry ends it there.
-use mathlib.Core.Path.{◌≡◌, refl, ◌∙◌}
-use Prim.Native.Nat.{◌-◌, ◌≤◌}
+use mathlib.Core.Path.{refl, ◌∙◌}
 use native.Mathlib.Omega.{arith}
 use Rattle.layout.specs.Layout.{config}
-use lib.ListN.{length}
-use Rattle.drops.specs.Drop.{clear_leaves_of}
 use Rattle.drops.proofs.Laws.{clear_step, clear_none}
-use borrow.Author.Rules.{rules}
 use Rattle.drops.proofs.clear_leaves.Goals as goal
 
 pub loop-i-init : goal.loop-i-init

@@ -1,12 +1,9 @@
 -- Invariant: clearing on from i, in the memory so far, ends as clearing all from lo on; a damaged entry ends it there.
-use mathlib.Core.Path.{◌≡◌, refl, ◌∙◌}
+use mathlib.Core.Path.{◌≡◌}
 use Prim.Native.Nat.{◌-◌, ◌≤◌}
-use native.Mathlib.Omega.{arith}
 use Rattle.layout.specs.Layout.{config}
 use lib.ListN.{length}
 use Rattle.drops.specs.Drop.{clear_leaves_of}
-use Rattle.drops.proofs.Laws.{clear_step, clear_none}
-use borrow.Author.Rules.{rules}
 use Rattle.drops.proofs.clear_leaves.Given as goal
 
 abbrev pub invariant-loop-i : goal.invariant-loop-i

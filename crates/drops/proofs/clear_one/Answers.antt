@@ -1,6 +1,5 @@
 -- By the entry's kind: a leaf is cleared if it goes, damage says no, all others stay as they are.
 use Rattle.drops.specs.Drop.{clear_one_of}
-use borrow.Author.Rules.{rules}
 use Rattle.drops.proofs.clear_one.Goals as goal
 
 pub returns-in-Gone : goal.returns-in-Gone

@@ -1,6 +1,5 @@
 -- One arm for each kind of cut.
 use borrow.Author.Tests.{eq-eqb, ne_eqb}
-use borrow.Author.Rules.{rules}
 use Rattle.drops.proofs.cut_at.Goals as goal
 
 pub returns-then-at-index : goal.returns-then-at-index

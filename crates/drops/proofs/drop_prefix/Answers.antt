@@ -1,5 +1,4 @@
 -- A prefix of no index drops all; else the scan cuts at its last entry, in the table that holds it, if there is one.
-use borrow.Author.Rules.{rules}
 use native.Mathlib.Omega.{arith}
 use mathlib.Core.Path.{◌≡◌}
 use Rattle.layout.specs.Layout.{config}

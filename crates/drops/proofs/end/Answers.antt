@@ -1,5 +1,4 @@
 -- By the kind of cut; a remainder by 512 leaves room for the 1 that is added.
-use borrow.Author.Rules.{rules}
 use Rattle.drops.proofs.end.Goals as goal
 
 pub returns-in-Word : goal.returns-in-Word

@@ -1,6 +1,5 @@
 -- Where all go the cut is not asked; else its answer is the definition's.
 use Rattle.drops.specs.Drop.{goes_of}
-use borrow.Author.Rules.{rules}
 use Rattle.drops.proofs.goes.Goals as goal
 
 pub returns-then-all : goal.returns-then-all

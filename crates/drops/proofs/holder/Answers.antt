@@ -1,13 +1,9 @@
 -- The loop goes down the prefix: the holder of what is left, from the entry at hand, is the holder of the whole.
 use mathlib.Core.Path.{◌≡◌, refl}
-use Prim.Native.Nat.{◌-◌, ◌≤◌}
 use native.Mathlib.Omega.{arith}
 use Rattle.layout.specs.Layout.{config}
-use Rattle.spec.specs.Entry.{index, indexes}
-use Rattle.drops.specs.Drop.{holder_of}
 use Rattle.entry.proofs.Entries.{index_fits}
 use Rattle.drops.proofs.Laws.{named_small, holder_step, holder_none}
-use borrow.Author.Rules.{rules}
 use Rattle.drops.proofs.holder.Goals as goal
 
 pub loop-left-init : goal.loop-left-init

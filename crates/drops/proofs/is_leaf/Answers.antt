@@ -1,6 +1,5 @@
 -- In a table of level 1 each present entry is a leaf; above it the switch bit says so.
 use Rattle.drops.specs.Cut.{is_leaf}
-use borrow.Author.Rules.{rules}
 use Rattle.drops.proofs.is_leaf.Goals as goal
 
 pub returns-then-lowest : goal.returns-then-lowest

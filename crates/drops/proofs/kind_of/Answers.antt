@@ -1,6 +1,5 @@
 -- Five ends: absent, a leaf in the guest area or not, a table in the shadow area or not.
 use Rattle.drops.specs.Cut.{kind_of}
-use borrow.Author.Rules.{rules}
 use Rattle.drops.proofs.kind_of.Goals as goal
 
 pub returns-then-in_guest_area : goal.returns-then-in_guest_area

@@ -4,7 +4,6 @@ use Prim.Native.Nat.{◌+◌, ◌-◌}
 use native.Mathlib.Omega.{arith}
 use lib.Dec.{eqb}
 use borrow.Author.Tests.{ne_eqb}
-use borrow.Author.Rules.{rules}
 use Rattle.spec.specs.Entry.{frame_of, large}
 use Rattle.layout.specs.Layout.{config}
 use Rattle.drops.proofs.Laws.{lead_large, lead_named, lead_part, lead_page, sum_test}

@@ -2,7 +2,6 @@
 use native.Mathlib.Omega.{arith}
 use Rattle.drops.specs.Cut.{link_up_of}
 use Rattle.pool.proofs.Laws.{parent_small, slot_small}
-use borrow.Author.Rules.{rules}
 use Rattle.drops.proofs.link_up.Goals as goal
 
 pub cut_at-requires : goal.cut_at-requires

@@ -1,12 +1,8 @@
 -- The loop climbs the links: what is left of the climb ends as the whole does; a parent is below the frame limit.
 use mathlib.Core.Path.{◌≡◌, refl}
-use Prim.Native.Nat.{◌-◌, ◌<◌}
 use native.Mathlib.Omega.{arith}
-use Rattle.spec.specs.Entry.{frame_limit}
 use Rattle.layout.specs.Layout.{config}
-use Rattle.drops.specs.Cut.{links_up_of}
 use Rattle.drops.proofs.Laws.{above_small, up_step, up_none}
-use borrow.Author.Rules.{rules}
 use Rattle.drops.proofs.links_up.Goals as goal
 
 pub loop-links-init : goal.loop-links-init

@@ -1,5 +1,4 @@
 -- By the kind of cut; each arm is the definition's.
-use borrow.Author.Rules.{rules}
 use Rattle.drops.proofs.low.Goals as goal
 
 pub returns-in-Word : goal.returns-in-Word

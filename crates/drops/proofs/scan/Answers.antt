@@ -1,12 +1,10 @@
 -- Invariant: the scan on from frame i, with pool and memory so far, ends as the whole scan does; damage ends it there.
 use mathlib.Core.Path.{◌≡◌, refl, ◌∙◌}
-use Prim.Native.Nat.{◌-◌, ◌≤◌}
+use Prim.Native.Nat.{◌-◌}
 use native.Mathlib.Omega.{arith}
 use Rattle.layout.specs.Layout.{config}
-use lib.ListN.{length}
-use Rattle.drops.specs.Drop.{scan_from, scan_of}
+use Rattle.drops.specs.Drop.{scan_of}
 use Rattle.drops.proofs.Laws.{scan_step, scan_none}
-use borrow.Author.Rules.{rules}
 use Rattle.drops.proofs.scan.Goals as goal
 
 pub loop-i-init : goal.loop-i-init

@@ -1,12 +1,9 @@
 -- Invariant: the scan on from frame i, with pool and memory so far, ends as the whole scan does; damage ends it there.
-use mathlib.Core.Path.{◌≡◌, refl, ◌∙◌}
+use mathlib.Core.Path.{◌≡◌}
 use Prim.Native.Nat.{◌-◌, ◌≤◌}
-use native.Mathlib.Omega.{arith}
 use Rattle.layout.specs.Layout.{config}
 use lib.ListN.{length}
-use Rattle.drops.specs.Drop.{scan_from, scan_of}
-use Rattle.drops.proofs.Laws.{scan_step, scan_none}
-use borrow.Author.Rules.{rules}
+use Rattle.drops.specs.Drop.{scan_from}
 use Rattle.drops.proofs.scan.Given as goal
 
 abbrev pub invariant-loop-i : goal.invariant-loop-i

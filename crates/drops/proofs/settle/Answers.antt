@@ -1,7 +1,6 @@
 -- As many links are climbed as levels stand above n; the release's way then says only whether it met damage.
 use native.Mathlib.Omega.{arith}
 use Rattle.drops.specs.Drop.{settle_of}
-use borrow.Author.Rules.{rules}
 use Rattle.drops.proofs.settle.Goals as goal
 
 pub release-went-requires : goal.release-went-requires

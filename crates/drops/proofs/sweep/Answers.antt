@@ -1,6 +1,5 @@
 -- The table is settled in the memory that the clearing left; a damaged entry ends it before that.
 use Rattle.drops.specs.Drop.{sweep_of}
-use borrow.Author.Rules.{rules}
 use Rattle.drops.proofs.sweep.Goals as goal
 
 pub returns-then-clear_leaves : goal.returns-then-clear_leaves

@@ -1,6 +1,5 @@
 -- Of the four kinds of entry only a table leads on, and only damage is told apart from the rest.
 use Rattle.drops.specs.Drop.{table_named}
-use borrow.Author.Rules.{rules}
 use Rattle.drops.proofs.table_named.Goals as goal
 
 pub returns-in-Gone : goal.returns-in-Gone

@@ -1,5 +1,4 @@
 -- By the kind of cut: the guest number is compared, any table may be cut, or the frame itself is compared.
-use borrow.Author.Rules.{rules}
 use Rattle.drops.proofs.touches.Goals as goal
 
 pub returns-in-Word : goal.returns-in-Word

@@ -3,7 +3,6 @@ use native.Mathlib.Omega.{arith}
 use borrow.Author.Tests.{eq-eqb, ne_eqb}
 use Rattle.drops.specs.Drop.{visit_of}
 use Rattle.drops.proofs.Laws.{range_fits}
-use borrow.Author.Rules.{rules}
 use Rattle.drops.proofs.visit.Goals as goal
 
 pub returns-then-n-eq0 : goal.returns-then-n-eq0
