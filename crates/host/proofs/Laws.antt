@@ -1,5 +1,4 @@
 -- What every host walk over memory satisfies, damaged memory too.
--- Assumes nothing.
 use Prim.Native.Nat.{ℕ}
 use native.Mathlib.Omega.{arith}
 use mathlib.Core.List.{List}

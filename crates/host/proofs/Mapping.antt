@@ -1,13 +1,12 @@
 -- The host tables stand for the specification's mapping: after any list of maps and unmaps each refusal, and for every guest
 -- frame the host walk with its count, are the specification's; the guest area is untouched.
--- Assumes nothing.
 use mathlib.Core.Path.{◌≡◌, refl, sym, ap, ap₂, ◌∙◌, subst}
 use Prim.Native.Nat.{ℕ, ◌*◌, ◌^◌, ◌<◌, ◌≤◌}
 use native.Mathlib.Omega.{arith}
 use mathlib.Core.Bool.{Bool, true, false, not, ◌||◌, cond}
 use mathlib.Core.List.{List, [], ◌∷◌}
 use mathlib.Core.Option.{Option, none, some}
-use lib.Dec.{T, eqb, leb, ltb, ltb→lt, leb→le, nleb→lt}
+use lib.Dec.{T, eqb, leb, ltb→lt, leb→le, nleb→lt}
 use lib.Pow.{pow_mono}
 use lib.ListN.{length, drop}
 use Rattle.spec.specs.Config.{Config, guest_base, frame_bits}

@@ -1,6 +1,5 @@
 -- The leaf at the end of the guest frame's whole path in the first H frames: code and definition say the same.
 use Rattle.host.specs.Walk.{host_walk_of}
-use borrow.Author.Rules.{rules}
 use Rattle.host.proofs.host_walk.Goals as goal
 
 pub returns : goal.returns

@@ -1,6 +1,5 @@
 -- Both entries are the definition's, by the flag; a frame below 65,536 leaves room for the low bits.
 use Rattle.area_laws.specs.Host.{host_entry}
-use borrow.Author.Rules.{rules}
 use Rattle.host.proofs.leaf_word.Goals as goal
 
 pub returns-then-writable : goal.returns-then-writable

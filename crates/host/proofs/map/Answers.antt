@@ -3,7 +3,6 @@ use native.Mathlib.Omega.{arith}
 use Rattle.layout.specs.Layout.{config}
 use Rattle.host.specs.Map.{map_of}
 use Rattle.layout.proofs.Laws.{in_guest_area_lem}
-use borrow.Author.Rules.{rules}
 use Rattle.host.proofs.map.Goals as goal
 
 pub leaf_word-e-requires : goal.leaf_word-e-requires

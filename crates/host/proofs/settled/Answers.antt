@@ -1,5 +1,4 @@
 -- One arm for each way: the new pool and 0, the old pool and the given number, the old pool and 11.
-use borrow.Author.Rules.{rules}
 use Rattle.host.proofs.settled.Goals as goal
 
 pub returns-in-To : goal.returns-in-To

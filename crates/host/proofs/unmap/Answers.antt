@@ -1,7 +1,6 @@
 -- Refusal 8 by its test; else the way of the removal is settled with 12. The layout bounds the host area.
 use native.Mathlib.Omega.{arith}
 use Rattle.host.specs.Map.{unmap_of}
-use borrow.Author.Rules.{rules}
 use Rattle.host.proofs.unmap.Goals as goal
 
 pub remove-went-requires : goal.remove-went-requires
