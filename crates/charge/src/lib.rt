@@ -61,6 +61,7 @@ fn prefix_of(mem: &[u64], layout: Layout, above: u64, frame: u64) -> Prefix
 // ---- the pass over the tables
 
 // Whether the frame is a table of level 1 for the guest table in that host frame, with an entry at the index.
+#[tactic(auto, unfolding(crate::specs::Charge::ends_at))]
 fn ends_at(mem: &[u64], table: u64, index: u64, frame: u64) -> bool
     requires { (index < 512) × (frame < frame_limit) }
     ensures { result ≡ ends_at mem.now table index frame }

@@ -1,11 +1,9 @@
 -- Invariant: what is found so far is the charge of the first k frames.
 use mathlib.Core.Path.{◌≡◌, sym}
-use Prim.Native.Nat.{◌-◌, ◌≤◌}
 use native.Mathlib.Omega.{arith}
 use Rattle.layout.specs.Layout.{config}
-use Rattle.charge.specs.Charge.{charged_from, charged_of}
+use Rattle.charge.specs.Charge.{charged_of}
 use Rattle.charge.proofs.Laws.{charged_none, charged_step}
-use borrow.Author.Rules.{rules}
 use Rattle.charge.proofs.charged.Goals as goal
 
 pub loop-k-init : goal.loop-k-init

@@ -2,7 +2,7 @@
 -- counts for is bounded by the links left.
 use mathlib.Core.Path.{◌≡◌, sym, ◌∙◌}
 use mathlib.Core.Bool.{true, false}
-use Prim.Native.Nat.{◌-◌, ◌*◌, ◌≤◌, ◌<◌}
+use Prim.Native.Nat.{◌-◌, ◌*◌, ◌<◌}
 use native.Mathlib.Omega.{arith}
 use Rattle.spec.specs.Entry.{frame_limit}
 use Rattle.layout.specs.Layout.{config}
@@ -10,8 +10,7 @@ use lib.Pow.{pow_pos}
 use Rattle.pool.specs.Header.{parent_of, inside_of}
 use Rattle.pool.proofs.Laws.{parent_small, slot_small}
 use Rattle.charge.specs.Charge.{prefix_of}
-use Rattle.charge.proofs.Laws.{over, up_step, up_out, up_none, up_all, place_limit, place_next, low_next}
-use borrow.Author.Rules.{rules}
+use Rattle.charge.proofs.Laws.{up_step, up_out, up_none, up_all, place_next, low_next}
 use Rattle.charge.proofs.prefix_of.Goals as goal
 
 pub loop-links-init : goal.loop-links-init

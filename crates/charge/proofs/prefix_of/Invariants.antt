@@ -1,17 +1,11 @@
 -- The loop climbs the links: the prefix of the table that it has come to, with the slots met so far below it, is the whole. What a slot
 -- counts for is bounded by the links left.
-use mathlib.Core.Path.{◌≡◌, sym, ◌∙◌}
-use mathlib.Core.Bool.{true, false}
-use Prim.Native.Nat.{◌-◌, ◌*◌, ◌≤◌, ◌<◌}
-use native.Mathlib.Omega.{arith}
+use mathlib.Core.Path.{◌≡◌}
+use Prim.Native.Nat.{◌≤◌, ◌<◌}
 use Rattle.spec.specs.Entry.{frame_limit}
 use Rattle.layout.specs.Layout.{config}
-use lib.Pow.{pow_pos}
-use Rattle.pool.specs.Header.{parent_of, inside_of}
-use Rattle.pool.proofs.Laws.{parent_small, slot_small}
 use Rattle.charge.specs.Charge.{prefix_of}
-use Rattle.charge.proofs.Laws.{over, up_step, up_out, up_none, up_all, place_limit, place_next, low_next}
-use borrow.Author.Rules.{rules}
+use Rattle.charge.proofs.Laws.{over, place_limit}
 use Rattle.charge.proofs.prefix_of.Given as goal
 
 abbrev pub invariant-loop-links : goal.invariant-loop-links

@@ -1,6 +1,5 @@
 -- A path ends there and its prefix is compared, or its links are damaged; or none ends there.
 use Rattle.charge.specs.Charge.{visit_of}
-use borrow.Author.Rules.{rules}
 use Rattle.charge.proofs.visit.Goals as goal
 
 pub returns-in-Is : goal.returns-in-Is
