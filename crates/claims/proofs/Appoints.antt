@@ -1,12 +1,12 @@
 -- Marks that move follow the book: any table that holds the book's marks, an automatic mark that leaves, one that is set, the charge of a
 -- store.
 -- Assumes nothing.
-use mathlib.Core.Path.{◌≡◌, refl, sym, ap, ap₂, ◌∙◌, subst}
+use mathlib.Core.Path.{◌≡◌, refl, sym, ap, ◌∙◌, subst}
 use mathlib.Core.Logic.{◌⊎◌, inl}
-use Prim.Native.Nat.{ℕ, suc, ◌+◌, ◌-◌, ◌*◌, ◌/◌, ◌%◌, ◌^◌, ◌<◌, ◌≤◌}
+use Prim.Native.Nat.{ℕ, suc, ◌+◌, ◌-◌, ◌*◌, ◌/◌, ◌^◌, ◌<◌, ◌≤◌}
 use native.Mathlib.Omega.{arith}
 use native.Mathlib.Nat.{mod-eq_of_lt}
-use borrow.Author.Tests.{eqb-true, eqb-false, ltb-true, ltb-false, lt-ltb, le-ltb, eq-eqb, ne_eqb, leb-true, leb-false, le-leb, lt-leb}
+use borrow.Author.Tests.{eqb-true, eqb-false, ltb-true, ltb-false, leb-false, le-leb, lt-leb}
 use mathlib.Core.Bool.{Bool, true, false, not, cond}
 use mathlib.Core.List.{List, [], ◌∷◌, reverse}
 use mathlib.Core.Option.{Option, none, some, map}
@@ -17,18 +17,18 @@ use lib.Seq.{length-take-le}
 use Rattle.spec.specs.Config.{Config}
 use Rattle.spec.specs.Entry.{indexes}
 use Rattle.spec.specs.Prefix.{All, begins, any, keep}
-use Rattle.spec.specs.Book.{Mark, Held, Book, same_mark, is_set, mark_at, find, holding, drop_prefix, marking, unmarking}
+use Rattle.spec.specs.Book.{Held, Book, same_mark, is_set, mark_at, find, drop_prefix, marking, unmarking}
 use Rattle.spec.specs.Choice as choice
 use Rattle.spec.specs.Choice.{charges_for_mark, charges, leaf_mark, full, leaving, withdrawn, withdrawn_by, room_made, appointed, entered, observed}
-use Rattle.spec.specs.Refusal.{level_fits, prefix_fits}
+use Rattle.spec.specs.Refusal.{level_fits}
 use Rattle.spec.specs.Call.{address_indexes}
 use Rattle.spec.specs.Run.{State}
 use Rattle.spec_laws.proofs.Lists.{all_map, all_any, all_kept, all_take}
 use Rattle.spec_laws.proofs.Keeps.{Valid, InGuestArea}
-use Rattle.spec_laws.proofs.Charges.{IfSome, Bare, bare_unset}
+use Rattle.spec_laws.proofs.Charges.{bare_unset}
 use Rattle.spec_laws.proofs.Runs.{BookFits, set_keeps, withdrawn_keeps}
 use Rattle.spec_laws.proofs.Choice.{room_unset}
-use Rattle.spec_laws.proofs.Rules.{BookRules, ChargeRules, withdrawn_book, room_book, appointed_book}
+use Rattle.spec_laws.proofs.Rules.{BookRules, ChargeRules, withdrawn_book, room_book}
 use Rattle.spec_laws.proofs.Indexes.{indexes_length}
 use Rattle.area_laws.proofs.Hosts.{indexes_small}
 use Rattle.words.specs.After.{After}
@@ -48,21 +48,19 @@ use Rattle.marks.proofs.Book.{keys_of, marks_count, marks_fit_lem, Sorted, sorte
 use Rattle.choice.specs.declared.Choice.{Choice}
 use Rattle.choice.specs.Window as window
 use Rattle.choice.specs.Window.{charges_of}
-use Rattle.choice.specs.Order.{choice_fits, leaves_before, leaving_of, place_by, without_of, with_of, moved_of}
+use Rattle.choice.specs.Order.{leaves_before, leaving_of, place_by, without_of, with_of, moved_of}
 use Rattle.choice.proofs.Automatic.{indexes_at, address_of, leaf_key_at, leaf_mark_at, key_in}
-use Rattle.choice.proofs.Chosen.{Chosen, Leaves, in_order, chosen_charged, charges_are, chosen_cleared, chosen_with, leaving_is, leaving_place}
+use Rattle.choice.proofs.Chosen.{Chosen, Leaves, chosen_charged, charges_are, chosen_cleared, chosen_with, leaving_is, leaving_place}
 use Rattle.record.specs.declared.Record.{Record}
 use Rattle.record.specs.Record.{config_of, head_tables, with_marks}
 use Rattle.record.proofs.Rules.{Fits, fits_marks, holds_pool}
-use Rattle.drops.specs.declared.Left.{Left}
 use Rattle.drops.specs.Drop.{drop_prefix_of}
 use Rattle.drops_laws.proofs.Scan.{Dropped}
 use Rattle.drops_laws.proofs.Held.{leaf_at}
 use Rattle.drops_laws.proofs.Drops.{prefix_all, drop_prefix_lem}
 use Rattle.drops_laws.proofs.Valid.{frames_at, entry_of, valid_entries, stays_same}
-use Rattle.automatic.specs.Moves as automatic
-use Rattle.automatic.specs.Moves.{Move, moved, held_after, left_by, marked_of, then_by, withdrawn_of, room_made_of, leaf_key, appointed_of, appointed_in, entered_of, judged_of, charged_of}
-use Rattle.calls.specs.Calls.{host_top, head_held, with_held}
+use Rattle.automatic.specs.Moves.{Move, moved, held_after, left_by, marked_of, then_by, withdrawn_of, room_made_of, leaf_key, appointed_of, appointed_in, charged_of}
+use Rattle.calls.specs.Calls.{host_top, head_held}
 use Rattle.claims.proofs.Chosen.{chosen_fits_lem}
 use Rattle.claims.proofs.Invariant.{longer, top_by, Inv, stands}
 use Rattle.claims.proofs.Moves.{invariant, inv_fits, inv_stands, inv_root, inv_shadow, inv_top, fits_held, maps_beside, shadow_drop, shadow_on, top_on, longer_keep, all_longer, find_keep}

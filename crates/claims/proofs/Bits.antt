@@ -1,7 +1,7 @@
 -- Accessed and dirty bits over memory are the machine's: what lacks one, what is owed, and what own bit writes leave.
 -- Assumes nothing.
 use mathlib.Core.Path.{◌≡◌, ap, ap₂, ◌∙◌}
-use Prim.Native.Nat.{ℕ, ◌-◌, ◌^◌, ◌<◌}
+use Prim.Native.Nat.{ℕ, ◌^◌, ◌<◌}
 use mathlib.Core.Bool.{Bool}
 use mathlib.Core.List.{List}
 use Rattle.spec.specs.declared.Fault.{Fault}
@@ -9,7 +9,7 @@ use Rattle.spec.specs.Config.{Config, frame_bits}
 use Rattle.spec.specs.Entry.{page_of}
 use Rattle.spec.specs.Prefix.{All}
 use Rattle.spec.specs.Walk.{Walk, World, Trace, granted, trace}
-use Rattle.spec.specs.Plain.{Place, levels}
+use Rattle.spec.specs.Plain.{Place}
 use Rattle.spec.specs.Machine.{Machine, world}
 use Rattle.spec.specs.Bits.{lacks, owed}
 use Rattle.spec.specs.Call.{address_indexes, plain}

@@ -3,12 +3,12 @@
 use mathlib.Core.Path.{◌≡◌, refl, sym, ap, ◌∙◌, subst}
 use Prim.Native.Nat.{ℕ, zero, suc, ◌+◌, ◌%◌, ◌/◌, ◌^◌, ◌≤◌, ◌<◌}
 use native.Mathlib.Omega.{arith}
-use borrow.Author.Tests.{eq-eqb, eqb-true, eqb-false, le-leb}
-use mathlib.Core.Bool.{Bool, true, false, ◌&&◌, ◌||◌, cond}
-use mathlib.Core.List.{List, [], ◌∷◌, ◌++◌, map, reverse, tail-eq_of_cons-eq}
-use mathlib.Core.Option.{none, some}
+use borrow.Author.Tests.{eqb-false, le-leb}
+use mathlib.Core.Bool.{Bool, true, false, cond}
+use mathlib.Core.List.{List, [], ◌∷◌, map, reverse, tail-eq_of_cons-eq}
+use mathlib.Core.Option.{none}
 use lib.Dec.{eqb}
-use lib.ListN.{length, take, drop, replicate, length-map, length-reverse, length-append, length-take, length-drop}
+use lib.ListN.{length, take, replicate, length-map, length-reverse, length-append, length-take, length-drop}
 use lib.Seq.{length-take-le}
 use lib.Pow.{shr_lt}
 use Rattle.spec.specs.Config.{Config}
@@ -16,7 +16,7 @@ use Rattle.spec.specs.Book.{Book}
 use Rattle.marks.specs.declared.Marks.{Marks}
 use Rattle.choice.specs.declared.Choice.{Choice}
 use Rattle.choice.specs.Window.{room, unroll}
-use Rattle.choice.specs.Order.{order_fits, choice_fits}
+use Rattle.choice.specs.Order.{choice_fits}
 use Rattle.choice.specs.Reading.{bits, spread}
 use Rattle.choice.proofs.Shows.{Shows, padded}
 use Rattle.choice.proofs.Automatic.{indexes_at}

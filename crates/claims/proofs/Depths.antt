@@ -1,25 +1,25 @@
 -- The depth of a request, as the unit finds it: a path held at the depth that the marks give says that; a table in its place belongs to a path that is
 -- longer, so a large page's; and where neither stands the walk over memory says it.
 -- Assumes nothing.
-use mathlib.Core.Path.{◌≡◌, refl, sym, ap, ap₂, ◌∙◌, subst}
+use mathlib.Core.Path.{◌≡◌, refl, sym, ap, ◌∙◌, subst}
 use mathlib.Core.Logic.{◌⊎◌, inl, inr}
-use Prim.Native.Nat.{ℕ, ◌+◌, ◌-◌, ◌*◌, ◌/◌, ◌^◌, ◌<◌, ◌≤◌}
+use Prim.Native.Nat.{ℕ, ◌-◌, ◌*◌, ◌/◌, ◌^◌, ◌<◌, ◌≤◌}
 use native.Mathlib.Omega.{arith}
 use mathlib.Core.Bool.{Bool, true, false, not, cond}
 use mathlib.Core.List.{List, [], ◌∷◌}
 use mathlib.Core.Option.{Option, none, some, IsSome}
-use lib.Dec.{T, eqb, ltb, leb}
+use lib.Dec.{T, eqb, ltb}
 use lib.ListN.{length}
 use borrow.Author.Tests.{eqb-true, eqb-false, lt-ltb, ltb-true, ltb-false}
 use Rattle.spec.specs.declared.Fault.{Fault}
-use Rattle.spec.specs.Config.{Config, guest_base}
+use Rattle.spec.specs.Config.{Config}
 use Rattle.spec.specs.Entry.{page_of, frame_of}
 use Rattle.spec.specs.Refusal.{in_guest_area}
 use Rattle.spec.specs.Prefix.{All, begins, any, keep}
-use Rattle.spec.specs.Walk.{Trace, Result, granted, failed, trace}
+use Rattle.spec.specs.Walk.{Result, granted, failed, trace}
 use Rattle.spec.specs.Plain.{Place, is_span, walk, upper}
 use Rattle.spec.specs.Machine.{Machine, world}
-use Rattle.spec.specs.Book.{Held, depth, find}
+use Rattle.spec.specs.Book.{Held, find}
 use Rattle.spec.specs.Call.{address_indexes}
 use Rattle.spec.specs.Count as count
 use Rattle.spec.specs.Count.{depth_in}
@@ -29,15 +29,14 @@ use Rattle.spec_laws.proofs.Indexes.{indexes_length, indexes_all}
 use Rattle.area_laws.proofs.Hosts.{indexes_small}
 use Rattle.spec_laws.proofs.Local.{Seen, seen}
 use Rattle.spec_laws.proofs.Keeps.{Valid, again, depth_deep}
-use Rattle.spec_laws.proofs.Runs.{HeldFits}
 use Rattle.spec_laws.proofs.Apart.{apart, walk_prefix, beyond_span, not_shorter}
 use Rattle.layout.specs.declared.HostWalk.{HostWalk}
 use Rattle.layout.specs.declared.HostWalk.TheVariants as host
 use Rattle.layout.specs.Layout.{leaf_of}
 use Rattle.layout.proofs.Laws.{in_guest_area_lem}
 use Rattle.pool.specs.Pool.{link}
-use Rattle.area_laws.proofs.Paths.{onto, onto_long, Small, Ext, ext_long}
-use Rattle.area_laws.proofs.Invariant.{Leaf, present_link, frame_link, frame_small, present_set}
+use Rattle.area_laws.proofs.Paths.{onto, onto_long, Small, ext_long}
+use Rattle.area_laws.proofs.Invariant.{present_link, frame_link, frame_small, present_set}
 use Rattle.area_laws.proofs.Find.{steps, lookup_table}
 use Rattle.area_laws.proofs.Count.{begins_propers, propers_ext}
 use Rattle.area_laws.proofs.Whole.{above_leaf}
@@ -45,8 +44,6 @@ use Rattle.shadow.specs.Held as shadow
 use Rattle.drops_laws.proofs.Held.{leaf_at, any_leaf}
 use Rattle.drops_laws.proofs.Find.{entry_found, answer_found, leaf_find, find_all, Apart}
 use Rattle.drops_laws.proofs.Valid.{entry_of}
-use Rattle.walk.specs.declared.Walked.{Walked}
-use Rattle.walk.specs.declared.Walked.TheVariants as walked
 use Rattle.walk.specs.Memory.{walked_of}
 use Rattle.walk.proofs.Stands.{plain_walked, root_walked}
 use Rattle.translate.specs.Translate.{path_indexes, found_of, soon_by, walked_depth, may_turn, turned_depth, depth_by, depth_of}

@@ -15,7 +15,7 @@ use Rattle.spec.specs.Config.{Config}
 use Rattle.spec.specs.Entry.{present, page_of}
 use Rattle.spec.specs.Prefix.{same, begins}
 use Rattle.spec.specs.Walk.{World, Trace, granted, trace}
-use Rattle.spec.specs.Plain.{Place, is_span, levels, walk, upper}
+use Rattle.spec.specs.Plain.{Place, is_span, walk, upper}
 use Rattle.spec.specs.Machine.{Machine, world}
 use Rattle.spec.specs.Book.{Held, find, fill, holding, shadow_tables}
 use Rattle.spec.specs.Bits.{dirty_at}

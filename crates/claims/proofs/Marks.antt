@@ -1,27 +1,26 @@
 -- A mark set and a mark cleared by the operator follow the specification.
 -- Assumes nothing.
 use mathlib.Core.Path.{◌≡◌, refl, sym, ap, ap₂, ◌∙◌, subst}
-use Prim.Native.Nat.{ℕ, suc, ◌-◌, ◌*◌, ◌/◌, ◌^◌, ◌<◌, ◌≤◌}
+use Prim.Native.Nat.{ℕ, ◌-◌, ◌<◌}
 use native.Mathlib.Omega.{arith}
-use borrow.Author.Tests.{ne_eqb, lt-leb, lt-ltb, ltb-true}
+use borrow.Author.Tests.{ne_eqb, lt-leb, lt-ltb}
 use mathlib.Core.Bool.{Bool, true, false, not, ◌&&◌, ◌||◌, cond}
 use mathlib.Core.List.Permᴰ
 use mathlib.Core.List.{List, [], ◌∷◌}
 use mathlib.Core.Option.{Option, none, some}
-use lib.Dec.{T, eqb, ltb}
-use lib.ListN.{length, take}
+use lib.Dec.{T, eqb}
+use lib.ListN.{length}
 use Rattle.spec.specs.Config.{Config}
 use Rattle.spec.specs.Entry.{page_of, indexes}
 use Rattle.spec.specs.Prefix.{All, begins, same, any, keep}
-use Rattle.spec.specs.Book.{Mark, Held, Book, mark_at, same_mark, is_set, drop_prefix, marking, unmarking}
-use Rattle.spec.specs.Choice as choice
+use Rattle.spec.specs.Book.{Mark, Book, mark_at, same_mark, is_set, drop_prefix, marking, unmarking}
 use Rattle.spec.specs.Choice.{leaf_mark, is_automatic, owned, room_for, room_made, withdrawn, operated, choosing}
 use Rattle.spec.specs.Answer as say
 use Rattle.spec.specs.Call.{Call, set_mark, clear_mark, address_indexes, machine_step}
 use Rattle.spec.specs.Count.{book_step}
 use Rattle.spec.specs.Refusal.{level_fits, tests, refusal}
 use Rattle.spec.specs.Run.{State, step, told}
-use Rattle.spec_laws.proofs.Lists.{all_map, all_any, all_keep, keep_all, is_true, is_false, and_first, not_both}
+use Rattle.spec_laws.proofs.Lists.{all_map, all_any, all_keep, keep_all, is_true, and_first, not_both}
 use Rattle.spec_laws.proofs.Runs.{BookFits, all_passed, mark_fits_lem, set_keeps, clear_keeps, operated_keeps}
 use Rattle.spec_laws.proofs.Rules.{BookRules, room_free, room_book, step_rules}
 use Rattle.spec_laws.proofs.Choice.{room_unset, mark_is}
@@ -39,11 +38,11 @@ use Rattle.choice.specs.declared.Choice.{Choice}
 use Rattle.choice.specs.Order.{automatic_at, without_of, moved_of}
 use Rattle.choice.specs.Refusal.{set_refusal, clear_refusal}
 use Rattle.choice.proofs.Automatic.{indexes_at, kept_set}
-use Rattle.choice.proofs.Chosen.{Chosen, chosen_same, chosen_without, chosen_moved, chosen_unmarked, automatic_place, automatic_is, automatic_mark, owned_is, set_refused_lem, clear_refused_lem}
+use Rattle.choice.proofs.Chosen.{Chosen, chosen_without, chosen_moved, chosen_unmarked, automatic_place, automatic_is, automatic_mark, owned_is, set_refused_lem, clear_refused_lem}
 use Rattle.record.specs.declared.Record.{Record}
 use Rattle.record.specs.Record.{config_of}
 use Rattle.words.specs.After.{After}
-use Rattle.automatic.specs.Moves.{Move, moved, marked_of, room_made_of, then_by, added_of, above, taken_over_of, set_of, cleared_of}
+use Rattle.automatic.specs.Moves.{Move, marked_of, room_made_of, then_by, added_of, above, taken_over_of, set_of, cleared_of}
 use Rattle.calls.specs.Calls.{refused, judged, moved_by, set_mark_call, clear_mark_call}
 use Rattle.claims.proofs.Invariant.{Inv, Follows, at}
 use Rattle.claims.proofs.Moves.{Moved, after, follows_no, follows_ok, first_positive, inv_fits}

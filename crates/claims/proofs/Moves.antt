@@ -51,7 +51,7 @@ use Rattle.drops_laws.proofs.Scan.{Dropped}
 use Rattle.drops_laws.proofs.Held.{leaf_at, leaf_none}
 use Rattle.drops_laws.proofs.Valid.{frames_at, entry_of, valid_entry, Stays, holds_on}
 use Rattle.calls.specs.Calls.{host_top, head_held, head_host, with_held, with_host, refused, dropped_by}
-use Rattle.claims.proofs.Invariant.{longer, top_by, frames, Inv, Follows, stands, at}
+use Rattle.claims.proofs.Invariant.{longer, top_by, Inv, Follows, stands, at}
 use Rattle.words.specs.After.{After}
 use Rattle.calls.specs.declared.Reply.{Reply}
 

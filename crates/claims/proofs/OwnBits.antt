@@ -2,7 +2,7 @@
 -- Assumes nothing.
 use mathlib.Core.Path.{◌≡◌, refl, sym, ap, ◌∙◌, subst}
 use mathlib.Core.Logic.{inl, inr}
-use Prim.Native.Nat.{ℕ, ◌+◌, ◌*◌, ◌<◌}
+use Prim.Native.Nat.{ℕ, ◌+◌, ◌*◌}
 use native.Mathlib.Omega.{arith}
 use mathlib.Core.Bool.{Bool, true, false, ◌&&◌, ◌||◌}
 use mathlib.Core.List.{List, [], ◌∷◌}
@@ -31,7 +31,6 @@ use Rattle.request.specs.Access.{set_by, bits_of, settled_of}
 use Rattle.claims.specs.Safety.{Bitted, BitsOnly}
 use Rattle.claims.proofs.Puts.{area_store}
 use Rattle.spec_laws.proofs.Covered.{WordIn}
-use Rattle.spec_laws.proofs.Keeps.{InGuestArea}
 
 -- ---- one word
 

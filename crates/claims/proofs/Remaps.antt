@@ -14,7 +14,7 @@ use lib.ListN.{length}
 use Rattle.spec.specs.declared.Answer.TheVariants as answer
 use Rattle.spec.specs.declared.Fault.{Fault}
 use Rattle.spec.specs.Config.{Config, guest_base, frame_bits}
-use Rattle.spec.specs.Entry.{frame_of, indexes}
+use Rattle.spec.specs.Entry.{indexes}
 use Rattle.spec.specs.Prefix.{any}
 use Rattle.spec.specs.Walk.{Walk, World, Trace, granted, trace}
 use Rattle.spec.specs.Plain.{Place, Lead, to, into, hosted, levels, walk}

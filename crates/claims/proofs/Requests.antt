@@ -24,10 +24,10 @@ use Rattle.spec.specs.Walk.{Walk, Trace, Result, granted, failed, trace, â—Œ>>â—
 use Rattle.spec.specs.Plain.{Place, is_span, must, hosted, next}
 use Rattle.spec.specs.Machine.{Machine, world, word_in, stored}
 use Rattle.spec.specs.Prefix.{All}
-use Rattle.spec.specs.Book.{Held, Book, depth, holding, drop_word, reads_word, watched}
+use Rattle.spec.specs.Book.{Held, Book, holding, drop_word, reads_word, watched}
 use Rattle.spec.specs.Choice.{first_of, lower, reads_leaf, leaf_prefixes, charge_of, charged, entered, observed}
 use Rattle.spec.specs.Bits.{set_bits, bits_set}
-use Rattle.spec.specs.Call.{Call, load, store, device, address_indexes, plain, verdict, device_walk, access, asked, machine_step}
+use Rattle.spec.specs.Call.{Call, load, store, device, plain, verdict, device_walk, access, asked, machine_step}
 use Rattle.spec.specs.Count.{Counted, one, host_exit, is_granted, request_depth, request, storing, unshadowed, book_step}
 use Rattle.spec.specs.Bytes.{width_fits, aligned, bytes_at, with_bytes}
 use Rattle.spec.specs.Refusal.{first_failed, device_fits, tests, refusal}

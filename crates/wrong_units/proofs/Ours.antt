@@ -11,7 +11,7 @@ use Rattle.spec.specs.Answer.{Line, line}
 use Rattle.spec.specs.Call.{Call, load, store, device, forecast}
 use Rattle.spec.specs.Config.{Config}
 use Rattle.spec.specs.Entry.{page_of, word_of}
-use Rattle.spec.specs.Plain.{next, walk}
+use Rattle.spec.specs.Plain.{next}
 use Rattle.spec.specs.Refusal.{forecast_room}
 use Rattle.spec.specs.Run.{State, step, opened}
 use Rattle.spec.specs.Serving.{exits_paid, all_paid}

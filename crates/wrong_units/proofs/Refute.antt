@@ -1,7 +1,7 @@
 -- How a run refuses a unit: by the line of its last call.
 -- Assumes nothing.
 use mathlib.Core.Path.{◌≡◌, refl, sym, ap, ◌∙◌, subst}
-use Prim.Native.Nat.{ℕ, ◌+◌, ◌*◌, ◌^◌}
+use Prim.Native.Nat.{ℕ, ◌^◌}
 use mathlib.Core.Bool.{Bool, true, false, not}
 use mathlib.Core.List.{List, [], ◌∷◌, ◌++◌}
 use mathlib.Core.Option.{none}
@@ -20,7 +20,7 @@ use Rattle.entry.specs.declared.HostPhysical.{HostPhysical}
 use Rattle.words.specs.Words as words
 use Rattle.walk.specs.declared.Walked.TheVariants as walked
 use Rattle.record.specs.declared.Record.{Record}
-use Rattle.record.specs.Record.{config_of, config_by}
+use Rattle.record.specs.Record.{config_by}
 use Rattle.record.specs.Open.{refusal_of}
 use Rattle.calls.specs.Calls.{call_of}
 use Rattle.claims.specs.Run.{machine_run, heard_unit}

@@ -10,7 +10,7 @@ use Rattle.spec.specs.Config.{Config}
 use Rattle.spec.specs.Entry.{word_of}
 use Rattle.spec.specs.Bytes.{bytes_at}
 use Rattle.spec.specs.Walk.{World, Trace, trace}
-use Rattle.spec.specs.Plain.{Place, is_span, walk}
+use Rattle.spec.specs.Plain.{Place, is_span}
 use Rattle.spec.specs.Bits.{has_bits, with_bits, is_last, may_write, owes}
 use Rattle.spec.specs.Refusal.{forecast_room}
 use Rattle.spec.specs.Call.{load, store, forecast}

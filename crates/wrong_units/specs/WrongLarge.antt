@@ -1,7 +1,7 @@
 -- Units that misread large pages (document 02, 8). Three say what a load or a store comes to by a walk with one change in a level; one takes
 -- the depth of a load from one level too low; one keeps what it learned of a large page for the whole of it.
 -- Assumes nothing.
-use Rattle.std.specs.Prelude.{ℕ, pred, ◌+◌, ◌-◌, ◌%◌, Bool, true, false, not, ◌&&◌, ◌||◌, cond, List, [], ◌∷◌, eqb, ltb, length}
+use Rattle.std.specs.Prelude.{ℕ, pred, ◌+◌, ◌-◌, ◌%◌, Bool, true, false, not, ◌&&◌, cond, List, [], ◌∷◌, eqb, ltb, length}
 use Rattle.std.proofs.Math.Option.{Option, none, some}
 use Rattle.spec.specs.declared.Fault.{Fault}
 use Rattle.spec.specs.declared.Fault.TheVariants.{Absent, Malformed}
@@ -15,9 +15,9 @@ use Rattle.spec.specs.Walk.{Walk, done, word, ◌>>=◌, ◌>>◌, Trace, Result
 use Rattle.spec.specs.Plain.{Place, Lead, to, into, span, is_span, first_frame, must, hosted, next, entry_lead, span_lead, onward, upper, shadow_part}
 use Rattle.spec.specs.Bits.{owes, judged, bits_set}
 use Rattle.spec.specs.Machine.{Machine, world, word_in}
-use Rattle.spec.specs.Book.{Book, depth}
+use Rattle.spec.specs.Book.{depth}
 use Rattle.spec.specs.Call.{Call, load, map, unmap, address_indexes, plain, Outcome, access}
-use Rattle.spec.specs.Count.{Counted, depth_by, request, windowed, book_step}
+use Rattle.spec.specs.Count.{depth_by, request, windowed, book_step}
 use Rattle.spec.specs.Refusal.{refusal}
 use Rattle.spec.specs.Run.{State, line_of, step, opened}
 use Rattle.record.specs.Record.{config_by}
