@@ -25,6 +25,7 @@ pub struct Ran {
 }
 
 // The unit's call.
+#[tactic(auto, unfolding(calls::specs::Calls::call_of))]
 fn run_call(unit: Record, mem: &mut [u64], call: Call) -> Reply
     ensures { yields result mem.new ≡ call_of (asked call) unit mem.old }
 {
@@ -95,6 +96,7 @@ fn run_open(opened: bool, unit: Record, mem: &mut [u64], hosts: u64, shadows: u6
 }
 
 // Runs one record: 13 and the end for a bad one, 3 for any kind but an open before a granted open, else the unit's call.
+#[tactic(auto, unfolding(crate::specs::Run::run_of))]
 pub fn run_job(opened: bool, unit: Record, mem: &mut [u64], job: Job) -> Ran
     ensures { yields result mem.new ≡ run_of opened unit mem.old job }
 {
