@@ -1,6 +1,5 @@
 -- A call's record and answer as the C interface has them: words in fixed order.
--- Assumes nothing.
-use Rattle.std.specs.Prelude.{ℕ, ◌+◌, ◌-◌, ◌*◌, ◌/◌, ◌%◌, ◌^◌, not, ◌&&◌, cond, List, [], ◌∷◌, eqb, leb, ltb, get_or}
+use Rattle.std.specs.Prelude.{ℕ, ◌+◌, ◌-◌, ◌*◌, ◌/◌, ◌%◌, ◌^◌, not, ◌&&◌, cond, List, eqb, leb, ltb, get_or}
 use Rattle.spec.specs.declared.Answer.{Answer}
 use Rattle.spec.specs.declared.Lookup.{Lookup}
 use Rattle.spec.specs.Answer as say
@@ -13,12 +12,11 @@ use Rattle.marks.specs.Table.{room, lookup_in}
 use Rattle.choice.specs.declared.Tally.{Tally}
 use Rattle.choice.specs.Window.{with_charged, charges_of}
 use Rattle.choice.specs.Order.{automatic_at}
-use Rattle.record.specs.Record.{record_by, head_of, head_tables, head_tally}
+use Rattle.record.specs.Record.{record_by, head_of, head_tally}
 use Rattle.record.specs.Words.{head_in, head_words}
 use Rattle.translate.specs.declared.Held.{Held}
 use Rattle.calls.specs.declared.Reply.{Reply}
-use Rattle.calls.specs.declared.Remapped.{Remapped}
-use Rattle.calls.specs.Calls.{tally_after, head_window, head_remapped}
+use Rattle.calls.specs.Calls.{tally_after, head_window}
 use Rattle.cangrieb.specs.declared.FlatAnswer.{FlatAnswer}
 use Rattle.cangrieb.specs.declared.FlatMark.{FlatMark}
 
