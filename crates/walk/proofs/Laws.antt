@@ -1,5 +1,4 @@
 -- What a walk over memory comes to, step by step: the laws that the code is proved by.
--- Assumes nothing.
 use mathlib.Core.Path.{◌≡◌, refl, sym, ap, ◌∙◌}
 use Prim.Native.Nat.{ℕ, pred, ◌+◌, ◌-◌, ◌*◌, ◌/◌, ◌%◌, ◌^◌, ◌<◌, ◌≤◌}
 use native.Mathlib.Nat.{add_assoc, mul-le-mul}
@@ -14,7 +13,7 @@ use Rattle.spec.specs.declared.Fault.{Fault}
 use Rattle.spec.specs.declared.Fault.TheVariants.{Absent, Malformed, Protected, HostAbsent, HostReadOnly}
 use Rattle.spec.specs.Config.{Config, frame_bits}
 use Rattle.spec.specs.Entry.{bit_set, present, writable, frame_of, frame_limit, large, frames_below, malformed, indexes}
-use Rattle.spec.specs.Walk.{Walk, done, host, ◌>>=◌, ◌>>◌, World, Trace, Result, granted, failed, trace}
+use Rattle.spec.specs.Walk.{Walk, done, ◌>>=◌, ◌>>◌, World, Trace, Result, granted, failed, trace}
 use Rattle.spec.specs.Plain.{Place, Lead, to, into, span, is_span, first_frame, must, mapped, hosted, entry, next, entry_lead, span_lead, onward, turn, levels, walk}
 use Rattle.spec_laws.proofs.Bind.{onto, trace_bind, bind_assoc}
 use Rattle.entry.specs.declared.HostPhysical.{HostPhysical}

@@ -1,22 +1,19 @@
 -- The places that a walk hands out, step by step.
--- Assumes nothing.
-use mathlib.Core.Path.{◌≡◌, refl, sym, ap, ◌∙◌}
+use mathlib.Core.Path.{◌≡◌, refl, ap, ◌∙◌}
 use Prim.Native.Nat.{ℕ, zero, suc, pred, ◌+◌, ◌-◌, ◌<◌, ◌≤◌}
 use native.Mathlib.Omega.{arith}
-use mathlib.Core.Bool.{Bool, true, false, not, ◌&&◌, ◌||◌}
-use mathlib.Core.List.{List, [], ◌∷◌, ◌++◌, map, append-nil}
+use mathlib.Core.Bool.{Bool, true, false}
+use mathlib.Core.List.{List, [], ◌∷◌}
 use mathlib.Core.Option.{Option, none, some}
-use lib.Dec.{eqb}
 use lib.ListN.{get_or, set, length, length-set, replicate}
 use lib.Seq.{get_or-set_same, get_or-set_other}
 use Rattle.spec.specs.declared.Fault.{Fault}
 use Rattle.spec.specs.declared.Fault.TheVariants.{Absent, Malformed, Protected, HostAbsent, HostReadOnly}
 use Rattle.spec.specs.Config.{Config}
 use Rattle.spec.specs.Entry.{index, indexes}
-use Rattle.spec.specs.Walk.{Walk, done, host, ◌>>=◌, ◌>>◌, World, Trace, Result, granted, failed, trace}
-use Rattle.spec.specs.Plain.{Place, mapped, hosted, next, turn, levels, walk}
+use Rattle.spec.specs.Walk.{Walk, done, ◌>>=◌, World, Result, granted, failed, trace}
+use Rattle.spec.specs.Plain.{Place, mapped, hosted, next, turn, levels}
 use Rattle.spec_laws.proofs.Indexes.{indexes_step}
-use Rattle.spec_laws.proofs.Bind.{onto, trace_bind, bind_assoc}
 use Rattle.layout.specs.declared.HostWalk.{HostWalk}
 use Rattle.layout.specs.declared.HostWalk.TheVariants as host
 use Rattle.layout.specs.Layout.{page}

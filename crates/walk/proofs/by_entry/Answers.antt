@@ -1,4 +1,4 @@
--- Absent, malformed, the beginning of a large page, or else a frame. Assumes nothing.
+-- Absent, malformed, the beginning of a large page, or else a frame.
 use mathlib.Core.Path.{◌≡◌, sym, ◌∙◌}
 use mathlib.Core.Bool.{false}
 use Rattle.spec.specs.Entry.{malformed}
@@ -7,7 +7,6 @@ use Rattle.layout.specs.Layout.{config}
 use Rattle.entry.proofs.Entries.{malformed_levels}
 use Rattle.walk.specs.Memory.{led_by_entry}
 use Rattle.walk.proofs.Laws.{large_well}
-use borrow.Author.Rules.{rules}
 use Rattle.walk.proofs.by_entry.Goals.{After-frame_of}
 use Rattle.walk.proofs.by_entry.Goals as goal
 

@@ -1,9 +1,8 @@
--- The index picks a part of the span, and at level 1 a frame. Assumes nothing.
+-- The index picks a part of the span, and at level 1 a frame.
 use native.Mathlib.Omega.{arith}
 use borrow.Author.Tests.{eq-eqb, ne_eqb}
 use Rattle.spec.specs.Plain.{first_frame, span_lead}
 use Rattle.walk.proofs.Laws.{part_most}
-use borrow.Author.Rules.{rules}
 use Rattle.walk.proofs.by_span.Goals as goal
 
 pub overflow_mul-g : goal.overflow_mul-g

@@ -5,7 +5,6 @@ use Rattle.layout.specs.Layout.{config}
 use Rattle.walk.specs.Memory.{walked_of}
 use Rattle.spec.specs.Plain.{turn}
 use Rattle.walk.proofs.Laws.{followed, turn_led, LedFits, led_fits}
-use borrow.Author.Rules.{rules}
 use Rattle.walk.proofs.descend.Goals.{After-lead}
 use Rattle.walk.proofs.descend.Goals as goal
 

@@ -1,17 +1,12 @@
--- Level 1 first, then bit 7. Assumes nothing.
+-- Level 1 first, then bit 7.
 use mathlib.Core.Path.{sym, ap}
 use mathlib.Core.Bool.{◌&&◌}
-use Prim.Native.Nat.{◌/◌, ◌%◌, ◌<◌, ◌≤◌}
+use Prim.Native.Nat.{◌/◌, ◌%◌, ◌<◌}
 use native.Mathlib.Omega.{arith}
 use lib.Dec.{eqb}
-use borrow.Author.Tests.{le-ltb, lt-ltb}
+use borrow.Author.Tests.{lt-ltb}
 use Rattle.spec.specs.Entry.{bit_set}
 use Rattle.walk.proofs.has_large_bit.Goals as goal
-
-pub returns-then-level-le1 : goal.returns-then-level-le1
-returns-then-level-le1 c =
-    let low : c.args.level ≤ 1 = omega arith in
-    sym (ap (λ x. x && bit_set 7 c.args.e) (le-ltb 1 _ low))
 
 pub returns : goal.returns
 unfolding bit_set

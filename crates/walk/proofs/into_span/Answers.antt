@@ -1,7 +1,6 @@
--- The guest's entries end here, so that the right is judged. Assumes nothing.
+-- The guest's entries end here, so that the right is judged.
 use Rattle.spec.specs.Plain.{span}
 use Rattle.walk.specs.Memory.{into_of}
-use borrow.Author.Rules.{rules}
 use Rattle.walk.proofs.into_span.Goals as goal
 
 pub returns-then-granted : goal.returns-then-granted

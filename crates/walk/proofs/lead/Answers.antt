@@ -1,8 +1,7 @@
--- A place below the frames of the memory is a table, and its entry decides; any other is a span. Assumes nothing.
+-- A place below the frames of the memory is a table, and its entry decides; any other is a span.
 use borrow.Author.Tests.{le-leb, lt-leb}
 use Rattle.spec.specs.Plain.{is_span}
 use Rattle.walk.specs.Memory.{led_of}
-use borrow.Author.Rules.{rules}
 use Rattle.walk.proofs.lead.Goals as goal
 
 pub returns-then-place-layout : goal.returns-then-place-layout

@@ -1,6 +1,5 @@
 -- A store that the mapping forbids is fault W; else the right is that of the guest entries and of the mapping.
 use Rattle.walk.specs.Memory.{found_of}
-use borrow.Author.Rules.{rules}
 use Rattle.walk.proofs.to_found.Goals as goal
 
 pub returns-then-granted : goal.returns-then-granted

@@ -1,7 +1,6 @@
 -- Level 1 leads to the page; to a table the step is one and the same for loads and stores.
 use borrow.Author.Tests.{eq-eqb, ne_eqb}
 use Rattle.spec.specs.Plain.{next}
-use borrow.Author.Rules.{rules}
 use Rattle.walk.proofs.to_frame.Goals as goal
 
 pub returns-then-level-eq1 : goal.returns-then-level-eq1

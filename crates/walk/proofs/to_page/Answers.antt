@@ -3,7 +3,6 @@ use Rattle.layout.specs.Layout.{config}
 use Rattle.host.proofs.Laws.{host_fits}
 use native.Mathlib.Omega.{arith}
 use Rattle.walk.proofs.Laws.{page_step}
-use borrow.Author.Rules.{rules}
 use Rattle.walk.proofs.to_page.Goals as goal
 
 pub overflow_add-result : goal.overflow_add-result

@@ -4,7 +4,6 @@ use Rattle.layout.specs.Layout.{config}
 use Rattle.host.proofs.Laws.{host_fits}
 use native.Mathlib.Omega.{arith}
 use Rattle.walk.proofs.Laws.{table_step}
-use borrow.Author.Rules.{rules}
 use Rattle.walk.proofs.to_table.Goals as goal
 
 pub overflow_add-result-in-Absent : goal.overflow_add-result-in-Absent

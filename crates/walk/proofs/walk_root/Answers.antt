@@ -7,7 +7,6 @@ use Rattle.layout.specs.Layout.{config}
 use Rattle.walk.specs.Memory.{trail_of}
 use Rattle.walk.proofs.Laws.{table_fits}
 use Rattle.walk.proofs.Trails.{trail_root}
-use borrow.Author.Rules.{rules}
 use Rattle.walk.proofs.walk_root.Goals as goal
 
 pub walk_tables-requires : goal.walk_tables-requires

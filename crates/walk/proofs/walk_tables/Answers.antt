@@ -1,10 +1,9 @@
 -- The loop's invariant: what is left of the walk, with the tables noted so far, is handed out as the whole walk's trail.
 use mathlib.Core.Path.{◌≡◌, refl, sym, ◌∙◌}
-use Prim.Native.Nat.{◌+◌, ◌-◌, ◌*◌, ◌≤◌, ◌<◌}
+use Prim.Native.Nat.{◌+◌, ◌-◌}
 use native.Mathlib.Omega.{arith}
 use lib.ListN.{set}
-use Rattle.spec.specs.Entry.{indexes, frame_limit}
-use Rattle.spec.specs.Plain.{levels}
+use Rattle.spec.specs.Entry.{indexes}
 use Rattle.layout.specs.Layout.{config}
 use Rattle.entry.proofs.Entries.{index_fits}
 use Rattle.walk.specs.Memory.{trail_from, trail_of}

@@ -1,16 +1,9 @@
 -- The loop's invariant: what is left of the walk, with the tables noted so far, is handed out as the whole walk's trail.
-use mathlib.Core.Path.{◌≡◌, refl, sym, ◌∙◌}
-use Prim.Native.Nat.{◌+◌, ◌-◌, ◌*◌, ◌≤◌, ◌<◌}
-use native.Mathlib.Omega.{arith}
-use lib.ListN.{set}
-use Rattle.spec.specs.Entry.{indexes, frame_limit}
-use Rattle.spec.specs.Plain.{levels}
+use mathlib.Core.Path.{◌≡◌}
+use Prim.Native.Nat.{◌+◌, ◌*◌, ◌≤◌, ◌<◌}
+use Rattle.spec.specs.Entry.{indexes}
 use Rattle.layout.specs.Layout.{config}
-use Rattle.entry.proofs.Entries.{index_fits}
-use Rattle.walk.specs.Memory.{trail_from, trail_of}
-use Rattle.walk.proofs.Laws.{Few, StepFits, turn_fits, near_room}
-use Rattle.walk.proofs.Trails.{then_trail, trail_step, trail_end}
-use borrow.Author.Rules.{rules}
+use Rattle.walk.specs.Memory.{trail_from}
 use Rattle.walk.proofs.walk_tables.Given as goal
 
 abbrev pub invariant-loop-left : goal.invariant-loop-left
