@@ -1,17 +1,16 @@
 -- The entries in the tables that a granted walk hands out are those that it read.
--- Assumes nothing.
 use mathlib.Core.Path.{◌≡◌, refl, sym, ap, ap₂, ◌∙◌, subst}
 use Prim.Native.Nat.{ℕ, zero, suc, pred, ◌+◌, ◌-◌, ◌*◌, ◌/◌, ◌^◌, ◌<◌, ◌≤◌}
 use native.Mathlib.Nat.{zero-add}
 use native.Mathlib.Omega.{arith}
 use mathlib.Core.Bool.{Bool, true, false, ◌&&◌, ◌||◌, cond}
 use mathlib.Core.List.{List, [], ◌∷◌, ◌++◌, map}
-use mathlib.Core.Option.{Option, none, some}
+use mathlib.Core.Option.{some}
 use lib.ListN.{length, take, get_or, replicate, length-map, length-append}
 use Rattle.spec.specs.declared.Fault.{Fault}
 use Rattle.spec.specs.declared.Fault.TheVariants.{Absent, Malformed, Protected, HostAbsent, HostReadOnly}
 use Rattle.spec.specs.Config.{Config}
-use Rattle.spec.specs.Entry.{frame_of, frame_limit, large, indexes}
+use Rattle.spec.specs.Entry.{frame_of, large, indexes}
 use Rattle.spec.specs.Prefix.{All}
 use Rattle.spec.specs.Walk.{Walk, World, Trace, Result, granted, failed, trace}
 use Rattle.spec.specs.Plain.{Place, to, into, is_span, hosted, entry_lead, span_lead, turn, levels, walk}
@@ -22,7 +21,7 @@ use Rattle.entry.specs.declared.HostPhysical.{HostPhysical}
 use Rattle.layout.specs.declared.HostWalk.{HostWalk}
 use Rattle.layout.specs.declared.HostWalk.TheVariants as host
 use Rattle.layout.specs.Layout.{page}
-use Rattle.layout.proofs.Laws.{HostFits, area_small}
+use Rattle.layout.proofs.Laws.{HostFits}
 use Rattle.host.specs.Walk.{host_walk_of}
 use Rattle.host.proofs.Laws.{host_fits}
 use Rattle.walk.specs.declared.Walked.TheVariants as walked

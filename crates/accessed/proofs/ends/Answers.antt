@@ -1,5 +1,4 @@
--- Each way by its test. Assumes nothing.
-use borrow.Author.Rules.{rules}
+-- Each way by its test.
 use Rattle.accessed.proofs.ends.Goals as goal
 
 pub returns-then-store : goal.returns-then-store

@@ -1,5 +1,4 @@
--- By the test of the bits, then by the host walk. Assumes nothing.
-use borrow.Author.Rules.{rules}
+-- By the test of the bits, then by the host walk.
 use Rattle.accessed.proofs.has_or_may.Goals as goal
 
 pub returns-then-has_bits : goal.returns-then-has_bits

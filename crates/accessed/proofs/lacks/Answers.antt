@@ -1,16 +1,12 @@
--- What is left of the entries lacks a bit just where all of them do. Assumes nothing.
+-- What is left of the entries lacks a bit just where all of them do.
 use mathlib.Core.Path.{◌≡◌, sym, ap, ap₂, ◌∙◌}
-use borrow.Author.Tests.{not-true, not-false}
 use lib.ListN.{get_or}
-use Prim.Native.Nat.{◌+◌, ◌-◌, ◌≤◌}
+use Prim.Native.Nat.{◌-◌}
 use native.Mathlib.Omega.{arith}
-use Rattle.spec.specs.Entry.{indexes}
 use Rattle.spec.specs.Bits.{has_bits, lacks}
 use Rattle.words.specs.Words.{word_in}
 use Rattle.entry.proofs.Entries.{index_fits}
-use Rattle.accessed.specs.Entries.{entries, words_of}
 use Rattle.accessed.proofs.Laws.{lacks_turn, none_left}
-use borrow.Author.Rules.{rules}
 use Rattle.accessed.proofs.lacks.Goals as goal
 
 -- src/lib.rt:40:13

@@ -1,11 +1,9 @@
--- The last entry lies in the last table, at the lowest index. Assumes nothing.
+-- The last entry lies in the last table, at the lowest index.
 use mathlib.Core.Path.{◌≡◌, sym}
 use Prim.Native.Nat.{◌-◌, ◌<◌, ◌+◌}
 use native.Mathlib.Omega.{arith}
-use Rattle.spec.specs.Entry.{dirty}
 use Rattle.entry.proofs.Entries.{index_fits}
 use Rattle.accessed.proofs.Laws.{none_left, dirty_last}
-use borrow.Author.Rules.{rules}
 use Rattle.accessed.proofs.last_dirty.Goals as goal
 
 pub returns-then-steps-eq0 : goal.returns-then-steps-eq0

@@ -1,5 +1,4 @@
--- By what the host walk came to. Assumes nothing.
-use borrow.Author.Rules.{rules}
+-- By what the host walk came to.
 use Rattle.accessed.proofs.may_write.Goals as goal
 
 pub returns-in-Found : goal.returns-in-Found

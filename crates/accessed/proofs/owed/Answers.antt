@@ -1,20 +1,17 @@
--- What is left of the entries owes what all of them do. Assumes nothing.
+-- What is left of the entries owes what all of them do.
 use mathlib.Core.Path.{◌≡◌, sym, ap, ap₂, ◌∙◌}
 use mathlib.Core.Bool.{◌||◌}
-use Prim.Native.Nat.{◌+◌, ◌-◌, ◌≤◌}
+use Prim.Native.Nat.{◌-◌}
 use native.Mathlib.Omega.{arith}
-use borrow.Author.Tests.{not-true, not-false}
 use lib.ListN.{get_or}
-use Rattle.spec.specs.Entry.{indexes}
 use Rattle.spec.specs.Bits.{has_bits, may_write, owed}
 use Rattle.words.specs.Words.{word_in}
 use Rattle.layout.specs.Layout.{config}
 use Rattle.host.specs.Walk.{host_walk_of}
 use Rattle.walk.specs.Memory.{place_of}
 use Rattle.entry.proofs.Entries.{index_fits}
-use Rattle.accessed.specs.Entries.{entries, owed_of}
+use Rattle.accessed.specs.Entries.{owed_of}
 use Rattle.accessed.proofs.Laws.{owed_turn, none_left}
-use borrow.Author.Rules.{rules}
 use Rattle.accessed.proofs.owed.Goals as goal
 
 -- src/lib.rt:91:13

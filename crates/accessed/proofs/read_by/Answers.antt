@@ -1,11 +1,9 @@
--- A shift drops the indexes of the levels that were not walked. Assumes nothing.
-use mathlib.Core.Path.{◌≡◌, sym, ap, ◌∙◌}
+-- A shift drops the indexes of the levels that were not walked.
 use Prim.Native.Nat.{◌≤◌}
 use native.Mathlib.Omega.{arith}
 use Rattle.layout.specs.Layout.{config}
-use Rattle.accessed.specs.Entries.{tables_in, seen_of}
+use Rattle.accessed.specs.Entries.{seen_of}
 use Rattle.accessed.proofs.Laws.{tables_most}
-use borrow.Author.Rules.{rules}
 use Rattle.accessed.proofs.read_by.Goals.{After-tables_in-k}
 use Rattle.accessed.proofs.read_by.Goals as goal
 

@@ -1,13 +1,11 @@
--- With their bits set in what is left of the entries, memory is as with all of them set. Assumes nothing.
+-- With their bits set in what is left of the entries, memory is as with all of them set.
 use mathlib.Core.Path.{◌≡◌, sym, ap, ap₂, ◌∙◌}
-use Prim.Native.Nat.{◌+◌, ◌-◌, ◌≤◌}
+use Prim.Native.Nat.{◌-◌}
 use native.Mathlib.Omega.{arith}
-use lib.ListN.{get_or, length}
-use Rattle.spec.specs.Entry.{indexes}
+use lib.ListN.{get_or}
 use Rattle.spec.specs.Bits.{with_bits}
 use Rattle.words.specs.Words.{word_in, set_in}
 use Rattle.entry.proofs.Entries.{index_fits}
-use Rattle.accessed.specs.Entries.{entries, bits_in}
 use Rattle.accessed.proofs.Laws.{bits_turn, none_left}
 use borrow.Author.Rules.{rules}
 use Rattle.accessed.proofs.set_bits.Goals as goal

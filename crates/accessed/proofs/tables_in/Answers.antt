@@ -1,6 +1,5 @@
--- The places before the depth are tables, and what is left has the rest of them. Assumes nothing.
-use mathlib.Core.Path.{◌≡◌, sym, ap, ◌∙◌}
-use Prim.Native.Nat.{◌+◌, ◌≤◌}
+-- The places before the depth are tables, and what is left has the rest of them.
+use mathlib.Core.Path.{◌≡◌, ap}
 use native.Mathlib.Omega.{arith}
 use borrow.Author.Tests.{le-leb, lt-leb}
 use lib.ListN.{get_or}
@@ -8,7 +7,6 @@ use Rattle.spec.specs.Plain.{is_span}
 use Rattle.layout.specs.Layout.{config}
 use Rattle.accessed.specs.Entries.{tables_in}
 use Rattle.accessed.proofs.Laws.{tables_turn}
-use borrow.Author.Rules.{rules}
 use Rattle.accessed.proofs.tables_in.Goals as goal
 
 pub loop-left-init : goal.loop-left-init
