@@ -1,17 +1,16 @@
 -- The bits of a walk over memory, read in the tables that it hands out.
--- Assumes nothing.
-use mathlib.Core.Path.{◌≡◌, refl, sym, ap, ap₂, ◌∙◌, subst}
-use Prim.Native.Nat.{ℕ, ◌+◌, ◌-◌, ◌<◌, ◌≤◌}
+use mathlib.Core.Path.{◌≡◌, refl, sym, ap, ap₂, ◌∙◌}
+use Prim.Native.Nat.{ℕ, ◌+◌, ◌-◌, ◌≤◌}
 use native.Mathlib.Nat.{zero-add}
 use native.Mathlib.Omega.{arith}
 use mathlib.Core.Bool.{Bool, true, false, not, ◌&&◌, cond, and-false}
-use mathlib.Core.List.{List, ◌∷◌, map}
+use mathlib.Core.List.{List}
 use mathlib.Core.Option.{Option, none, some}
 use Rattle.spec.specs.declared.Fault.{Fault}
 use Rattle.spec.specs.Config.{Config}
-use Rattle.spec.specs.Entry.{indexes, page_of, frame_of, frame_limit}
+use Rattle.spec.specs.Entry.{indexes, page_of}
 use Rattle.spec.specs.Walk.{World, Trace, granted, trace}
-use Rattle.spec.specs.Plain.{Place, levels, walk}
+use Rattle.spec.specs.Plain.{Place, levels}
 use Rattle.spec.specs.Bits.{lacks, owed}
 use lib.Dec.{eqb, leb}
 use borrow.Author.Tests.{eqb-true, eq-eqb, ne_eqb}

@@ -1,6 +1,5 @@
 -- What a translation leaves, whatever the memory holds: no word outside the shadow tables' area changes, and what it hands back is
 -- again in range.
--- Assumes nothing.
 use mathlib.Core.Path.{◌≡◌, refl}
 use mathlib.Core.Logic.{inl, inr}
 use Prim.Native.Nat.{ℕ, ◌+◌, ◌-◌, ◌≤◌}
@@ -10,7 +9,7 @@ use mathlib.Core.Bool.{Bool, true, false, cond, false≢true}
 use mathlib.Core.List.{List}
 use lib.Dec.{eqb, leb, ltb}
 use Rattle.spec.specs.Config.{Config}
-use Rattle.spec.specs.Entry.{indexes, page_of}
+use Rattle.spec.specs.Entry.{page_of}
 use Rattle.spec.specs.Plain.{is_span, walk}
 use Rattle.pool.specs.declared.Way.{Way}
 use Rattle.pool.specs.declared.Way.TheVariants.{To, Not, Damaged}

@@ -560,6 +560,7 @@ fn lax(writable: bool, walked: Walked) -> Verdict
 }
 
 // With bits on, does the path that a request fills let stores pass? Not where a load comes to an entry that is not dirty.
+#[tactic(auto, unfolding(crate::specs::Translate::passes_of))]
 fn passes(mem: &[u64], layout: Layout, guests: &[u64; 8], request: Request, writable: bool) -> bool
     requires { (LayoutFits layout) × (request.depth ≤ layout.levels) }
     ensures { result ≡ passes_of (config layout) mem.now guests.now request.store request.address.0 request.depth writable }
@@ -638,6 +639,7 @@ fn strict(
 }
 
 // What becomes of a request whose direct part came so far.
+#[tactic(auto, unfolding(crate::specs::Translate::verdict_of))]
 fn ruled(
     mem: &[u64],
     space: Space,

@@ -1,9 +1,8 @@
--- By the verdict on what the direct part came to. Assumes nothing.
+-- By the verdict on what the direct part came to.
 use native.Mathlib.Omega.{arith}
 use Rattle.layout.specs.Layout.{config}
 use Rattle.translate.specs.Translate.{arrived_of}
 use Rattle.translate.proofs.Fits.{exit_small, direct_reads}
-use borrow.Author.Rules.{rules}
 use Rattle.translate.proofs.arrived.Goals as goal
 
 pub ruled-requires : goal.ruled-requires

@@ -1,5 +1,4 @@
--- The exits are those of the end. Assumes nothing.
-use borrow.Author.Rules.{rules}
+-- The exits are those of the end.
 use Rattle.translate.proofs.as_walked.Goals as goal
 
 pub returns : goal.returns

@@ -1,4 +1,4 @@
--- By the tests. Assumes nothing.
+-- By the tests.
 use mathlib.Core.Path.{sym}
 use borrow.Author.Tests.{eq-eqb, ne_eqb}
 use Rattle.translate.specs.Translate.{bitless_of}

@@ -1,13 +1,11 @@
--- Where the whole walk arrives its entries are judged. Assumes nothing.
+-- Where the whole walk arrives its entries are judged.
 use mathlib.Core.Path.{◌≡◌, sym, ap, ◌∙◌}
 use native.Mathlib.Omega.{arith}
 use Rattle.layout.specs.Layout.{config}
 use Rattle.walk.specs.declared.Trail.{Trail}
-use Rattle.walk.specs.declared.Walked.TheVariants as walked
 use Rattle.walk.specs.Memory.{walked_of, root_trail}
 use Rattle.translate.specs.Translate.{whole as wholeWalk, checked_of}
 use Rattle.translate.proofs.Bits.{whole_checked}
-use borrow.Author.Rules.{rules}
 use Rattle.translate.proofs.check.Goals as goal
 
 pub returns-in-Arrived : goal.returns-in-Arrived

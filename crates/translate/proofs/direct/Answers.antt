@@ -1,10 +1,9 @@
--- At depth 0 the held path leads to the page, and nothing is read. Assumes nothing.
+-- At depth 0 the held path leads to the page, and nothing is read.
 use mathlib.Core.Path.{sym}
 use Rattle.layout.specs.Layout.{config}
 use Rattle.walk.specs.Memory.{trail_from}
 use Rattle.translate.specs.Translate.{direct_of}
 use Rattle.translate.proofs.Bits.{direct_page}
-use borrow.Author.Rules.{rules}
 use Rattle.translate.proofs.direct.Goals as goal
 
 pub returns-then-request-eq0 : goal.returns-then-request-eq0

@@ -1,5 +1,4 @@
--- By the walk through the tables. Assumes nothing.
-use borrow.Author.Rules.{rules}
+-- By the walk through the tables.
 use Rattle.translate.proofs.direct_trail.Goals as goal
 
 pub returns : goal.returns

@@ -1,7 +1,6 @@
--- At the depth of all levels the frame goes into the record; below it the fill's way decides. Assumes nothing.
+-- At the depth of all levels the frame goes into the record; below it the fill's way decides.
 use borrow.Author.Tests.{le-leb, lt-leb}
 use Rattle.translate.specs.Translate.{filled_of}
-use borrow.Author.Rules.{rules}
 use Rattle.translate.proofs.filled.Goals as goal
 
 pub returns-then-layout-request : goal.returns-then-layout-request

@@ -1,7 +1,6 @@
 -- Below the depth of all levels a shadow entry is looked up; at it the record's frame is the path, or 0 if none is held.
 use borrow.Author.Tests.{lt-ltb, le-ltb, eq-eqb, ne_eqb}
 use Rattle.translate.specs.Translate.{found_of}
-use borrow.Author.Rules.{rules}
 use Rattle.translate.proofs.found.Goals as goal
 
 pub returns-then-depth-layout : goal.returns-then-depth-layout

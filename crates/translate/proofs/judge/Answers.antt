@@ -1,14 +1,11 @@
--- What is owed is asked only where a bit lacks. Assumes nothing.
+-- What is owed is asked only where a bit lacks.
 use mathlib.Core.Path.{◌≡◌, ap, ◌∙◌}
-use Prim.Native.Nat.{◌+◌, ◌≤◌}
 use native.Mathlib.Omega.{arith}
-use borrow.Author.Tests.{not-true, not-false}
 use Rattle.spec.specs.Entry.{page_of}
 use Rattle.layout.specs.Layout.{config}
 use Rattle.accessed.specs.Entries.{seen_of, seen_entries, owed_of}
 use Rattle.accessed.proofs.Walks.{seen_frames, seen_sum}
 use Rattle.translate.specs.Translate.{debt_by, entries_of}
-use borrow.Author.Rules.{rules}
 use Rattle.translate.proofs.judge.Goals.{After-read_by-read}
 use Rattle.translate.proofs.judge.Goals as goal
 

@@ -1,7 +1,6 @@
--- By the end of the walk. Assumes nothing.
+-- By the end of the walk.
 use mathlib.Core.Path.{ap, ◌∙◌}
 use Rattle.translate.specs.Translate.{settled_by}
-use borrow.Author.Rules.{rules}
 use Rattle.translate.proofs.judged.Goals as goal
 
 pub returns-in-Arrived : goal.returns-in-Arrived

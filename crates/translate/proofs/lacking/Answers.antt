@@ -1,14 +1,10 @@
--- With bits off no entry is looked at; else by the end of the walk. Assumes nothing.
-use mathlib.Core.Path.{◌≡◌, sym, ap, ◌∙◌}
-use mathlib.Core.Bool.{◌&&◌}
-use Prim.Native.Nat.{◌≤◌}
+-- With bits off no entry is looked at; else by the end of the walk.
+use mathlib.Core.Path.{sym}
 use native.Mathlib.Omega.{arith}
 use Rattle.spec.specs.Entry.{page_of}
 use Rattle.layout.specs.Layout.{config}
-use Rattle.accessed.specs.Entries.{seen_of}
 use Rattle.accessed.proofs.Walks.{seen_frames, seen_sum}
 use Rattle.translate.proofs.Bits.{chosen_off, chosen_on, lacking_none}
-use borrow.Author.Rules.{rules}
 use Rattle.translate.proofs.lacking.Goals as goal
 
 pub returns-then-layout-eq0 : goal.returns-then-layout-eq0

@@ -1,5 +1,4 @@
--- By the end of the walk. Assumes nothing.
-use borrow.Author.Rules.{rules}
+-- By the end of the walk.
 use Rattle.translate.proofs.lax.Goals as goal
 
 pub returns-in-Arrived : goal.returns-in-Arrived

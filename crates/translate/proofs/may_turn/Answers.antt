@@ -1,4 +1,4 @@
--- By its two tests. Assumes nothing.
+-- By its two tests.
 use borrow.Author.Tests.{eq-eqb, ne_eqb}
 use Rattle.translate.specs.Translate.{may_turn}
 use Rattle.translate.proofs.may_turn.Goals as goal

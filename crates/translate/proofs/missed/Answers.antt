@@ -1,5 +1,5 @@
--- The walk of the shadow part hands out the places that a fill notes; on from where it came to. Assumes nothing.
-use mathlib.Core.Path.{◌≡◌, sym, ap, ◌∙◌}
+-- The walk of the shadow part hands out the places that a fill notes; on from where it came to.
+use mathlib.Core.Path.{◌≡◌, sym, ap}
 use native.Mathlib.Omega.{arith}
 use borrow.Author.Tests.{le-leb, lt-leb}
 use Rattle.spec.specs.Plain.{is_span, walk}
@@ -8,7 +8,6 @@ use Rattle.walk.specs.declared.Trail.{Trail}
 use Rattle.walk.specs.Memory.{walked_of, root_trail}
 use Rattle.translate.specs.Translate.{path_indexes, missed_of}
 use Rattle.translate.proofs.Fits.{shadow_most}
-use borrow.Author.Rules.{rules}
 use Rattle.translate.proofs.missed.Goals as goal
 
 pub returns-then-page-space : goal.returns-then-page-space

@@ -1,6 +1,5 @@
--- By what is owed. Assumes nothing.
+-- By what is owed.
 use borrow.Author.Tests.{le-leb, lt-leb}
-use borrow.Author.Rules.{rules}
 use Rattle.translate.proofs.owes.Goals as goal
 
 pub returns-then-level-depth : goal.returns-then-level-depth

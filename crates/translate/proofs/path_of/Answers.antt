@@ -1,5 +1,4 @@
 -- Nine bits for each index are at most 63, so the shift is the definition's division of the page number.
-use borrow.Author.Rules.{rules}
 use Rattle.translate.proofs.path_of.Goals as goal
 
 pub returns : goal.returns

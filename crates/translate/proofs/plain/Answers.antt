@@ -1,7 +1,6 @@
--- Of the whole walk's trail only its end is used. Assumes nothing.
+-- Of the whole walk's trail only its end is used.
 use Rattle.walk.specs.Memory.{root_trail}
 use Rattle.translate.specs.Translate.{plain_of}
-use borrow.Author.Rules.{rules}
 use Rattle.translate.proofs.plain.Goals as goal
 
 pub returns : goal.returns

@@ -2,7 +2,6 @@
 use native.Mathlib.Omega.{arith}
 use Rattle.translate.specs.Translate.{served_of}
 use Rattle.translate.proofs.Fits.{exit_small}
-use borrow.Author.Rules.{rules}
 use Rattle.translate.proofs.serve.Goals as goal
 
 pub overflow_add-result : goal.overflow_add-result

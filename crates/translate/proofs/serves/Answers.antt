@@ -1,7 +1,6 @@
 -- Only at depth 0 does the writable bit matter; at every other depth the path serves.
 use borrow.Author.Tests.{eq-eqb, ne_eqb}
 use Rattle.translate.specs.Translate.{serves_of}
-use borrow.Author.Rules.{rules}
 use Rattle.translate.proofs.serves.Goals as goal
 
 pub returns-then-depth-eq0 : goal.returns-then-depth-eq0

@@ -1,5 +1,4 @@
--- By what the bits say. Assumes nothing.
-use borrow.Author.Rules.{rules}
+-- By what the bits say.
 use Rattle.translate.proofs.settled.Goals as goal
 
 pub returns-in-Clear : goal.returns-in-Clear

@@ -1,10 +1,9 @@
--- By the end of the direct part, and where that arrived by its bits. Assumes nothing.
+-- By the end of the direct part, and where that arrived by its bits.
 use native.Mathlib.Omega.{arith}
 use Rattle.layout.specs.Layout.{config}
 use Rattle.walk.specs.declared.Walked.TheVariants as walked
 use Rattle.translate.proofs.Fits.{exit_few}
 use Rattle.translate.proofs.Bits.{checked_once}
-use borrow.Author.Rules.{rules}
 use Rattle.translate.proofs.strict.Goals as goal
 
 pub end-requires : goal.end-requires

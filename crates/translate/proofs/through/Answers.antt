@@ -1,10 +1,8 @@
--- By whether a bit lacks. Assumes nothing.
+-- By whether a bit lacks.
 use mathlib.Core.Path.{sym, ◌∙◌}
 use native.Mathlib.Omega.{arith}
-use borrow.Author.Tests.{not-true, not-false}
 use Rattle.layout.specs.Layout.{config}
 use Rattle.translate.proofs.Bits.{trail_came, trail_lacking, through_by}
-use borrow.Author.Rules.{rules}
 use Rattle.translate.proofs.through.Goals as goal
 
 pub lacking-requires : goal.lacking-requires

@@ -1,7 +1,6 @@
--- By the depth: the whole plain walk, or the shadow part and on. Assumes nothing.
+-- By the depth: the whole plain walk, or the shadow part and on.
 use borrow.Author.Tests.{lt-ltb, le-ltb}
 use Rattle.translate.specs.Translate.{unserved_of}
-use borrow.Author.Rules.{rules}
 use Rattle.translate.proofs.unserved.Goals as goal
 
 pub returns-then-space-request : goal.returns-then-space-request

@@ -1,10 +1,9 @@
--- With bits off the plain walk; with bits on its end as it is if no bit lacks, and else judged. Assumes nothing.
+-- With bits off the plain walk; with bits on its end as it is if no bit lacks, and else judged.
 use mathlib.Core.Path.{◌≡◌, refl, sym, ap, ◌∙◌}
 use mathlib.Core.Bool.{Bool, true, false, ◌&&◌, cond}
 use mathlib.Core.List.{List}
 use Prim.Native.Nat.{ℕ}
 use native.Mathlib.Omega.{arith}
-use borrow.Author.Tests.{not-true}
 use Rattle.spec.specs.Config.{Config}
 use Rattle.spec.specs.Entry.{page_of}
 use Rattle.spec.specs.Bits.{lacks}
@@ -20,7 +19,6 @@ use Rattle.translate.specs.declared.Checked.TheVariants as checked
 use Rattle.translate.specs.declared.Held.{Held}
 use Rattle.translate.specs.Translate.{whole as wholeWalk, exit_by, translation, settled_by, judged_by, lacking_by, debt_by, entries_of, checked_of}
 use Rattle.translate.proofs.Bits.{whole_checked, chosen_off, chosen_on, unshadowed_off, unshadowed_on}
-use borrow.Author.Rules.{rules}
 use Rattle.translate.proofs.unshadowed.Goals as goal
 
 -- entries of which none lacks a bit are clear

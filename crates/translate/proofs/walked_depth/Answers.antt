@@ -1,4 +1,4 @@
--- The walk's end says it: a place beyond the frames is a span. There is no walk to a depth above all levels. Assumes nothing.
+-- The walk's end says it: a place beyond the frames is a span. There is no walk to a depth above all levels.
 use mathlib.Core.Path.{◌≡◌, sym, ap}
 use mathlib.Core.Bool.{false}
 use borrow.Author.Tests.{le-leb, lt-leb}
@@ -8,7 +8,6 @@ use Rattle.walk.specs.declared.Trail.{Trail}
 use Rattle.walk.specs.Memory.{walked_of, root_trail}
 use Rattle.translate.specs.Translate.{path_indexes, walked_depth}
 use Rattle.translate.proofs.Fits.{walked_above}
-use borrow.Author.Rules.{rules}
 use Rattle.translate.proofs.walked_depth.Goals.{After-walk_root-trail}
 use Rattle.translate.proofs.walked_depth.Goals as goal
 

@@ -1,5 +1,4 @@
--- By the walk's promise. Assumes nothing.
-use borrow.Author.Rules.{rules}
+-- By the walk's promise.
 use Rattle.translate.proofs.whole.Goals as goal
 
 pub returns : goal.returns
