@@ -1,5 +1,4 @@
 -- The depth of a request whose marks give d, by the path held at d: at such a depth every path that is found serves.
--- Assumes nothing.
 use mathlib.Core.Path.{◌≡◌, refl, sym, ap, ◌∙◌}
 use Prim.Native.Nat.{ℕ, ◌<◌, ◌≤◌}
 use native.Mathlib.Omega.{arith}

@@ -1,5 +1,4 @@
 -- The walk of a device store: the last step of a store's walk, with every right.
--- Assumes nothing.
 use mathlib.Core.Path.{◌≡◌, refl, ap}
 use Prim.Native.Nat.{ℕ}
 use mathlib.Core.Bool.{true}

@@ -1,5 +1,4 @@
 -- What the drops of a store leave, whatever the memory holds: no word outside the shadow tables' area changes; and where it drops nothing.
--- Assumes nothing.
 use mathlib.Core.Path.{◌≡◌, sym, ap}
 use Prim.Native.Nat.{ℕ, ◌≤◌}
 use native.Mathlib.Nat.{add-zero}

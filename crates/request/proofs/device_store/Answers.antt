@@ -1,10 +1,9 @@
--- By the end of the host walk. Assumes nothing.
+-- By the end of the host walk.
 use native.Mathlib.Omega.{arith}
 use Rattle.layout.specs.Layout.{config}
 use Rattle.spec.specs.Entry.{page_of}
 use Rattle.request.specs.Access.{device_of}
 use Rattle.request.proofs.Device.{device_in}
-use borrow.Author.Rules.{rules}
 use Rattle.request.proofs.device_store.Goals as goal
 
 pub written-requires : goal.written-requires

@@ -1,7 +1,6 @@
--- By whether it is watched. Assumes nothing.
+-- By whether it is watched.
 use mathlib.Core.Path.{sym, ◌∙◌}
 use Rattle.request.specs.Access.{dropped_of}
-use borrow.Author.Rules.{rules}
 use Rattle.request.proofs.drop_readers.Goals as goal
 
 pub drop_watched-requires : goal.drop_watched-requires

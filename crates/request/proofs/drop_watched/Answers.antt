@@ -1,6 +1,5 @@
--- The paths dropped, or damage met. Assumes nothing.
+-- The paths dropped, or damage met.
 use Rattle.request.specs.Access.{dropped_of}
-use borrow.Author.Rules.{rules}
 use Rattle.request.proofs.drop_watched.Goals as goal
 
 pub returns-then-left : goal.returns-then-left

@@ -1,5 +1,4 @@
--- By the promise of the bytes. Assumes nothing.
-use borrow.Author.Rules.{rules}
+-- By the promise of the bytes.
 use Rattle.request.proofs.finish.Goals as goal
 
 pub returns : goal.returns

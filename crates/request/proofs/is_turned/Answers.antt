@@ -1,10 +1,9 @@
--- By the test of the depth, and then the walk. Assumes nothing.
+-- By the test of the depth, and then the walk.
 use mathlib.Core.Path.{refl, sym, ap}
 use mathlib.Core.Bool.{not}
 use lib.Dec.{eqb}
 use borrow.Author.Tests.{eq-eqb}
 use Rattle.translate.specs.Translate.{turned_depth}
-use borrow.Author.Rules.{rules}
 use Rattle.request.proofs.is_turned.Goals as goal
 
 pub returns-then-may_turn : goal.returns-then-may_turn

@@ -1,13 +1,11 @@
 -- Beyond the levels it is translated without a path, and so where none is held and no large page can lie above; through a held path, to its
--- page at depth 0; else by its translation. Assumes nothing.
+-- page at depth 0; else by its translation.
 use mathlib.Core.Path.{sym, ap, ◌∙◌}
 use mathlib.Core.Bool.{false}
-use borrow.Author.Tests.{not-true}
 use Rattle.layout.specs.Layout.{config}
 use Rattle.request.specs.Access.{path_held_of, load_of}
 use Rattle.request.proofs.Held.{path_missed, path_none}
 use Rattle.request.proofs.Depths.{depth_kept, depth_found, depth_high}
-use borrow.Author.Rules.{rules}
 use Rattle.request.proofs.load.Goals as goal
 
 pub load_unserved-requires : goal.load_unserved-requires

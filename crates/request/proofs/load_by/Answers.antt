@@ -1,4 +1,4 @@
--- Its bits are set, and then it is said. Assumes nothing.
+-- Its bits are set, and then it is said.
 use mathlib.Core.Path.{ap, ◌∙◌}
 use mathlib.Core.Bool.{false}
 use Rattle.words.specs.After.{yields}
@@ -6,7 +6,6 @@ use Rattle.layout.specs.Layout.{config}
 use Rattle.translate.specs.Translate.{translation}
 use Rattle.request.specs.Access.{load_by}
 use Rattle.request.proofs.Held.{load_said}
-use borrow.Author.Rules.{rules}
 use Rattle.request.proofs.load_by.Goals as goal
 
 pub returns : goal.returns

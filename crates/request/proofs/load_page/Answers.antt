@@ -1,10 +1,9 @@
--- The bytes of the page where the path leads. Assumes nothing.
+-- The bytes of the page where the path leads.
 use mathlib.Core.Path.{refl}
 use mathlib.Core.Bool.{false}
 use Rattle.layout.specs.Layout.{config}
 use Rattle.translate.proofs.Fits.{held_small}
 use Rattle.request.proofs.Held.{path_small, load_page}
-use borrow.Author.Rules.{rules}
 use Rattle.request.proofs.load_page.Goals as goal
 
 pub read_bytes-requires : goal.read_bytes-requires

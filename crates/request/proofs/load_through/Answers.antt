@@ -1,17 +1,15 @@
--- The direct part lacks no bit, and the load is said; or it is judged by its bits. Assumes nothing.
+-- The direct part lacks no bit, and the load is said; or it is judged by its bits.
 use mathlib.Core.Path.{sym, ap, ◌∙◌, subst}
 use mathlib.Core.Bool.{true, false}
 use Rattle.words.specs.After.{yields}
 use Rattle.layout.specs.Layout.{config}
 use Rattle.translate.specs.declared.Translated.{Translated}
 use native.Mathlib.Omega.{arith}
-use borrow.Author.Tests.{not-true, not-false}
 use Rattle.translate.specs.Translate.{translation, exit_by, judged_by}
 use Rattle.translate.proofs.Fits.{held_small}
 use Rattle.translate.proofs.Bits.{bitless_none, trail_came, trail_lacking}
-use Rattle.request.specs.Access.{ReachesFrame, load_by, load_from, load_of}
-use Rattle.request.proofs.Held.{path_plainly, path_judged, path_small, reaches_as, load_said, load_plainly}
-use borrow.Author.Rules.{rules}
+use Rattle.request.specs.Access.{ReachesFrame, load_from, load_of}
+use Rattle.request.proofs.Held.{path_plainly, path_judged, path_small, reaches_as, load_plainly}
 use Rattle.request.proofs.load_through.Goals as goal
 
 pub direct-walked-requires : goal.direct-walked-requires

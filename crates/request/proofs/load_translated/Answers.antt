@@ -1,4 +1,4 @@
--- The translation is that of the load. Assumes nothing.
+-- The translation is that of the load.
 use mathlib.Core.Path.{refl, sym, ap, ◌∙◌, subst}
 use mathlib.Core.Bool.{false}
 use Rattle.words.specs.After.{After}
@@ -7,7 +7,6 @@ use Rattle.translate.specs.declared.Translated.{Translated}
 use Rattle.translate.specs.Translate.{depth_of}
 use Rattle.request.specs.Access.{ReachesFrame, load_from, load_of}
 use Rattle.request.proofs.Held.{reaches_as}
-use borrow.Author.Rules.{rules}
 use Rattle.request.proofs.load_translated.Goals as goal
 
 pub load_by-requires : goal.load_by-requires

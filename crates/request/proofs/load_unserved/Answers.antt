@@ -1,4 +1,4 @@
--- The translation without a path is that of the load. Assumes nothing.
+-- The translation without a path is that of the load.
 use mathlib.Core.Path.{sym, ap, ◌∙◌, subst}
 use mathlib.Core.Bool.{false}
 use Rattle.words.specs.After.{After}
@@ -6,7 +6,6 @@ use Rattle.layout.specs.Layout.{config}
 use Rattle.translate.specs.declared.Translated.{Translated}
 use Rattle.request.specs.Access.{ReachesFrame, load_from, load_of}
 use Rattle.request.proofs.Held.{reaches_as}
-use borrow.Author.Rules.{rules}
 use Rattle.request.proofs.load_unserved.Goals as goal
 
 pub load_by-requires : goal.load_by-requires

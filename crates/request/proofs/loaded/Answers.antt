@@ -1,5 +1,4 @@
--- By the end of the walk. Assumes nothing.
-use borrow.Author.Rules.{rules}
+-- By the end of the walk.
 use Rattle.request.proofs.loaded.Goals as goal
 
 pub read_bytes-requires : goal.read_bytes-requires

@@ -1,6 +1,5 @@
 -- By the path found, and whether it serves.
 use Rattle.request.specs.Access.{path_held_of}
-use borrow.Author.Rules.{rules}
 use Rattle.request.proofs.path_held.Goals as goal
 
 pub returns-then-serves : goal.returns-then-serves

@@ -1,5 +1,4 @@
--- The word around them, with them. Assumes nothing.
-use borrow.Author.Rules.{rules}
+-- The word around them, with them.
 use Rattle.request.proofs.put_bytes.Goals as goal
 
 pub returns : goal.returns

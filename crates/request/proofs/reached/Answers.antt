@@ -1,13 +1,11 @@
--- Through the path held for it; else at depth 0 into a large page, or damage, or without a path: each case is the definition's. Assumes nothing.
+-- Through the path held for it; else at depth 0 into a large page, or damage, or without a path: each case is the definition's.
 use mathlib.Core.Path.{sym, ap, ◌∙◌}
-use mathlib.Core.Logic.{⊎_elim}
 use Rattle.words.specs.After.{yields}
 use Rattle.layout.specs.Layout.{config}
 use Rattle.translate.specs.Translate.{translate_of}
 use Rattle.translate.proofs.Fits.{held_small}
 use Rattle.request.proofs.Held.{path_serves, path_small, path_missed, path_none, path_broken}
 use Rattle.request.proofs.Depths.{depth_kept, depth_by_lem, depth_found, depth_missed, depth_high, turned_same, turned_zero}
-use borrow.Author.Rules.{rules}
 use Rattle.request.proofs.reached.Goals as goal
 use Rattle.request.proofs.reached.Goals.{then-depth-space+in-Absent+else-is_turned, else-depth-space}
 

@@ -1,11 +1,10 @@
--- Through a held path, without one, or damage, all at depth 0. Assumes nothing.
+-- Through a held path, without one, or damage, all at depth 0.
 use mathlib.Core.Path.{sym, ap, ◌∙◌}
 use native.Mathlib.Omega.{arith}
 use Rattle.words.specs.After.{yields}
 use Rattle.layout.specs.Layout.{config}
 use Rattle.translate.proofs.Fits.{held_small}
 use Rattle.request.proofs.Held.{path_serves, path_small, path_missed, path_broken}
-use borrow.Author.Rules.{rules}
 use Rattle.request.proofs.reached_large.Goals as goal
 
 pub through-requires : goal.through-requires

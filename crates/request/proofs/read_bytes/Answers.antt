@@ -1,5 +1,4 @@
--- The word by its promise, then its part: the bytes lie inside the word, so the part is within its 64 bits. Assumes nothing.
-use borrow.Author.Rules.{rules}
+-- The word by its promise, then its part: the bytes lie inside the word, so the part is within its 64 bits.
 use Rattle.spec.specs.Bytes.{bytes_at}
 use Rattle.request.proofs.read_bytes.Goals as goal
 

@@ -1,4 +1,4 @@
--- Where the whole walk arrives, the entries in its tables are those that it read. Assumes nothing.
+-- Where the whole walk arrives, the entries in its tables are those that it read.
 use mathlib.Core.Path.{◌≡◌, sym, ap, ◌∙◌}
 use native.Mathlib.Omega.{arith}
 use Rattle.spec.specs.Entry.{page_of}
@@ -10,7 +10,6 @@ use Rattle.accessed.specs.Entries.{seen_of}
 use Rattle.accessed.proofs.Walks.{seen_frames, seen_sum}
 use Rattle.translate.proofs.Bits.{whole_entries}
 use Rattle.request.specs.Access.{bits_of}
-use borrow.Author.Rules.{rules}
 use Rattle.request.proofs.set_own.Goals.{After-read_by-read}
 use Rattle.request.proofs.set_own.Goals as goal
 

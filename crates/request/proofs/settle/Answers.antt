@@ -1,9 +1,7 @@
--- By the tests. Assumes nothing.
+-- By the tests.
 use mathlib.Core.Path.{sym}
-use borrow.Author.Tests.{not-true, not-false}
 use Rattle.request.specs.Access.{settled_of}
 use Rattle.request.proofs.Held.{set_none}
-use borrow.Author.Rules.{rules}
 use Rattle.request.proofs.settle.Goals as goal
 
 pub returns-then-not-sets : goal.returns-then-not-sets

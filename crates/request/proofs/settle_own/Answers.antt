@@ -1,7 +1,5 @@
--- By whether they are to be set. Assumes nothing.
-use borrow.Author.Tests.{not-true, not-false}
+-- By whether they are to be set.
 use Rattle.request.specs.Access.{settled_of}
-use borrow.Author.Rules.{rules}
 use Rattle.request.proofs.settle_own.Goals as goal
 
 pub returns-then-not-sets : goal.returns-then-not-sets

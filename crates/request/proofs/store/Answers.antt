@@ -1,11 +1,10 @@
--- The common case is a store; else the memory is as it was, and the store goes by its translation. Assumes nothing.
+-- The common case is a store; else the memory is as it was, and the store goes by its translation.
 use mathlib.Core.Path.{sym, ap, ◌∙◌}
 use Rattle.words.specs.After.{yields}
 use Rattle.layout.specs.Layout.{config}
 use Rattle.request.specs.Access.{store_of}
 use Rattle.request.proofs.Held.{plainly_one, plainly_stores, plainly_keeps}
 use Rattle.request.proofs.Depths.{turn_none, depth_kept}
-use borrow.Author.Rules.{rules}
 use Rattle.request.proofs.store.Goals as goal
 
 pub returns-then-store_plainly : goal.returns-then-store_plainly

@@ -1,4 +1,4 @@
--- A case of the definition each: another depth, no path, a watched frame, and the bytes written. Assumes nothing.
+-- A case of the definition each: another depth, no path, a watched frame, and the bytes written.
 use mathlib.Core.Path.{refl, sym, ◌∙◌}
 use mathlib.Core.Bool.{true}
 use borrow.Author.Tests.{eq-eqb, ne_eqb}
@@ -6,7 +6,6 @@ use Rattle.layout.specs.Layout.{config}
 use Rattle.translate.proofs.Fits.{held_small}
 use Rattle.request.specs.Access.{plainly_of}
 use Rattle.request.proofs.Held.{path_small}
-use borrow.Author.Rules.{rules}
 use Rattle.request.proofs.store_plainly.Goals as goal
 
 pub returns-then-depth-ne0 : goal.returns-then-depth-ne0

@@ -1,4 +1,4 @@
--- The direct part reads no bit, and the store is done; or it goes by its bits where one lacks. Assumes nothing.
+-- The direct part reads no bit, and the store is done; or it goes by its bits where one lacks.
 use mathlib.Core.Path.{sym, ap, ◌∙◌, subst}
 use mathlib.Core.Bool.{true, false}
 use Prim.Native.Nat.{◌≤◌}
@@ -11,7 +11,6 @@ use Rattle.translate.proofs.Fits.{exit_few, held_small}
 use Rattle.translate.proofs.Bits.{bitless_none}
 use Rattle.request.specs.Access.{ReachesFrame, store_from, store_of}
 use Rattle.request.proofs.Held.{path_plainly, path_serves, path_small, reaches_as, leaves_as, store_plainly}
-use borrow.Author.Rules.{rules}
 use Rattle.request.proofs.store_through.Goals as goal
 
 pub direct-walked-requires : goal.direct-walked-requires

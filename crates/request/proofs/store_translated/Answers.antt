@@ -1,4 +1,4 @@
--- Through a held path; else by its translation. Assumes nothing.
+-- Through a held path; else by its translation.
 use mathlib.Core.Path.{refl, sym, ap, ◌∙◌, subst}
 use mathlib.Core.Bool.{true}
 use Prim.Native.Nat.{◌≤◌}
@@ -10,7 +10,6 @@ use Rattle.translate.specs.Translate.{depth_of}
 use Rattle.request.specs.Access.{ReachesFrame, store_from, store_of}
 use Rattle.request.proofs.Held.{reaches_as, leaves_as}
 use Rattle.request.proofs.Depths.{depth_found}
-use borrow.Author.Rules.{rules}
 use Rattle.request.proofs.store_translated.Goals as goal
 
 pub store_through-requires : goal.store_through-requires

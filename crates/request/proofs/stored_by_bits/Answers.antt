@@ -1,10 +1,8 @@
--- By the end of the walk, then by what the drops left. Assumes nothing.
+-- By the end of the walk, then by what the drops left.
 use native.Mathlib.Omega.{arith}
-use borrow.Author.Tests.{not-true, not-false}
 use Rattle.layout.specs.Layout.{config}
 use Rattle.spec.specs.Entry.{word_of}
 use Rattle.request.proofs.Leaves.{drop_leaves}
-use borrow.Author.Rules.{rules}
 use Rattle.request.proofs.stored_by_bits.Goals as goal
 
 pub drop_readers-put-requires : goal.drop_readers-put-requires

@@ -1,4 +1,4 @@
--- A whole word is the value's; else the word by its promise, and then with another part of it. Assumes nothing.
+-- A whole word is the value's; else the word by its promise, and then with another part of it.
 use mathlib.Core.Path.{◌≡◌, sym, ap₂, ◌∙◌}
 use Prim.Native.Nat.{◌*◌, ◌%◌}
 use native.Mathlib.Nat.{mod-eq_of_lt}
@@ -7,7 +7,6 @@ use Rattle.spec.specs.Entry.{word_of}
 use Rattle.spec.specs.Bytes.{with_part, with_bytes}
 use Rattle.spec_laws.proofs.Bytes.{put_whole}
 use Rattle.words.specs.Words.{at, word_in}
-use borrow.Author.Rules.{rules}
 use Rattle.request.proofs.with_bytes.Goals as goal
 
 pub returns-then-width-eq8 : goal.returns-then-width-eq8

@@ -1,12 +1,10 @@
--- Not watched, or by what the drops left. Assumes nothing.
+-- Not watched, or by what the drops left.
 use mathlib.Core.Path.{sym, ◌∙◌}
 use native.Mathlib.Omega.{arith}
-use borrow.Author.Tests.{not-true, not-false}
 use Rattle.spec.specs.Entry.{word_of}
 use Rattle.layout.specs.Layout.{config}
 use Rattle.request.specs.Access.{dropped_of}
 use Rattle.request.proofs.Leaves.{drop_leaves, written_plainly}
-use borrow.Author.Rules.{rules}
 use Rattle.request.proofs.written.Goals as goal
 
 pub returns-then-not-watched : goal.returns-then-not-watched
