@@ -1,5 +1,4 @@
 -- A call, once its tests are known: the laws that the code is proved by.
--- Assumes nothing.
 use mathlib.Core.Path.{◌≡◌, refl, ap}
 use mathlib.Core.Logic.{◌≢◌}
 use native.Mathlib.Omega.{arith}

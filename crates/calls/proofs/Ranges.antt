@@ -1,5 +1,4 @@
 -- What the tests of a call give: the ranges that the functions below it ask for.
--- Assumes nothing.
 use mathlib.Core.Path.{◌≡◌, sym, subst}
 use mathlib.Core.Bool.{Bool, true, false, ◌&&◌, ◌||◌, and-eq-true_iff}
 use Prim.Native.Nat.{ℕ, ◌<◌, ◌≤◌}

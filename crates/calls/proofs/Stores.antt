@@ -1,5 +1,4 @@
 -- A store with the automatic choice off is the plain one; with it on, it goes by its charge.
--- Assumes nothing.
 use mathlib.Core.Path.{◌≡◌, refl, sym, ap, ◌∙◌}
 use mathlib.Core.Logic.{◌≢◌}
 use borrow.Author.Tests.{eq-eqb, ne_eqb}
@@ -42,14 +41,17 @@ use Rattle.calls.specs.declared.Turn.{Turn}
 
 -- ---- off
 
-off_tally : (x : Answer) (t : Tally) → t.on ≡ 0 → tally_after x t ≡ t
+off_requested : (t : Tally) → t.on ≡ 0 → requested_of t ≡ t
 unfolding requested_of
-off_tally answer.Ok t e = rw (eq-eqb t.on 0 e)
-off_tally (answer.Value v r n) t e = rw (eq-eqb t.on 0 e)
-off_tally (answer.Done r n) t e = rw (eq-eqb t.on 0 e)
-off_tally (answer.Faulted x r n) t e = rw (eq-eqb t.on 0 e)
-off_tally (answer.Refused n) t e = refl
-off_tally (answer.Figures r n k) t e = rw (eq-eqb t.on 0 e)
+off_requested t e = rw (eq-eqb t.on 0 e)
+
+off_tally : (x : Answer) (t : Tally) → t.on ≡ 0 → tally_after x t ≡ t
+off_tally answer.Ok t e = cc (off_requested t e)
+off_tally (answer.Value v r n) t e = cc (off_requested t e)
+off_tally (answer.Done r n) t e = cc (off_requested t e)
+off_tally (answer.Faulted x r n) t e = cc (off_requested t e)
+off_tally (answer.Refused n) t e = cc (off_requested t e)
+off_tally (answer.Figures r n k) t e = cc (off_requested t e)
 
 module _ (r : Record) (off : r.guest.choice.tally.on ≡ 0) where
   off_window : (s : After Served) → served_by r s ≡ windowed_by r s

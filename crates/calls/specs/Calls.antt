@@ -1,6 +1,5 @@
 -- The calls of the unit, as total definitions over any record, any memory and any numbers.
--- Assumes nothing.
-use Rattle.std.specs.Prelude.{ℕ, ◌+◌, ◌-◌, ◌*◌, ◌^◌, ◌<◌, ◌≤◌, ◌≡◌, Bool, true, false, not, ◌&&◌, cond, List, eqb, leb, ltb, length}
+use Rattle.std.specs.Prelude.{ℕ, ◌+◌, ◌-◌, ◌*◌, ◌^◌, ◌<◌, ◌≤◌, ◌≡◌, Bool, true, false, not, ◌&&◌, cond, List, eqb, leb, length}
 use Rattle.spec.specs.declared.Answer.{Answer}
 use Rattle.spec.specs.declared.Answer.TheVariants as answer
 use Rattle.spec.specs.declared.Lookup.{Lookup}
@@ -47,7 +46,6 @@ use Rattle.request.specs.declared.Served.{Served}
 use Rattle.translate.specs.declared.Translated.{Translated}
 use Rattle.translate.specs.Translate.{holding, translate_of, depth_of}
 use Rattle.request.specs.declared.Put.{Put}
-use Rattle.request.specs.Access as access
 use Rattle.request.specs.Access.{settled_of, dropped_of, bytes_in, load_of, store_from, device_of}
 use Rattle.forecast.specs.Forecast.{forecast_of}
 use Rattle.calls.specs.declared.Reply.{Reply}

@@ -1,10 +1,9 @@
 -- A guest's address by its own promise. A device's shift leaves 0 exactly if the address is below that power of two; then the multiple.
 use Prim.Native.Nat.{◌+◌}
-use borrow.Author.Tests.{eq-eqb, ne_eqb, not-true, not-false}
+use borrow.Author.Tests.{eq-eqb, ne_eqb}
 use Rattle.spec.specs.Config.{frame_bits}
 use Rattle.entry.specs.Levels.{of_levels}
 use Rattle.entry.proofs.Entries.{shift_out}
-use borrow.Author.Rules.{rules}
 use Rattle.calls.proofs.address_ok.Goals as goal
 
 pub returns-then-not-device : goal.returns-then-not-device

@@ -1,8 +1,7 @@
--- A refusal, or by what the host walk came to before. Assumes nothing.
+-- A refusal, or by what the host walk came to before.
 use borrow.Author.Tests.{eq-eqb, ne_eqb}
 use Rattle.record.specs.Record.{head_tables}
 use Rattle.calls.specs.Calls.{head_host}
-use borrow.Author.Rules.{rules}
 use Rattle.calls.proofs.changed.Goals as goal
 
 pub returns-then-change-ne0 : goal.returns-then-change-ne0

@@ -1,7 +1,5 @@
--- A frame that is not watched charges nobody; else the tables say it. Assumes nothing.
-use borrow.Author.Tests.{not-true, not-false}
+-- A frame that is not watched charges nobody; else the tables say it.
 use Rattle.calls.specs.Calls.{charged_in}
-use borrow.Author.Rules.{rules}
 use Rattle.calls.proofs.charge_at.Goals as goal
 
 pub returns-then-not-watched : goal.returns-then-not-watched

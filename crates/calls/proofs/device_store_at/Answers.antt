@@ -1,4 +1,4 @@
--- The number says which test failed; where none did, the record has its layout and what it holds in range. Assumes nothing.
+-- The number says which test failed; where none did, the record has its layout and what it holds in range.
 use mathlib.Core.Path.{sym, ap, ◌∙◌}
 use mathlib.Core.Bool.{true}
 use lib.ListN.{length}
@@ -8,7 +8,6 @@ use Rattle.record.specs.Record.{record_by, config_of, head_tables, fits_of}
 use Rattle.calls.specs.Calls.{address_ok, head_held, served_by, device_call}
 use Rattle.calls.proofs.Laws.{turned_away, taken, all_taken}
 use Rattle.calls.proofs.Ranges.{fits_levels, fits_sound, fits_inside}
-use borrow.Author.Rules.{rules}
 use Rattle.calls.proofs.device_store_at.Goals as goal
 
 pub request_refusal-refusal-requires : goal.request_refusal-refusal-requires

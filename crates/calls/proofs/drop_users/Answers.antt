@@ -4,7 +4,6 @@ use mathlib.Core.Bool.{true, false}
 use borrow.Author.Tests.{eq-eqb, ne_eqb, not-true, not-false}
 use Rattle.record.specs.Record.{head_tables}
 use Rattle.calls.specs.Calls.{head_held, head_host, unmapped_of}
-use borrow.Author.Rules.{rules}
 use Rattle.calls.proofs.drop_users.Goals as goal
 
 pub returns-then-guest-head : goal.returns-then-guest-head

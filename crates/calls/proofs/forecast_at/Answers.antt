@@ -1,15 +1,14 @@
--- 3, 16 and then 14; where none applies, the record has its layout and what it holds in range. Assumes nothing.
+-- 3, 16 and then 14; where none applies, the record has its layout and what it holds in range.
 use mathlib.Core.Path.{◌≡◌, sym, ap, ◌∙◌}
 use mathlib.Core.Bool.{true, not}
 use native.Mathlib.Omega.{arith}
 use lib.ListN.{length}
-use borrow.Author.Tests.{not-true, not-false, lt-leb, le-leb}
+use borrow.Author.Tests.{lt-leb, le-leb}
 use Rattle.translate.proofs.Bits.{chosen_off, chosen_on}
 use Rattle.record.specs.Record.{record_by, fits_of}
 use Rattle.calls.specs.Calls.{forecast_call}
 use Rattle.calls.proofs.Laws.{broken, failed, passed}
 use Rattle.calls.proofs.Ranges.{fits_sound, fits_held, fits_used}
-use borrow.Author.Rules.{rules}
 use Rattle.calls.proofs.forecast_at.Goals as goal
 
 pub returns-then-not-fits : goal.returns-then-not-fits

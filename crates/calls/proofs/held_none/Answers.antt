@@ -1,5 +1,4 @@
 -- Its pool is the one from which nothing was handed out, by the promise of that call.
-use borrow.Author.Rules.{rules}
 use Rattle.calls.proofs.held_none.Goals as goal
 
 pub returns : goal.returns

@@ -1,13 +1,9 @@
--- The number says which test failed; past them the marks are moved, or damage is met. Assumes nothing.
+-- The number says which test failed; past them the marks are moved, or damage is met.
 use mathlib.Core.Path.{sym, ◌∙◌}
-use borrow.Author.Tests.{not-true, not-false}
-use Rattle.words.specs.After.{yields}
 use Rattle.record.specs.Record.{record_by}
-use Rattle.calls.specs.Calls.{mark_moves}
 use Rattle.calls.proofs.Laws.{broken}
-use Rattle.calls.proofs.Marks.{mark_refused, mark_moved, turn_moved, turn_damaged}
+use Rattle.calls.proofs.Marks.{mark_refused}
 use Rattle.calls.proofs.Ranges.{fits_levels, fits_ready, mark_level}
-use borrow.Author.Rules.{rules}
 use Rattle.calls.proofs.mark_at.Goals as goal
 
 pub returns-then-not-fits : goal.returns-then-not-fits

@@ -1,9 +1,8 @@
--- By which of the two it is; clearing is one move. Assumes nothing.
+-- By which of the two it is; clearing is one move.
 use mathlib.Core.Path.{◌∙◌}
 use Rattle.record.specs.Record.{record_by}
 use Rattle.automatic.specs.Moves.{cleared_of}
 use Rattle.automatic.proofs.Parts.{marked_kept}
-use borrow.Author.Rules.{rules}
 use Rattle.calls.proofs.mark_moves.Goals as goal
 
 pub returns-then-setting : goal.returns-then-setting

@@ -1,5 +1,4 @@
--- By which of the two it is. Assumes nothing.
-use borrow.Author.Rules.{rules}
+-- By which of the two it is.
 use Rattle.calls.proofs.mark_refusal.Goals as goal
 
 pub returns-then-setting : goal.returns-then-setting

@@ -1,12 +1,10 @@
--- The first test that fails gives the number; the address is tested only where the record and the width fit, as its test asks for. Assumes nothing.
+-- The first test that fails gives the number; the address is tested only where the record and the width fit, as its test asks for.
 use mathlib.Core.Path.{sym, ◌∙◌, subst}
 use lib.Dec.{T}
-use borrow.Author.Tests.{not-true, not-false}
 use Rattle.spec.specs.Bytes.{width_fits}
 use Rattle.entry.specs.Levels.{of_levels}
 use Rattle.calls.specs.Calls.{address_ok}
 use Rattle.calls.proofs.Laws.{says_3, says_15, says_4, says_none}
-use borrow.Author.Rules.{rules}
 use Rattle.calls.proofs.request_refusal.Goals as goal
 
 pub returns-then-not-fits : goal.returns-then-not-fits

@@ -1,11 +1,9 @@
--- Refusals 3 and 8 by their tests; past them the head is emptied of held paths, then given its root, and its window emptied. Assumes nothing.
+-- Refusals 3 and 8 by their tests; past them the head is emptied of held paths, then given its root, and its window emptied.
 use mathlib.Core.Path.{sym, ◌∙◌}
-use borrow.Author.Tests.{not-true, not-false}
 use Rattle.record.specs.Record.{record_by}
 use Rattle.calls.specs.Calls.{root_call}
 use Rattle.calls.proofs.Laws.{broken, passed, failed}
 use Rattle.calls.proofs.Ranges.{fits_sound}
-use borrow.Author.Rules.{rules}
 use Rattle.calls.proofs.root_at.Goals as goal
 
 pub returns-then-not-fits : goal.returns-then-not-fits

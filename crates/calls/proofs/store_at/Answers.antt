@@ -1,4 +1,4 @@
--- The number says which test failed; where none did, the record has its layout and what it holds in range, and its marks give the depth. Assumes nothing.
+-- The number says which test failed; where none did, the record has its layout and what it holds in range, and its marks give the depth.
 use mathlib.Core.Path.{sym, ap, ◌∙◌}
 use mathlib.Core.Bool.{false}
 use lib.ListN.{length}
@@ -9,7 +9,6 @@ use Rattle.calls.specs.Calls.{address_ok, head_held, served_by, store_call}
 use Rattle.calls.proofs.Laws.{turned_away, taken, all_taken}
 use Rattle.calls.proofs.Ranges.{fits_levels, fits_sound, fits_held, fits_turns, fits_inside}
 use Rattle.calls.proofs.Stores.{off_call}
-use borrow.Author.Rules.{rules}
 use Rattle.calls.proofs.store_at.Goals as goal
 
 pub request_refusal-refusal-requires : goal.request_refusal-refusal-requires

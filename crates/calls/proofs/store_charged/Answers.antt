@@ -15,7 +15,6 @@ use Rattle.automatic.specs.Moves.{moved_in, kept_by}
 use Rattle.calls.specs.declared.Turn.{Turn}
 use Rattle.calls.specs.Calls.{head_held, with_held, turn_in, store_charged_of}
 use Rattle.calls.proofs.Stores.{settled_turn_lem}
-use borrow.Author.Rules.{rules}
 use Rattle.calls.proofs.store_charged.Goals as goal
 
 pub charge-moved-requires : goal.charge-moved-requires

@@ -11,7 +11,6 @@ use Rattle.charge.specs.declared.Charge.{Charge}
 use Rattle.charge.proofs.Laws.{SmallCharge}
 use Rattle.calls.specs.Calls.{windowed_by}
 use Rattle.calls.proofs.Stores.{charge_small, on_store, not_arrived, not_walked}
-use borrow.Author.Rules.{rules}
 use Rattle.calls.proofs.store_from.Goals as goal
 
 pub charge_at-requires : goal.charge_at-requires

@@ -1,6 +1,6 @@
--- The number says which test failed. Where none did, the common case is charged to nobody; any other store goes by its translation, with the memory as it was. Assumes nothing.
+-- The number says which test failed. Where none did, the common case is charged to nobody; any other store goes by its translation, with the memory as it was.
 use mathlib.Core.Path.{sym, ap, ◌∙◌}
-use mathlib.Core.Bool.{true, false}
+use mathlib.Core.Bool.{false}
 use lib.ListN.{length}
 use Rattle.spec.specs.Bytes.{width_fits}
 use Rattle.spec.specs.Refusal.{address_fits}
@@ -11,7 +11,6 @@ use Rattle.calls.specs.Calls.{address_ok, held_of, depth_at, store_call}
 use Rattle.calls.proofs.Laws.{turned_away, taken, all_taken}
 use Rattle.calls.proofs.Ranges.{fits_levels, fits_sound, fits_held, fits_turns, fits_inside, fits_ready}
 use Rattle.calls.proofs.Stores.{plain_stored}
-use borrow.Author.Rules.{rules}
 use Rattle.calls.proofs.store_on.Goals as goal
 
 pub request_refusal-refusal-requires : goal.request_refusal-refusal-requires

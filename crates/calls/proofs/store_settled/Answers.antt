@@ -1,6 +1,4 @@
--- Damage met by the marks, or the bits and then the bytes. Assumes nothing.
-use borrow.Author.Tests.{not-true, not-false}
-use borrow.Author.Rules.{rules}
+-- Damage met by the marks, or the bits and then the bytes.
 use Rattle.calls.proofs.store_settled.Goals as goal
 
 pub settle_own-requires : goal.settle_own-requires

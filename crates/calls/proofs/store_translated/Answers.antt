@@ -1,4 +1,4 @@
--- The translation is that of the call, and the rest goes by its charge. Assumes nothing.
+-- The translation is that of the call, and the rest goes by its charge.
 use mathlib.Core.Path.{sym, ap, ◌∙◌}
 use mathlib.Core.Bool.{true}
 use native.Mathlib.Omega.{arith}
@@ -7,7 +7,6 @@ use Rattle.record.specs.Record.{record_by, config_of}
 use Rattle.translate.specs.declared.Translated.{Translated}
 use Rattle.request.proofs.Held.{leaves_as, reaches_as}
 use Rattle.calls.specs.Calls.{host_top, root_of, held_of, request_depth, translated_of, stored_by}
-use borrow.Author.Rules.{rules}
 use Rattle.calls.proofs.store_translated.Goals as goal
 
 pub reached-t-requires : goal.reached-t-requires

@@ -1,5 +1,4 @@
--- By the answer. Assumes nothing.
-use borrow.Author.Rules.{rules}
+-- By the answer.
 use Rattle.calls.proofs.tally_after.Goals as goal
 
 pub returns-in-Ok : goal.returns-in-Ok

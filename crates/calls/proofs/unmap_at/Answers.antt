@@ -1,11 +1,9 @@
--- 3 by its test; past it the change, and what the host walk came to before it. Assumes nothing.
+-- 3 by its test; past it the change, and what the host walk came to before it.
 use mathlib.Core.Path.{sym, ap₂, ◌∙◌}
-use borrow.Author.Tests.{not-true, not-false}
 use Rattle.record.specs.Record.{record_by, head_tables}
 use Rattle.calls.specs.Calls.{changed_by, unmap_call}
 use Rattle.calls.proofs.Laws.{broken, unbroken}
 use Rattle.calls.proofs.Ranges.{fits_sound, fits_deep}
-use borrow.Author.Rules.{rules}
 use Rattle.calls.proofs.unmap_at.Goals as goal
 
 pub returns-then-not-fits : goal.returns-then-not-fits

@@ -1,5 +1,4 @@
--- Host tables and what is held are those of the head. Assumes nothing.
-use borrow.Author.Rules.{rules}
+-- Host tables and what is held are those of the head.
 use Rattle.calls.proofs.unmoved.Goals as goal
 
 pub returns : goal.returns

@@ -1,5 +1,4 @@
--- What is held, then the tally. Assumes nothing.
-use borrow.Author.Rules.{rules}
+-- What is held, then the tally.
 use Rattle.calls.proofs.windowed.Goals as goal
 
 pub returns : goal.returns

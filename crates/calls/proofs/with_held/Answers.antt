@@ -1,6 +1,5 @@
 -- One call, whose promise is the definition: the host pool stays, shadow pool and frame are what is held.
 use Rattle.calls.specs.Calls.{head_held}
-use borrow.Author.Rules.{rules}
 use Rattle.calls.proofs.with_held.Goals as goal
 
 pub returns : goal.returns
