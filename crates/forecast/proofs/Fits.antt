@@ -1,6 +1,5 @@
 -- What an address adds to a forecast, whatever the memory holds: at most 35 references, two exits and one path, and never more tables
 -- than the area has.
--- Assumes nothing.
 use mathlib.Core.Path.{◌≡◌, refl}
 use Prim.Native.Nat.{ℕ, suc, ◌+◌, ◌-◌, ◌*◌, ◌≤◌}
 use native.Mathlib.Nat.{mul-le-mul}

@@ -1,5 +1,4 @@
 -- The sums are small, and the greater number of tables is what its call promises.
-use borrow.Author.Rules.{rules}
 use Rattle.forecast.proofs.added_to.Goals as goal
 
 pub returns : goal.returns

@@ -1,6 +1,5 @@
--- By the test of the marked depth. Assumes nothing.
+-- By the test of the marked depth.
 use Rattle.translate.specs.Translate.{turned_depth}
-use borrow.Author.Rules.{rules}
 use Rattle.forecast.proofs.depth_at.Goals as goal
 
 pub returns-then-may_turn : goal.returns-then-may_turn

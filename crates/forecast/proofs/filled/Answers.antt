@@ -1,7 +1,6 @@
 -- The key goes into the next place, or into the first where all others are forgotten.
 use borrow.Author.Tests.{le-leb, lt-leb}
 use Rattle.forecast.specs.Forecast.{filled_of}
-use borrow.Author.Rules.{rules}
 use Rattle.forecast.proofs.filled.Goals as goal
 
 pub returns-then-tables-layout : goal.returns-then-tables-layout

@@ -1,18 +1,16 @@
 -- The loop's invariant: what is left of the list comes to the whole forecast, and after i addresses the sums are those of i at most.
 use mathlib.Core.Path.{◌≡◌, sym, ap, ◌∙◌}
-use Prim.Native.Nat.{suc, ◌+◌, ◌-◌, ◌≤◌}
+use Prim.Native.Nat.{suc, ◌+◌}
 use native.Mathlib.Omega.{arith}
-use lib.ListN.{length, get_or, drop, drop_of_length-le}
+use lib.ListN.{get_or, drop, drop_of_length-le}
 use Rattle.words.specs.After.{After}
 use Rattle.layout.specs.Layout.{config}
 use Rattle.marks.specs.Table.{keys}
 use Rattle.translate.proofs.Fits.{held_small}
-use Rattle.forecast.specs.Fits.{OutlookFits}
 use Rattle.forecast.specs.Forecast.{onward, list_of, forecast_of}
 use Rattle.forecast.specs.declared.Next.{Next}
 use Rattle.forecast.proofs.Fits.{NextFits, address_fits_lem}
 use Rattle.forecast.proofs.Laws.{list_step}
-use borrow.Author.Rules.{rules}
 use Rattle.forecast.proofs.forecast.Goals.{After-one_address}
 use Rattle.forecast.proofs.forecast.Goals as goal
 
@@ -59,6 +57,7 @@ returns c =
     let args = c.args in
     let loop = c.loop-i in
     rw (drop_of_length-le args.addresses.now {i = loop.i} (omega (arith, c.loop-i-test.false))) at loop.invariant.2
+
 pub returns-in-Damaged : goal.returns-in-Damaged
 returns-in-Damaged c = rw c.in-Damaged.is at (stepped (goal.at.returns-in-Damaged c).After-one_address)
 
@@ -66,4 +65,3 @@ pub loop-i-preserved : goal.loop-i-preserved
 loop-i-preserved c =
     let loop-test = c.loop-i-test in
     (rw c.in-Go.is at (ranged (goal.at.loop-i-preserved c).After-one_address), omega (arith, loop-test.true), rw c.in-Go.is at (stepped (goal.at.loop-i-preserved c).After-one_address))
-

@@ -1,18 +1,11 @@
 -- The loop's invariant: what is left of the list comes to the whole forecast, and after i addresses the sums are those of i at most.
-use mathlib.Core.Path.{◌≡◌, sym, ap, ◌∙◌}
-use Prim.Native.Nat.{suc, ◌+◌, ◌-◌, ◌≤◌}
-use native.Mathlib.Omega.{arith}
-use lib.ListN.{length, get_or, drop, drop_of_length-le}
-use Rattle.words.specs.After.{After}
+use mathlib.Core.Path.{◌≡◌}
+use Prim.Native.Nat.{◌-◌, ◌≤◌}
+use lib.ListN.{length, drop}
 use Rattle.layout.specs.Layout.{config}
 use Rattle.marks.specs.Table.{keys}
-use Rattle.translate.proofs.Fits.{held_small}
 use Rattle.forecast.specs.Fits.{OutlookFits}
-use Rattle.forecast.specs.Forecast.{onward, list_of, forecast_of}
-use Rattle.forecast.specs.declared.Next.{Next}
-use Rattle.forecast.proofs.Fits.{NextFits, address_fits_lem}
-use Rattle.forecast.proofs.Laws.{list_step}
-use borrow.Author.Rules.{rules}
+use Rattle.forecast.specs.Forecast.{list_of, forecast_of}
 use Rattle.forecast.proofs.forecast.Given as goal
 
 abbrev pub invariant-loop-i : goal.invariant-loop-i

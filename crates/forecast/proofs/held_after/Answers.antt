@@ -1,6 +1,5 @@
 -- A path that is not known adds the tables that neither the shadow tables nor the room have on its way.
 use Rattle.forecast.specs.Forecast.{held_after}
-use borrow.Author.Rules.{rules}
 use Rattle.forecast.proofs.held_after.Goals as goal
 
 pub returns-then-known : goal.returns-then-known

@@ -1,6 +1,5 @@
 -- Once the shadow tables are forgotten nothing is found in them.
 use Rattle.forecast.specs.Forecast.{kept_of}
-use borrow.Author.Rules.{rules}
 use Rattle.forecast.proofs.kept_at.Goals as goal
 
 pub returns-then-kept : goal.returns-then-kept

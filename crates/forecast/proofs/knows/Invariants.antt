@@ -1,13 +1,9 @@
 -- The loop comes down over the places: none from `left` on holds the key, so any does exactly if one of the first `left` does.
-use mathlib.Core.Path.{◌≡◌, refl}
+use mathlib.Core.Path.{◌≡◌}
 use Prim.Native.Nat.{◌≤◌}
-use native.Mathlib.Omega.{arith}
-use borrow.Author.Tests.{eq-eqb, ne_eqb}
 use lib.Dec.{eqb}
 use Rattle.spec.specs.Prefix.{any}
 use Rattle.forecast.specs.Forecast.{newest}
-use Rattle.forecast.proofs.Laws.{any_step, any_none}
-use borrow.Author.Rules.{rules}
 use Rattle.forecast.proofs.knows.Given as goal
 
 abbrev pub invariant-loop-left : goal.invariant-loop-left

@@ -1,11 +1,8 @@
 -- The loop goes down the levels: n tables stand above, and those that stand below are still to be counted.
 use mathlib.Core.Path.{◌≡◌}
-use Prim.Native.Nat.{◌+◌, ◌≤◌}
 use native.Mathlib.Omega.{arith}
-use borrow.Author.Tests.{not-true, not-false}
-use Rattle.forecast.specs.Forecast.{newest, met_from}
+use Rattle.forecast.specs.Forecast.{newest}
 use Rattle.forecast.proofs.Laws.{met_step, met_none}
-use borrow.Author.Rules.{rules}
 use Rattle.forecast.proofs.met.Goals as goal
 
 pub loop-left-init : goal.loop-left-init

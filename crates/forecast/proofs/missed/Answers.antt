@@ -11,7 +11,6 @@ use Rattle.translate.specs.Translate.{path_indexes}
 use Rattle.forecast.specs.Forecast.{missed_of}
 use Rattle.spec_laws.proofs.Counts.{one_most}
 use Rattle.forecast.proofs.Fits.{served_most, served_exits, path_most}
-use borrow.Author.Rules.{rules}
 use Rattle.forecast.proofs.missed.Goals.{After-walk_root-trail}
 use Rattle.forecast.proofs.missed.Goals as goal
 

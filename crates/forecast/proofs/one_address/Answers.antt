@@ -1,7 +1,5 @@
 -- An address that meets 4 leaves the outlook; any other is a load of the depth that its marks and its walk give.
-use borrow.Author.Tests.{not-true, not-false}
 use Rattle.forecast.specs.Forecast.{address_of}
-use borrow.Author.Rules.{rules}
 use Rattle.forecast.proofs.one_address.Goals as goal
 
 pub returns-then-not-names_bytes : goal.returns-then-not-names_bytes

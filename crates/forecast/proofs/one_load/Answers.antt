@@ -7,7 +7,6 @@ use Rattle.spec.specs.Entry.{frame_limit}
 use Rattle.layout.specs.Layout.{config}
 use Rattle.forecast.specs.Forecast.{load_of}
 use Rattle.forecast.proofs.Fits.{served_most, served_exits, plain_most, plain_exits, kept_is}
-use borrow.Author.Rules.{rules}
 use Rattle.forecast.proofs.one_load.Goals as goal
 
 pub pay-requires : goal.pay-requires

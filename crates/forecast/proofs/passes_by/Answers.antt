@@ -1,7 +1,6 @@
 -- A path does not pass through a table at its end or below it; else the indexes above the level are compared.
 use borrow.Author.Tests.{lt-ltb, le-ltb}
 use Rattle.forecast.specs.Forecast.{passes}
-use borrow.Author.Rules.{rules}
 use Rattle.forecast.proofs.passes_by.Goals as goal
 
 pub returns-then-depth-level : goal.returns-then-depth-level

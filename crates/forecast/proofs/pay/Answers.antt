@@ -1,6 +1,5 @@
 -- A word and a fault are paid for alike.
 use Rattle.forecast.specs.Forecast.{paid}
-use borrow.Author.Rules.{rules}
 use Rattle.forecast.proofs.pay.Goals as goal
 
 pub added_to-requires : goal.added_to-requires

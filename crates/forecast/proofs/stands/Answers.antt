@@ -1,11 +1,8 @@
 -- The loop comes down over the places, as that of `knows` does.
 use mathlib.Core.Path.{◌≡◌, refl}
-use Prim.Native.Nat.{◌≤◌}
 use native.Mathlib.Omega.{arith}
-use Rattle.spec.specs.Prefix.{any}
-use Rattle.forecast.specs.Forecast.{newest, passes}
+use Rattle.forecast.specs.Forecast.{passes}
 use Rattle.forecast.proofs.Laws.{any_step, any_none}
-use borrow.Author.Rules.{rules}
 use Rattle.forecast.proofs.stands.Goals as goal
 
 pub loop-left-init : goal.loop-left-init
