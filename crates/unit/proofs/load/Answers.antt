@@ -1,6 +1,5 @@
--- The call in parts gets the record's own head and arrays; what it leaves goes back into the record. The line follows. Assumes nothing.
+-- The call in parts gets the record's own head and arrays; what it leaves goes back into the record. The line follows.
 use Rattle.calls.proofs.Laws.{promised}
-use borrow.Author.Rules.{rules}
 use Rattle.unit.proofs.load.Goals as goal
 
 pub load_at-s-requires : goal.load_at-s-requires

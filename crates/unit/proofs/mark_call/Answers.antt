@@ -1,5 +1,4 @@
--- The call in parts on the record's own head and arrays; what it leaves are head and arrays of the record. Assumes nothing.
-use borrow.Author.Rules.{rules}
+-- The call in parts on the record's own head and arrays; what it leaves are head and arrays of the record.
 use Rattle.unit.proofs.mark_call.Goals as goal
 
 pub mark_at-turn-requires : goal.mark_at-turn-requires

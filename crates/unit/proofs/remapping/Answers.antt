@@ -1,5 +1,4 @@
--- The head gets the tables, and the record the head. Assumes nothing.
-use borrow.Author.Rules.{rules}
+-- The head gets the tables, and the record the head.
 use Rattle.unit.proofs.remapping.Goals as goal
 
 pub returns : goal.returns

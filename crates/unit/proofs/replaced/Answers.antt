@@ -1,6 +1,5 @@
--- The record gets the arrays, and then the head. Assumes nothing.
+-- The record gets the arrays, and then the head.
 use Rattle.record.specs.Record.{with_marks}
-use borrow.Author.Rules.{rules}
 use Rattle.unit.proofs.replaced.Goals as goal
 
 pub returns : goal.returns

@@ -1,5 +1,4 @@
 -- The head is taken out, given what is held now and put back; three promises, one after the other.
-use borrow.Author.Rules.{rules}
 use Rattle.unit.proofs.served.Goals as goal
 
 pub returns : goal.returns

@@ -1,6 +1,5 @@
--- With the choice off what is held goes back into the record; with it on, head and arrays. The line follows. Assumes nothing.
+-- With the choice off what is held goes back into the record; with it on, head and arrays. The line follows.
 use Rattle.calls.proofs.Laws.{promised}
-use borrow.Author.Rules.{rules}
 use Rattle.unit.proofs.store.Goals as goal
 
 pub store_at-s-requires : goal.store_at-s-requires

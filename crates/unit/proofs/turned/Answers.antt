@@ -1,5 +1,4 @@
 -- The head handed back replaces the record's, by the promise of one call.
-use borrow.Author.Rules.{rules}
 use Rattle.unit.proofs.turned.Goals as goal
 
 pub returns : goal.returns

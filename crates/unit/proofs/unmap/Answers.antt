@@ -1,6 +1,5 @@
--- The call in parts gets the record's own head and arrays; what it leaves goes back into the record. The line follows. Assumes nothing.
+-- The call in parts gets the record's own head and arrays; what it leaves goes back into the record. The line follows.
 use Rattle.calls.proofs.Laws.{promised}
-use borrow.Author.Rules.{rules}
 use Rattle.unit.proofs.unmap.Goals as goal
 
 pub unmap_at-x-requires : goal.unmap_at-x-requires

@@ -1,5 +1,4 @@
--- The head is taken out, given what is held now and the tally, and put back. Assumes nothing.
-use borrow.Author.Rules.{rules}
+-- The head is taken out, given what is held now and the tally, and put back.
 use Rattle.unit.proofs.windowed.Goals as goal
 
 pub returns : goal.returns
