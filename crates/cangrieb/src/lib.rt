@@ -9,9 +9,10 @@ ghost use Rattle.calls.specs.Calls.{head_held, head_remapped, open_call, load_ca
 ghost use Rattle.record.specs.Words.{head_in, head_words};
 ghost use Rattle.cangrieb.specs.Flat.{head_charged, window_in, record_in, answer_of, flat, reply_of, left_of, lookup_of, no_mark, kind_at, charges_at, legal_of, lowest_of, mark_in};
 
-use calls::{Remapped, Reply};
+use calls::Remapped;
 use choice::Tally;
 use entry::GuestVirtual;
+use record::Record;
 use spec::{Answer, Lookup};
 use translate::Held;
 
@@ -179,24 +180,20 @@ fn answer_of(a: Answer) -> FlatAnswer
     }
 }
 
-// The record of an opening takes the place of what is lent.
+// The record of an opening takes the place of what is lent. It is lent too, so that it is copied once.
 fn put_back(
     head: &mut [u64; 20],
     place: &mut [u64; 64],
     ring: &mut [u64; 64],
     order: &mut [u64; 64],
-    reply: Reply,
+    unit: &Record,
+    answer: Answer,
 ) -> FlatAnswer
-    ensures { flat head.new place.new ring.new order.new result ≡ reply_of reply }
+    ensures { flat head.new place.new ring.new order.new result ≡ reply_of (record { unit = unit.now; answer = answer }) }
 {
-    let unit = reply.unit;
-    let answer = reply.answer;
-    let places = unit.guest.marks.place;
-    *place = places;
-    let charged = unit.guest.choice.ring;
-    *ring = charged;
-    let automatic = unit.guest.choice.order;
-    *order = automatic;
+    *place = unit.guest.marks.place;
+    *ring = unit.guest.choice.ring;
+    *order = unit.guest.choice.order;
     *head = record::head_words(unit.head());
     answer_of(answer)
 }
@@ -218,8 +215,9 @@ pub extern "C" fn cangrieb_open(
 ) -> FlatAnswer
     ensures { yields (flat head.new place.new ring.new order.new result) mem.new ≡ left_of (open_call mem.old hosts shadows bits choice) }
 {
-    let r = unit::open(mem, hosts, shadows, bits, choice);
-    put_back(head, place, ring, order, r)
+    let opened = opening::open(mem, hosts, shadows, bits, choice);
+    let answer = unit::answer_of(opened.refusal);
+    put_back(head, place, ring, order, &opened.unit, answer)
 }
 
 // Loads so many bytes: 3, 15, 4, 11.

@@ -99,7 +99,7 @@ fn replaced(unit: Record, turn: Turn, place: [u64; 64], ring: [u64; 64], order: 
 // ---- opening
 
 // The answer of a call that yields no number: ok, or the refusal whose number it is.
-fn answer_of(refusal: u64) -> Answer
+pub fn answer_of(refusal: u64) -> Answer
     ensures { result ≡ answer_of refusal }
 {
     if refusal == 0 {
