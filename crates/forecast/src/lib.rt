@@ -429,7 +429,15 @@ pub fn forecast(
             GuestVirtual(addresses[i]),
         ) {
             Next::Go(next) => {
-                at = next;
+                // Field by field, so that the bytes between them are not copied along.
+                at = Outlook {
+                    sum: next.sum,
+                    paths: Paths {
+                        used: next.paths.used,
+                        kept: next.paths.kept,
+                        count: next.paths.count,
+                    },
+                };
             }
             Next::Damaged => {
                 return Answer::Refused(11);
