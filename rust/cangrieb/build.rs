@@ -1,4 +1,4 @@
-//! Links the proved static library, libcangrieb.a as `rt lib` in crates/cangrieb writes it. Its folder is CANGRIEB_LIB_DIR,
+//! Links the proved static library, libcangrieb.a as `rt lib --cpu=x86-64` in crates/cangrieb writes it. Its folder is CANGRIEB_LIB_DIR,
 //! or crates/cangrieb/out of the repository.
 
 use std::path::PathBuf;

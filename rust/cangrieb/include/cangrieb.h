@@ -1,4 +1,4 @@
-/* The proved memory unit, for a monitor to link: libcangrieb.a, as `rt lib` in crates/cangrieb writes it (x86-64).
+/* The proved memory unit, for a monitor to link: libcangrieb.a, as `rt lib --cpu=x86-64` in crates/cangrieb writes it (x86-64).
 
    The monitor owns a memory of 64-bit words in frames of 512: first the host frames, then the shadow frames, then the
    guest area. It also keeps the unit's record, a head and three rows of 64 words, and lends memory and record to each call.
@@ -15,8 +15,8 @@
    A refused opening sets head and rows to 0, and every later call with such a record is refused with 3. A granted one sets the
    host and shadow frames to 0, but that word 1 of frame 0, the top host table, has bits of the table's header.
 
-   For who links this into a kernel: a call takes at most 8 KiB of stack (a test measures it: 5.5 KiB for a store, 5.3 KiB for an
-   opening, 4.9 KiB for marks, 3.2 KiB for a forecast, 2 KiB for all others), allocates nothing and calls nothing but memcpy and
+   For who links this into a kernel: a call takes at most 8 KiB of stack (a test measures it: 5.8 KiB for a store, 6.9 KiB for an
+   opening, 5.2 KiB for marks, 3.1 KiB for a forecast and for all others), allocates nothing and calls nothing but memcpy and
    memset. By the System V x86-64 convention it may use the SSE registers and the 128 bytes below the stack pointer: a kernel
    saves the registers, and takes interrupts on another stack. */
 #ifndef CANGRIEB_H
