@@ -1,18 +1,12 @@
 -- A record in a part of the input: where it starts does not matter, nor what follows it.
 -- Assumes nothing.
-use mathlib.Core.Path.{◌≡◌, refl, sym, ap, ap₂, ◌∙◌, subst}
-use mathlib.Core.Bool.{Bool, true, false, cond}
-use mathlib.Core.List.{List, ◌++◌}
-use Prim.Native.Nat.{ℕ, zero, suc, ◌+◌, ◌-◌, ◌*◌, ◌≤◌, ◌<◌}
-use native.Mathlib.Omega.{arith}
-use borrow.Author.Tests.{leb-true, leb-false, ltb-true, ltb-false, le-leb, lt-leb, le-ltb}
-use lib.Dec.{leb, ltb}
-use lib.ListN.{length, take, drop, length-drop, length-append, get_or-append}
-use lib.Seq.{get_or-drop, drop-drop, drop-append-le, take-append-le}
+use Rattle.std.proofs.Common.{◌≡◌, refl, sym, ap, ap₂, ◌∙◌, subst, Bool, true, false, cond, List, ◌++◌, ℕ, zero, suc, ◌+◌, ◌-◌, ◌*◌, ◌≤◌, ◌<◌, arith, leb-true, leb-false, ltb-true, ltb-false, le-leb, le-ltb, leb, ltb, length, take, drop, length-drop, length-append, get_or-drop, drop-drop}
+use Rattle.std.proofs.lemmas.Bool.{lt-leb}
+use Rattle.std.proofs.lemmas.List.{drop-append-le, take-append-le}
 use Rattle.job_records.specs.declared.Cut.{Cut}
 use Rattle.job_records.specs.declared.Cut.TheVariants.{Body, Short, Wrong}
 use Rattle.job_records.specs.Records.{number, cut_by, cut_at, next_of, job_of, job_by, job_at}
-use Rattle.job_records.specs.Laws.{Within, cut_within}
+use Rattle.job_records.specs.Laws.{number_front, Within, cut_within}
 
 -- ---- where it starts
 
@@ -96,10 +90,6 @@ body_starts s at k b n e =
     subst (Starts at) e (starts_tree at (leb (at + 2) (length s)) (ltb l 2) (ltb 19 l) (ltb (length s - (at + 2)) l) (Body (number 2 s (at + 2)) (at + 4) (l - 2)) refl)
 
 -- ---- what follows it
-
-number_front : (w : ℕ) (s t : List ℕ) (i : ℕ) → i + w ≤ length s → number w (s ++ t) i ≡ number w s i
-number_front zero s t i h = refl
-number_front (suc w) s t i h = ap₂ (λ (x y : ℕ). x + 256 * y) (get_or-append s t 0 i (omega arith)) (number_front w s t (i + 1) (omega arith))
 
 -- a cut by the numbers that it looks at: the input's length, the record's and its kind
 abbrev cut : ℕ → ℕ → ℕ → ℕ → Cut

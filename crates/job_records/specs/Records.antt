@@ -1,11 +1,13 @@
 -- The records of a job, as definitions over the bytes of the input. Document 01, "Job program".
 -- Assumes nothing.
-use Rattle.std.specs.Prelude.{ℕ, zero, suc, ◌+◌, ◌-◌, ◌*◌, not, cond, List, [], eqb, ltb, leb, length, get_or, take, drop}
+use Rattle.std.specs.Prelude.{ℕ, zero, suc, ◌+◌, ◌-◌, ◌*◌, not, cond, List, [], eqb, ltb, leb, length, get_or, take, drop, Option, Some, None}
 use Rattle.job_records.specs.declared.Cut.{Cut}
 use Rattle.job_records.specs.declared.Cut.TheVariants.{Body, Short, Wrong}
 use Rattle.spec.specs.Call as asks
 use Rattle.job_records.specs.declared.Call.{Call}
 use Rattle.job_records.specs.declared.Call.TheVariants as call
+use Rattle.job_records.specs.declared.Kind.{Kind}
+use Rattle.job_records.specs.declared.Kind.TheVariants as kind
 use Rattle.job_records.specs.declared.Job.{Job}
 use Rattle.job_records.specs.declared.Job.TheVariants as job
 
@@ -52,53 +54,61 @@ asked (call.Load a) = asks.load_word a
 asked (call.Store a v) = asks.store_word a v
 asked (call.Device a v) = asks.device_word a v
 
+-- the kind with a number; one that is none of 1 to 9 is 13
+abbrev pub kind_at : ℕ → Option Kind
+kind_at n =
+    cond (eqb n 1) (Some kind.Open)
+    (cond (eqb n 2) (Some kind.Root)
+    (cond (eqb n 3) (Some kind.Map)
+    (cond (eqb n 4) (Some kind.Unmap)
+    (cond (eqb n 5) (Some kind.SetMark)
+    (cond (eqb n 6) (Some kind.ClearMark)
+    (cond (eqb n 7) (Some kind.Load)
+    (cond (eqb n 8) (Some kind.Store)
+    (cond (eqb n 9) (Some kind.Device)
+    None))))))))
+
+-- how many bytes a body of the kind has
+abbrev pub size_in : Kind → ℕ
+size_in kind.Open = 4
+size_in kind.Root = 8
+size_in kind.Map = 17
+size_in kind.Unmap = 8
+size_in kind.SetMark = 9
+size_in kind.ClearMark = 9
+size_in kind.Load = 8
+size_in kind.Store = 16
+size_in kind.Device = 16
+
+-- what a body b of that size asks for. Open: H and S in two bytes each. Map: the guest frame and the host frame in eight bytes each, and a byte
+-- that is 0 for read-only. Root, unmap and load: a guest frame or an address in eight bytes. A mark: the address in eight bytes, the level in one.
+-- Both stores: the address and the value in eight bytes each
+abbrev pub job_in : Kind → List ℕ → Job
+job_in kind.Open b = job.Open (number 2 b 0) (number 2 b 2)
+job_in kind.Root b = job.Call (call.Root (number 8 b 0))
+job_in kind.Map b = job.Call (call.Map (number 8 b 0) (number 8 b 8) (not (eqb (get_or b 16 0) 0)))
+job_in kind.Unmap b = job.Call (call.Unmap (number 8 b 0))
+job_in kind.SetMark b = job.Call (call.SetMark (number 8 b 0) (get_or b 8 0))
+job_in kind.ClearMark b = job.Call (call.ClearMark (number 8 b 0) (get_or b 8 0))
+job_in kind.Load b = job.Call (call.Load (number 8 b 0))
+job_in kind.Store b = job.Call (call.Store (number 8 b 0) (number 8 b 8))
+job_in kind.Device b = job.Call (call.Device (number 8 b 0) (number 8 b 8))
+
 -- a body of another length than its kind's is 13
-abbrev pub sized : ℕ → List ℕ → Job → Job
-sized n b x = cond (eqb (length b) n) x job.Bad
+abbrev pub job_by_kind : Option Kind → List ℕ → Option Job
+job_by_kind (Some k) b = cond (eqb (length b) (size_in k)) (Some (job_in k b)) None
+job_by_kind None b = None
 
--- kind 1, open: H and S in two bytes each
-abbrev pub open_body : List ℕ → Job
-open_body b = sized 4 b (job.Open (number 2 b 0) (number 2 b 2))
-
--- kind 3, map: the guest frame and the host frame in eight bytes each, and a byte that is 0 for read-only
-abbrev pub map_body : List ℕ → Job
-map_body b = sized 17 b (job.Call (call.Map (number 8 b 0) (number 8 b 8) (not (eqb (get_or b 16 0) 0))))
-
--- kinds 2, 4 and 7, root, unmap and load: a guest frame or an address in eight bytes
-abbrev pub number_body : ℕ → List ℕ → Job
-number_body k b =
-    sized 8 b (job.Call (cond (eqb k 2) (call.Root (number 8 b 0)) (cond (eqb k 4) (call.Unmap (number 8 b 0)) (call.Load (number 8 b 0)))))
-
--- kinds 5 and 6, set and clear a mark: the address in eight bytes, the level in one
-abbrev pub mark_body : ℕ → List ℕ → Job
-mark_body k b =
-    sized 9 b (job.Call (cond (eqb k 5) (call.SetMark (number 8 b 0) (get_or b 8 0)) (call.ClearMark (number 8 b 0) (get_or b 8 0))))
-
--- kinds 8 and 9, store and device store: the address and the value in eight bytes each
-abbrev pub pair_body : ℕ → List ℕ → Job
-pair_body k b =
-    sized 16 b (job.Call (cond (eqb k 8) (call.Store (number 8 b 0) (number 8 b 8)) (call.Device (number 8 b 0) (number 8 b 8))))
-
--- what a body b of kind k asks for; a kind that is none of 1 to 9 is 13
-unfoldable pub job_of : ℕ → List ℕ → Job
-job_of k b =
-    cond (eqb k 1) (open_body b)
-    (cond (eqb k 2) (number_body 2 b)
-    (cond (eqb k 3) (map_body b)
-    (cond (eqb k 4) (number_body 4 b)
-    (cond (eqb k 5) (mark_body 5 b)
-    (cond (eqb k 6) (mark_body 6 b)
-    (cond (eqb k 7) (number_body 7 b)
-    (cond (eqb k 8) (pair_body 8 b)
-    (cond (eqb k 9) (pair_body 9 b)
-    job.Bad))))))))
+-- what a body b of a kind with the number n asks for
+unfoldable pub job_of : ℕ → List ℕ → Option Job
+job_of n b = job_by_kind (kind_at n) b
 
 -- a record that the input cuts off, or whose length no kind has, is 13 too
-abbrev pub job_by : List ℕ → Cut → Job
+abbrev pub job_by : List ℕ → Cut → Option Job
 job_by s (Body k b n) = job_of k (take n (drop b s))
-job_by s Short = job.Bad
-job_by s Wrong = job.Bad
+job_by s Short = None
+job_by s Wrong = None
 
 -- what the record that starts at a position asks for
-unfoldable pub job_at : List ℕ → ℕ → Job
+unfoldable pub job_at : List ℕ → ℕ → Option Job
 job_at s at = job_by s (cut_at s at)
