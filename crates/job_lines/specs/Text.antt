@@ -1,7 +1,6 @@
 -- The line of a record, byte by byte in ASCII. Document 01, "Job program".
 -- Assumes nothing.
-use Rattle.std.specs.Prelude.{ℕ, zero, suc, ◌+◌, ◌-◌, ◌/◌, ◌%◌, ◌<◌, ◌≤◌, cond, ◌≡◌, refl, List, [], ◌∷◌, ◌++◌, ltb}
-use Rattle.std.proofs.Common.{arith, lt-ltb, le-ltb}
+use Rattle.std.specs.Prelude.{ℕ, zero, suc, ◌+◌, ◌/◌, ◌%◌, cond, List, [], ◌∷◌, ◌++◌, ltb}
 use Rattle.spec.specs.declared.Fault.{Fault}
 use Rattle.spec.specs.declared.Answer.{Answer}
 use Rattle.spec.specs.Answer as say
@@ -65,32 +64,3 @@ answer_text x = text_of (line x)
 -- the line of an answer: the record's number, the answer's text, and a newline
 unfoldable pub line_of : ℕ → Answer → List ℕ
 line_of n x = (decimal 19 n ++ answer_text x) ++ (10 ∷ [])
-
--- ---- numbers, digit by digit
-
-pub decimal_zero : (k n : ℕ) → k ≡ 0 → decimal k n ≡ digit (n % 10) ∷ []
-unfolding decimal
-decimal_zero k n e = rw e
-
-pub decimal_one : (k n : ℕ) → n < 10 → decimal k n ≡ digit (n % 10) ∷ []
-unfolding decimal
-decimal_one zero n h = refl
-decimal_one (suc k) n h = rw (lt-ltb n 10 h)
-
-pub decimal_more : (k n : ℕ) → (k ≡ 0 → ⊥) → 10 ≤ n → decimal k n ≡ decimal (k - 1) (n / 10) ++ (digit (n % 10) ∷ [])
-unfolding decimal
-decimal_more zero n z h = absurd (z refl)
-decimal_more (suc k) n z h =
-    let e : suc k - 1 ≡ k = omega arith in
-    rw (le-ltb n 10 h, e)
-
-pub hex_zero : (k n : ℕ) → k ≡ 0 → hexadecimal k n ≡ []
-unfolding hexadecimal
-hex_zero k n e = rw e
-
-pub hex_more : (k n : ℕ) → (k ≡ 0 → ⊥) → hexadecimal k n ≡ hexadecimal (k - 1) (n / 16) ++ (digit (n % 16) ∷ [])
-unfolding hexadecimal
-hex_more zero n z = absurd (z refl)
-hex_more (suc k) n z =
-    let e : suc k - 1 ≡ k = omega arith in
-    rw e

@@ -1,12 +1,18 @@
-// The line of a record: its number and what the unit answered, in ASCII, into a buffer that the caller lends.
+// The line of a record: its number and what the unit answered, in ASCII.
 #![tactic(auto)]
 
-ghost use Rattle.std.specs.Prelude.{◌≡◌, ◌+◌, ◌≤◌, ◌<◌, length, take};
+ghost use Rattle.std.specs.Prelude.{◌≡◌, ◌+◌, ◌≤◌, ◌<◌, ◌++◌, length};
+ghost use Rattle.arrayvec.specs.ArrayVec.{array_vec_len};
 ghost use Rattle.job_lines.specs.Text.{digit, decimal, hexadecimal, number, pair, fault_of, answer_text, line_of};
-ghost use Rattle.puts.specs.Puts.{Puts};
 
-use puts::put;
+use arrayvec::ArrayVec;
 use spec::{Answer, Fault};
+
+// The longest line: a number of 20 digits, a fault, and a newline.
+pub const LONGEST: usize = 113;
+
+// A line as it is put together, in memory of its own.
+pub type Line = ArrayVec<u8, LONGEST>;
 
 // The digit of a number below 16.
 fn digit_of(d: u64) -> u8
@@ -17,154 +23,121 @@ fn digit_of(d: u64) -> u8
 }
 
 // Puts a text.
-fn put_text(out: &mut [u8], at: usize, text: &[u8]) -> usize
-    requires { at + length text.now ≤ length out.old }
-    ensures { (result ≡ at + length text.now) × (Puts out.old at out.new result text.now) }
+fn put_text(out: &mut Line, text: &[u8])
+    requires { array_vec_len out.old + length text.now ≤ LONGEST }
+    ensures { out.new.items ≡ out.old.items ++ text.now }
 {
-    let mut i: usize = 0;
-    while i < text.len() {
-        put(out, at + i, text[i]);
-        i += 1;
-    }
-    at + i
+    out.try_extend_from_slice(text).unwrap();
 }
 
-// Puts a number in decimal: one digit, and at most so many more in front of it.
-fn put_decimal(out: &mut [u8], at: usize, n: u64, more: usize) -> usize
-    requires { at + (more + 1) ≤ length out.old }
-    ensures { (result ≤ at + (more + 1)) × (Puts out.old at out.new result (decimal more n)) }
+// Puts a number in decimal.
+#[tactic(auto, using(crate::proofs::Numbers::decimal_text))]
+fn put_decimal(out: &mut Line, n: u64)
+    requires { array_vec_len out.old + 20 ≤ LONGEST }
+    ensures room { array_vec_len out.new ≤ array_vec_len out.old + 20 }
+    ensures items { out.new.items ≡ out.old.items ++ decimal 19 n }
 {
-    let last = digit_of(n % 10);
-    if more == 0 {
-        return put(out, at, last);
-    }
-    if n < 10 {
-        return put(out, at, last);
-    }
-    let from = put_decimal(out, at, n / 10, more - 1);
-    put(out, from, last)
+    let mut digits = itoa::Buffer::new();
+    put_text(out, digits.format(n).as_bytes());
 }
 
 // Puts so many hexadecimal digits of a number.
-fn put_hex(out: &mut [u8], at: usize, n: u64, width: usize) -> usize
-    requires { at + width ≤ length out.old }
-    ensures { (result ≤ at + width) × (Puts out.old at out.new result (hexadecimal width n)) }
+fn put_hex(out: &mut Line, n: u64, width: usize)
+    requires { array_vec_len out.old + width ≤ LONGEST }
+    ensures room { array_vec_len out.new ≤ array_vec_len out.old + width }
+    ensures items { out.new.items ≡ out.old.items ++ hexadecimal width n }
 {
-    if width == 0 {
-        return at;
+    if width > 0 {
+        put_hex(out, n / 16, width - 1);
+        out.push(digit_of(n % 16));
     }
-    let from = put_hex(out, at, n / 16, width - 1);
-    put(out, from, digit_of(n % 16))
 }
 
 // Puts a space and a number.
-fn put_number(out: &mut [u8], at: usize, n: u64) -> usize
-    requires { at + 21 ≤ length out.old }
-    ensures { (result ≤ at + 21) × (Puts out.old at out.new result (number n)) }
+fn put_number(out: &mut Line, n: u64)
+    requires { array_vec_len out.old + 21 ≤ LONGEST }
+    ensures room { array_vec_len out.new ≤ array_vec_len out.old + 21 }
+    ensures items { out.new.items ≡ out.old.items ++ number n }
 {
-    let from = put(out, at, b' ');
-    put_decimal(out, from, n, 19)
+    out.push(b' ');
+    put_decimal(out, n);
 }
 
 // Puts two numbers, each after a space.
-fn put_pair(out: &mut [u8], at: usize, m: u64, n: u64) -> usize
-    requires { at + 42 ≤ length out.old }
-    ensures { (result ≤ at + 42) × (Puts out.old at out.new result (pair m n)) }
+fn put_pair(out: &mut Line, m: u64, n: u64)
+    requires { array_vec_len out.old + 42 ≤ LONGEST }
+    ensures room { array_vec_len out.new ≤ array_vec_len out.old + 42 }
+    ensures items { out.new.items ≡ out.old.items ++ pair m n }
 {
-    let from = put_number(out, at, m);
-    put_number(out, from, n)
+    put_number(out, m);
+    put_number(out, n);
 }
 
 // Puts the letter, the level and the guest frame of a fault.
-fn put_fault(out: &mut [u8], at: usize, fault: Fault) -> usize
-    requires { at + 43 ≤ length out.old }
-    ensures { (result ≤ at + 43) × (Puts out.old at out.new result (fault_of fault)) }
+fn put_fault(out: &mut Line, fault: Fault)
+    requires { array_vec_len out.old + 43 ≤ LONGEST }
+    ensures room { array_vec_len out.new ≤ array_vec_len out.old + 43 }
+    ensures items { out.new.items ≡ out.old.items ++ fault_of fault }
 {
-    let from = put(out, at, spec::letter_of(fault));
-    put_pair(out, from, spec::level_of(fault), spec::frame_of(fault))
+    out.push(spec::letter_of(fault));
+    put_pair(out, spec::level_of(fault), spec::frame_of(fault));
 }
 
-// Puts a value, references and exits.
-fn put_value(out: &mut [u8], at: usize, word: u64, references: u64, exits: u64) -> usize
-    requires { at + 65 ≤ length out.old }
-    ensures { (result ≤ at + 65) × (Puts out.old at out.new result (answer_text (Answer.Value word references exits))) }
-{
-    let text = put_text(out, at, b" value ");
-    let from = put_hex(out, text, word, 16);
-    put_pair(out, from, references, exits)
-}
-
-// Puts references and exits.
-fn put_done(out: &mut [u8], at: usize, references: u64, exits: u64) -> usize
-    requires { at + 47 ≤ length out.old }
-    ensures { (result ≤ at + 47) × (Puts out.old at out.new result (answer_text (Answer.Done references exits))) }
-{
-    let from = put_text(out, at, b" done");
-    put_pair(out, from, references, exits)
-}
-
-// Puts a fault, references and exits.
-fn put_faulted(out: &mut [u8], at: usize, fault: Fault, references: u64, exits: u64) -> usize
-    requires { at + 92 ≤ length out.old }
-    ensures { (result ≤ at + 92) × (Puts out.old at out.new result (answer_text (Answer.Faulted fault references exits))) }
-{
-    let text = put_text(out, at, b" fault ");
-    let from = put_fault(out, text, fault);
-    put_pair(out, from, references, exits)
-}
-
-// Puts a refusal.
-fn put_refused(out: &mut [u8], at: usize, n: u64) -> usize
-    requires { at + 24 ≤ length out.old }
-    ensures { (result ≤ at + 24) × (Puts out.old at out.new result (answer_text (Answer.Refused n))) }
-{
-    let from = put_text(out, at, b" no");
-    put_number(out, from, n)
-}
-
-// Puts the figures of a forecast. No record of a job asks for one: they are here so that each answer has its text.
-fn put_figures(out: &mut [u8], at: usize, references: u64, exits: u64, tables: u64) -> usize
-    requires { at + 71 ≤ length out.old }
-    ensures { (result ≤ at + 71) × (Puts out.old at out.new result (answer_text (Answer.Figures references exits tables))) }
-{
-    let text = put_text(out, at, b" figures");
-    let from = put_pair(out, text, references, exits);
-    put_number(out, from, tables)
-}
-
-// Puts what an answer says.
-fn put_answer(out: &mut [u8], at: usize, answer: Answer) -> usize
-    requires { at + 92 ≤ length out.old }
-    ensures { (result ≤ at + 92) × (Puts out.old at out.new result (answer_text answer)) }
+// Puts what an answer says. No record of a job asks for a forecast: its figures are here so that each answer has its text.
+fn put_answer(out: &mut Line, answer: Answer)
+    requires { array_vec_len out.old + 92 ≤ LONGEST }
+    ensures room { array_vec_len out.new ≤ array_vec_len out.old + 92 }
+    ensures items { out.new.items ≡ out.old.items ++ answer_text answer }
 {
     match answer {
-        Answer::Ok => put_text(out, at, b" ok"),
+        Answer::Ok => put_text(out, b" ok"),
         Answer::Value {
             word,
             references,
             exits,
-        } => put_value(out, at, word, references, exits),
-        Answer::Done { references, exits } => put_done(out, at, references, exits),
+        } => {
+            put_text(out, b" value ");
+            put_hex(out, word, 16);
+            put_pair(out, references, exits);
+        }
+        Answer::Done { references, exits } => {
+            put_text(out, b" done");
+            put_pair(out, references, exits);
+        }
         Answer::Faulted {
             fault,
             references,
             exits,
-        } => put_faulted(out, at, fault, references, exits),
-        Answer::Refused(n) => put_refused(out, at, n),
+        } => {
+            put_text(out, b" fault ");
+            put_fault(out, fault);
+            put_pair(out, references, exits);
+        }
+        Answer::Refused(n) => {
+            put_text(out, b" no");
+            put_number(out, n);
+        }
         Answer::Figures {
             references,
             exits,
             tables,
-        } => put_figures(out, at, references, exits, tables),
+        } => {
+            put_text(out, b" figures");
+            put_pair(out, references, exits);
+            put_number(out, tables);
+        }
     }
 }
 
-// Puts the line of a record at the start of the buffer, and answers its length.
-pub fn line(number: u64, answer: Answer, out: &mut [u8]) -> usize
-    requires { 113 ≤ length out.old }
-    ensures { (result ≤ 113) × (take result out.new ≡ line_of number answer) }
+// The line of a record.
+#[tactic(auto, unfolding(crate::specs::Text::line_of))]
+pub fn line(number: u64, answer: Answer) -> Line
+    ensures fits { array_vec_len result ≤ 113 }
+    ensures items { result.items ≡ line_of number answer }
 {
-    let from = put_decimal(out, 0, number, 19);
-    let end = put_answer(out, from, answer);
-    put(out, end, b'\n')
+    let mut out = Line::new();
+    put_decimal(&mut out, number);
+    put_answer(&mut out, answer);
+    out.push(b'\n');
+    out
 }

@@ -1,20 +1,14 @@
 -- No digit, or a digit behind those that stand in front of it.
-use Rattle.std.proofs.Common.{ℕ, ◌-◌, ◌/◌, List, [], ◌∷◌, ◌++◌, take, ap, sym, ◌∙◌, arith, append-nil}
-use Rattle.job_lines.specs.Text.{hexadecimal, hex_zero, hex_more}
-use Rattle.puts.specs.Puts.{puts_as, then}
+use Rattle.std.proofs.Common.{arith, append-nil, append_assoc}
+use Rattle.job_lines.proofs.Numbers.{hex_zero, hex_more}
 use Rattle.job_lines.proofs.+put_hex.Goals as goal
 
-pub returns-then-width-eq0 : goal.returns-then-width-eq0
-returns-then-width-eq0 t c =
+pub returns-then-width-gt0-clause-items : goal.returns-then-width-gt0-clause-items
+returns-then-width-gt0-clause-items t c =
     let a = c.args in
-    (omega arith, sym (append-nil (take a.at a.out.now)) ∙ ap (λ (x : List ℕ). take a.at a.out.now ++ x) (sym (hex_zero a.width a.n c.if-width-eq0.true)))
+    rw (c.push.ensures.items, c.put_hex.ensures.items, c.digit_of.ensures, hex_more a.width a.n c.if-width-gt0.true, append_assoc)
 
-pub returns : goal.returns
-returns t c =
+pub returns-else-width-gt0-clause-items : goal.returns-else-width-gt0-clause-items
+returns-else-width-gt0-clause-items t c =
     let a = c.args in
-    let rest = c.put_hex-from in (
-      omega arith,
-      puts_as a.out.now c.put.new.out a.at c.put.result _ _
-          (then a.out.now rest.new.out c.put.new.out a.at rest.result c.put.result _ _ rest.ensures.1 c.put.ensures.1)
-          (ap (λ (x : ℕ). hexadecimal (a.width - 1) (a.n / 16) ++ (x ∷ [])) c.digit_of.ensures ∙ sym (hex_more a.width a.n c.if-width-eq0.false)),
-    )
+    rw (hex_zero a.width a.n (omega arith), append-nil)

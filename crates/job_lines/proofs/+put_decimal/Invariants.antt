@@ -1,5 +1,0 @@
--- By the digits that may still stand in front.
-use Rattle.job_lines.proofs.+put_decimal.Given as goal
-
-abbrev pub decreases-put_decimal : goal.decreases-put_decimal
-decreases-put_decimal l = l.more
