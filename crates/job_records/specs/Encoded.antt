@@ -3,6 +3,7 @@
 use Rattle.std.specs.Prelude.{ℕ, zero, suc, ◌+◌, ◌/◌, ◌%◌, cond, List, [], ◌∷◌, ◌++◌, length}
 use Rattle.job_records.specs.declared.Call.{Call}
 use Rattle.job_records.specs.declared.Call.TheVariants as call
+use Rattle.job_records.specs.Records.{number_in, kind_in}
 
 -- a number in w bytes, its lowest byte first
 abbrev pub bytes_of : ℕ → ℕ → List ℕ
@@ -17,15 +18,9 @@ record_bytes k b = (bytes_of 2 (2 + length b) ++ bytes_of 2 k) ++ b
 abbrev pub open_bytes : ℕ → ℕ → List ℕ
 open_bytes h s = record_bytes 1 (bytes_of 2 h ++ bytes_of 2 s)
 
+-- the number of a call's kind
 abbrev pub kind_of : Call → ℕ
-kind_of (call.Root g) = 2
-kind_of (call.Map g f w) = 3
-kind_of (call.Unmap g) = 4
-kind_of (call.SetMark a n) = 5
-kind_of (call.ClearMark a n) = 6
-kind_of (call.Load a) = 7
-kind_of (call.Store a v) = 8
-kind_of (call.Device a v) = 9
+kind_of x = number_in (kind_in x)
 
 abbrev pub body_bytes : Call → List ℕ
 body_bytes (call.Root g) = bytes_of 8 g

@@ -68,6 +68,28 @@ kind_at n =
     (cond (eqb n 9) (Some kind.Device)
     None))))))))
 
+abbrev pub number_in : Kind → ℕ
+number_in kind.Open = 1
+number_in kind.Root = 2
+number_in kind.Map = 3
+number_in kind.Unmap = 4
+number_in kind.SetMark = 5
+number_in kind.ClearMark = 6
+number_in kind.Load = 7
+number_in kind.Store = 8
+number_in kind.Device = 9
+
+-- the kind of a call's record
+abbrev pub kind_in : Call → Kind
+kind_in (call.Root g) = kind.Root
+kind_in (call.Map g f w) = kind.Map
+kind_in (call.Unmap g) = kind.Unmap
+kind_in (call.SetMark a n) = kind.SetMark
+kind_in (call.ClearMark a n) = kind.ClearMark
+kind_in (call.Load a) = kind.Load
+kind_in (call.Store a v) = kind.Store
+kind_in (call.Device a v) = kind.Device
+
 -- how many bytes a body of the kind has
 abbrev pub size_in : Kind → ℕ
 size_in kind.Open = 4
@@ -94,21 +116,25 @@ job_in kind.Load b = job.Call (call.Load (number 8 b 0))
 job_in kind.Store b = job.Call (call.Store (number 8 b 0) (number 8 b 8))
 job_in kind.Device b = job.Call (call.Device (number 8 b 0) (number 8 b 8))
 
+-- what a record asks for; none where it is 13
+abbrev pub Wanted : Type 0
+Wanted = Option Job
+
 -- a body of another length than its kind's is 13
-abbrev pub job_by_kind : Option Kind → List ℕ → Option Job
+abbrev pub job_by_kind : Option Kind → List ℕ → Wanted
 job_by_kind (Some k) b = cond (eqb (length b) (size_in k)) (Some (job_in k b)) None
 job_by_kind None b = None
 
 -- what a body b of a kind with the number n asks for
-unfoldable pub job_of : ℕ → List ℕ → Option Job
+unfoldable pub job_of : ℕ → List ℕ → Wanted
 job_of n b = job_by_kind (kind_at n) b
 
 -- a record that the input cuts off, or whose length no kind has, is 13 too
-abbrev pub job_by : List ℕ → Cut → Option Job
+abbrev pub job_by : List ℕ → Cut → Wanted
 job_by s (Body k b n) = job_of k (take n (drop b s))
 job_by s Short = None
 job_by s Wrong = None
 
 -- what the record that starts at a position asks for
-unfoldable pub job_at : List ℕ → ℕ → Option Job
+unfoldable pub job_at : List ℕ → ℕ → Wanted
 job_at s at = job_by s (cut_at s at)

@@ -2,7 +2,7 @@
 #![tactic(auto)]
 
 ghost use Rattle.std.specs.Prelude.{◌≡◌, ◌+◌, ◌≤◌, ◌<◌, length, Some};
-ghost use Rattle.job_records.specs.Records.{number, cut_at, body_of, next_of, kind_at, size_in, job_in, job_of, job_at};
+ghost use Rattle.job_records.specs.Records.{number, cut_at, body_of, next_of, kind_at, number_in, kind_in, size_in, job_in, job_of, job_at};
 
 // ---- splitting the input
 
@@ -121,8 +121,15 @@ impl Kind {
         }
     }
 
+    // Its number.
+    pub fn number(self) -> u16
+        ensures { result ≡ number_in self }
+    {
+        self as u16
+    }
+
     // How many bytes its body has.
-    fn size(self) -> usize
+    pub fn size(self) -> usize
         ensures { result ≡ size_in self }
     {
         match self {
@@ -162,6 +169,24 @@ pub enum Call {
         address: u64,
         value: u64,
     },
+}
+
+impl Call {
+    // The kind of its record.
+    pub fn kind(self) -> Kind
+        ensures { result ≡ kind_in self }
+    {
+        match self {
+            Call::Root(_) => Kind::Root,
+            Call::Map { .. } => Kind::Map,
+            Call::Unmap(_) => Kind::Unmap,
+            Call::SetMark { .. } => Kind::SetMark,
+            Call::ClearMark { .. } => Kind::ClearMark,
+            Call::Load(_) => Kind::Load,
+            Call::Store { .. } => Kind::Store,
+            Call::Device { .. } => Kind::Device,
+        }
+    }
 }
 
 // What a record asks for. One that is cut, or whose kind is unknown, or whose length is not its kind's, asks for nothing: it is 13.

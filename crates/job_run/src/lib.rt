@@ -1,11 +1,11 @@
 // What a record of a job does to the unit.
 #![tactic(auto)]
 
-ghost use Rattle.std.specs.Prelude.{◌≡◌, false};
+ghost use Rattle.std.specs.Prelude.{◌≡◌, false, Some, None};
 ghost use Rattle.words.specs.After.{yields};
 ghost use Rattle.calls.specs.Calls.{open_call, call_of};
 ghost use Rattle.job_records.specs.Records.{asked};
-ghost use Rattle.job_run.specs.Run.{is_ok, opened_by, run_of};
+ghost use Rattle.job_run.specs.Run.{opened_by, run_of};
 
 use calls::Reply;
 use job_records::{Call, Job};
@@ -15,11 +15,10 @@ use spec::Answer;
 // A job's loads and stores are of whole words.
 const WIDTH: u64 = 8;
 
-// What a record leaves: whether an open was granted so far, the record in use, the answer, and whether the job goes on.
+// What a record leaves: the unit's record in use, once an open was granted, the answer, and whether the job goes on.
 #[derive(Drop)]
 pub struct Ran {
-    pub opened: bool,
-    pub unit: Record,
+    pub unit: Option<Record>,
     pub answer: Answer,
     pub more: bool,
 }
@@ -45,86 +44,50 @@ fn run_call(unit: Record, mem: &mut [u64], call: Call) -> Reply
     }
 }
 
-// Was the opening granted?
-fn granted(answer: Answer) -> bool
-    ensures { result ≡ is_ok answer }
-{
-    match answer {
-        Answer::Ok => true,
-        Answer::Value {
-            word,
-            references,
-            exits,
-        } => false,
-        Answer::Done { references, exits } => false,
-        Answer::Faulted {
-            fault,
-            references,
-            exits,
-        } => false,
-        Answer::Refused(n) => false,
-        Answer::Figures {
-            references,
-            exits,
-            tables,
-        } => false,
-    }
-}
-
 // Opens the memory, without accessed and dirty bits or the automatic choice; a refused open keeps the earlier record in use.
-fn run_open(opened: bool, unit: Record, mem: &mut [u64], hosts: u64, shadows: u64) -> Ran
-    ensures { yields result mem.new ≡ opened_by opened unit (open_call mem.old hosts shadows false false) }
+fn run_open(unit: Option<Record>, mem: &mut [u64], hosts: u64, shadows: u64) -> Ran
+    ensures { yields result mem.new ≡ opened_by unit (open_call mem.old hosts shadows false false) }
 {
-    let reply = unit::open(mem, hosts, shadows, false, false);
-    let answer = reply.answer;
-    if granted(answer) {
-        let first = reply.unit;
-        Ran {
-            opened: true,
-            unit: first,
-            answer: answer,
-            more: true,
-        }
+    let Reply {
+        unit: first,
+        answer,
+    } = unit::open(mem, hosts, shadows, false, false);
+    let unit = if matches!(answer, Answer::Ok) {
+        Some(first)
     } else {
-        Ran {
-            opened: opened,
-            unit: unit,
-            answer: answer,
-            more: true,
-        }
+        unit
+    };
+    Ran {
+        unit,
+        answer,
+        more: true,
     }
 }
 
 // Runs one record: 13 and the end for a bad one, 3 for any kind but an open before a granted open, else the unit's call.
 #[tactic(auto, unfolding(crate::specs::Run::run_of))]
-pub fn run_job(opened: bool, unit: Record, mem: &mut [u64], job: Job) -> Ran
-    ensures { yields result mem.new ≡ run_of opened unit mem.old job }
+pub fn run_job(unit: Option<Record>, mem: &mut [u64], job: Option<Job>) -> Ran
+    ensures { yields result mem.new ≡ run_of unit mem.old job }
 {
     match job {
-        Job::Open { hosts, shadows } => run_open(opened, unit, mem, hosts, shadows),
-        Job::Call(later) => {
-            if opened {
-                let reply = run_call(unit, mem, later);
-                let next = reply.unit;
-                let answer = reply.answer;
+        Some(Job::Open { hosts, shadows }) => run_open(unit, mem, hosts, shadows),
+        Some(Job::Call(call)) => match unit {
+            Some(used) => {
+                let Reply { unit: next, answer } = run_call(used, mem, call);
                 Ran {
-                    opened: true,
-                    unit: next,
-                    answer: answer,
-                    more: true,
-                }
-            } else {
-                Ran {
-                    opened: false,
-                    unit: unit,
-                    answer: Answer::Refused(3),
+                    unit: Some(next),
+                    answer,
                     more: true,
                 }
             }
-        }
-        Job::Bad => Ran {
-            opened: opened,
-            unit: unit,
+            None => Ran {
+                unit: None,
+                answer: Answer::Refused(3),
+                more: true,
+            },
+        },
+        None => Ran {
+            unit,
             answer: Answer::Refused(13),
             more: false,
         },
