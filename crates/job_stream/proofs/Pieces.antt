@@ -1,85 +1,75 @@
 -- It does not matter in what pieces the input comes: a run of turns hands over what the whole input has written.
-use mathlib.Core.Path.{◌≡◌, refl, sym, ap, ap₂, ◌∙◌, subst}
-use mathlib.Core.Bool.{Bool, true, false, cond}
-use mathlib.Core.List.{List, [], ◌∷◌, ◌++◌, append_assoc, append-nil}
-use Prim.Native.Nat.{ℕ, zero, suc, ◌+◌, ◌≤◌, ◌<◌}
-use native.Mathlib.Omega.{arith}
-use borrow.Author.Tests.{eqb-true, eqb-false}
-use lib.Dec.{eqb}
-use lib.ListN.{length, take, drop, length-drop, length-append, take-append-drop}
-use lib.Seq.{drop-drop, drop-append-le, take-take, drop-length}
-use Rattle.record.specs.declared.Record.{Record}
+use Rattle.std.proofs.Common.{None, drop_of_length-le, le_refl, ◌≡◌, refl, sym, ap, ap₂, ◌∙◌, subst, Bool, true, false, cond, List, [], ◌∷◌, ◌++◌, append_assoc, append-nil, ℕ, zero, suc, ◌+◌, ◌≤◌, ◌<◌, arith, eqb-true, eqb, length, take, drop, length-drop, length-append, take-append-drop, drop-drop, take-take}
+use Rattle.std.proofs.lemmas.Bool.{eqb-false}
+use Rattle.std.proofs.lemmas.List.{drop-append-le}
 use Rattle.words.specs.After.{After, yields}
 use Rattle.job_records.specs.declared.Cut.{Cut}
 use Rattle.job_records.specs.declared.Cut.TheVariants.{Body, Short, Wrong}
-use Rattle.job_records.specs.declared.Job.{Job}
-use Rattle.job_records.specs.declared.Job.TheVariants as job
-use Rattle.job_records.specs.Records.{cut_at, next_of, job_by, job_at}
+use Rattle.job_records.specs.Records.{Wanted, cut_at, next_of, job_by, job_at}
 use Rattle.job_records.specs.Laws.{Within, cut_within}
 use Rattle.job_records.proofs.Pieces.{later, cut_shift, next_shift, job_shift, body_starts, cut_front, job_front}
 use Rattle.job_run.specs.declared.Ran.{Ran}
-use Rattle.job_run.specs.Run.{run_of}
+use Rattle.job_run.specs.Run.{Used, run_of}
 use Rattle.job_lines.specs.Text.{line_of}
 use Rattle.job_stream.specs.declared.Flow.{Flow}
 use Rattle.job_stream.specs.Whole.{behind, wrote_from, wrote}
 use Rattle.job_stream.specs.Turns.{unread, ran_of, front, stopped, refilled_of, turn_by, cut_of, turn_of, Refilled, BufferBy, Turn, read_by, Runs, start, then, first, Looped}
-use Rattle.record.specs.Record.{zeros}
 
 -- ---- a whole input, record by record
 
 -- a record that is cut, or has a length that no kind has, ends the job
-bad_ends : (o : Bool) (r : Record) (m : List ℕ) (j : Job) → j ≡ job.Bad → (run_of o r m j).result.more ≡ false
+bad_ends : (r : Used) (m : List ℕ) (j : Wanted) → j ≡ None → (run_of r m j).result.more ≡ false
 unfolding run_of
-bad_ends o r m j e = rw e
+bad_ends r m j e = rw e
 
 -- where the job goes on, fewer bytes are left
-fewer : (s : List ℕ) (o : Bool) (r : Record) (m : List ℕ) → (run_of o r m (job_at s 0)).result.more ≡ true → length (behind s) < length s
+fewer : (s : List ℕ) (r : Used) (m : List ℕ) → (run_of r m (job_at s 0)).result.more ≡ true → length (behind s) < length s
 unfolding job_at
-fewer s o r m e = go (cut_at s 0) refl
+fewer s r m e = go (cut_at s 0) refl
   where
     go : (c : Cut) → cut_at s 0 ≡ c → length (behind s) < length s
     go (Body k b n) q =
         let i : b + n ≤ length s = subst (Within (length s)) q (cut_within s 0) in
         let z : next_of 0 (cut_at s 0) ≡ b + n = ap (next_of 0) q in
         omega (arith, length-drop (next_of 0 (cut_at s 0)) s, body_starts s 0 k b n q)
-    go Short q = let z : ◌≡◌ {A = ℕ} 0 1 = cc (bad_ends o r m (job_by s (cut_at s 0)) (ap (job_by s) q)) in omega arith
-    go Wrong q = let z : ◌≡◌ {A = ℕ} 0 1 = cc (bad_ends o r m (job_by s (cut_at s 0)) (ap (job_by s) q)) in omega arith
+    go Short q = let z : ◌≡◌ {A = ℕ} 0 1 = cc (bad_ends r m (job_by s (cut_at s 0)) (ap (job_by s) q)) in omega arith
+    go Wrong q = let z : ◌≡◌ {A = ℕ} 0 1 = cc (bad_ends r m (job_by s (cut_at s 0)) (ap (job_by s) q)) in omega arith
 
 cond_alike : (t : Bool) (x y : List ℕ) → (t ≡ true → x ≡ y) → cond t x [] ≡ cond t y []
 cond_alike true x y f = f refl
 cond_alike false x y f = refl
 
 -- any number of records will do that the input cannot have more of
-enough : (k j : ℕ) (s : List ℕ) (n : ℕ) (o : Bool) (r : Record) (m : List ℕ) → length s ≤ k → length s ≤ j → wrote_from k s n o r m ≡ wrote_from j s n o r m
+enough : (k j : ℕ) (s : List ℕ) (n : ℕ) (r : Used) (m : List ℕ) → length s ≤ k → length s ≤ j → wrote_from k s n r m ≡ wrote_from j s n r m
 unfolding wrote_from
-enough zero zero s n o r m p q = refl
-enough zero (suc j) [] n o r m p q = refl
-enough zero (suc j) (x ∷ s) n o r m p q = absurd (omega arith)
-enough (suc k) zero [] n o r m p q = refl
-enough (suc k) zero (x ∷ s) n o r m p q = absurd (omega arith)
-enough (suc k) (suc j) [] n o r m p q = refl
-enough (suc k) (suc j) (x ∷ s) n o r m p q =
-    let a : After Ran = run_of o r m (job_at (x ∷ s) 0) in
+enough zero zero s n r m p q = refl
+enough zero (suc j) [] n r m p q = refl
+enough zero (suc j) (x ∷ s) n r m p q = absurd (omega arith)
+enough (suc k) zero [] n r m p q = refl
+enough (suc k) zero (x ∷ s) n r m p q = absurd (omega arith)
+enough (suc k) (suc j) [] n r m p q = refl
+enough (suc k) (suc j) (x ∷ s) n r m p q =
+    let a : After Ran = run_of r m (job_at (x ∷ s) 0) in
     let rest = behind (x ∷ s) in
     ap (λ (l : List ℕ). line_of (n + 1) a.result.answer ++ l)
-    (cond_alike a.result.more (wrote_from k rest (n + 1) a.result.opened a.result.unit a.memory) (wrote_from j rest (n + 1) a.result.opened a.result.unit a.memory)
-    (λ e. enough k j rest (n + 1) a.result.opened a.result.unit a.memory (omega (arith, fewer (x ∷ s) o r m e)) (omega (arith, fewer (x ∷ s) o r m e))))
+    (cond_alike a.result.more (wrote_from k rest (n + 1) a.result.unit a.memory) (wrote_from j rest (n + 1) a.result.unit a.memory)
+    (λ e. enough k j rest (n + 1) a.result.unit a.memory (omega (arith, fewer (x ∷ s) r m e)) (omega (arith, fewer (x ∷ s) r m e))))
 
 -- the first record and what is behind it
-pub wrote_step : (s : List ℕ) (n : ℕ) (o : Bool) (r : Record) (m : List ℕ) → 0 < length s → let a = run_of o r m (job_at s 0) in
-    wrote s n o r m ≡ line_of (n + 1) a.result.answer ++ cond a.result.more (wrote (behind s) (n + 1) a.result.opened a.result.unit a.memory) []
+pub wrote_step : (s : List ℕ) (n : ℕ) (r : Used) (m : List ℕ) → 0 < length s → let a = run_of r m (job_at s 0) in
+    wrote s n r m ≡ line_of (n + 1) a.result.answer ++ cond a.result.more (wrote (behind s) (n + 1) a.result.unit a.memory) []
 unfolding wrote_from
-wrote_step [] n o r m h = absurd (omega arith)
-wrote_step (x ∷ s) n o r m h =
-    let a : After Ran = run_of o r m (job_at (x ∷ s) 0) in
+wrote_step [] n r m h = absurd (omega arith)
+wrote_step (x ∷ s) n r m h =
+    let a : After Ran = run_of r m (job_at (x ∷ s) 0) in
     let rest = behind (x ∷ s) in
     ap (λ (l : List ℕ). line_of (n + 1) a.result.answer ++ l)
-    (cond_alike a.result.more (wrote_from (length s) rest (n + 1) a.result.opened a.result.unit a.memory) (wrote rest (n + 1) a.result.opened a.result.unit a.memory)
-    (λ e. enough (length s) (length rest) rest (n + 1) a.result.opened a.result.unit a.memory (omega (arith, fewer (x ∷ s) o r m e)) (omega arith)))
+    (cond_alike a.result.more (wrote_from (length s) rest (n + 1) a.result.unit a.memory) (wrote rest (n + 1) a.result.unit a.memory)
+    (λ e. enough (length s) (length rest) rest (n + 1) a.result.unit a.memory (omega (arith, fewer (x ∷ s) r m e)) (omega arith)))
 
 -- what is still to be written, from a flow on
 abbrev pub to_write : Flow → List ℕ → List ℕ → List ℕ
-to_write f m s = cond f.more (wrote s f.number f.opened f.unit m) []
+to_write f m s = cond f.more (wrote s f.number f.unit m) []
 
 -- ---- one turn
 
@@ -116,10 +106,10 @@ module _ (f : Flow) (m b rest : List ℕ) (more : f.more ≡ true) (whole : cut_
   ran_writes : (t : Bool) → let g = ran_of f m s t in to_write f m (p ++ rest) ≡ g.said ++ to_write g.after.result g.after.memory (unread g.after.result b ++ rest)
   ran_writes t =
       let some : 0 < length (p ++ rest) = omega (arith, length-append p rest, nothing_short p found) in
-      ap (λ (x : Bool). cond x (wrote (p ++ rest) f.number f.opened f.unit m) []) more
-      ∙ wrote_step (p ++ rest) f.number f.opened f.unit m some
-      ∙ ap₂ (λ (j : Job) (l : List ℕ). let a : After Ran = run_of f.opened f.unit m j in
-      line_of (f.number + 1) a.result.answer ++ cond a.result.more (wrote l (f.number + 1) a.result.opened a.result.unit a.memory) []) same_job same_behind
+      ap (λ (x : Bool). cond x (wrote (p ++ rest) f.number f.unit m) []) more
+      ∙ wrote_step (p ++ rest) f.number f.unit m some
+      ∙ ap₂ (λ (j : Wanted) (l : List ℕ). let a : After Ran = run_of f.unit m j in
+      line_of (f.number + 1) a.result.answer ++ cond a.result.more (wrote l (f.number + 1) a.result.unit a.memory) []) same_job same_behind
 
 -- a read puts its bytes behind those that are not run yet
 read_behind : (u c : List ℕ) (l : ℕ) → Refilled u l c → u ++ drop (length u) (take l c) ≡ take l c
@@ -127,7 +117,7 @@ read_behind u c l h = ap (λ (x : List ℕ). x ++ drop (length u) (take l c)) (s
 
 -- none came
 none_read : (u c : List ℕ) (l : ℕ) → Refilled u l c → l ≡ length u → drop (length u) (take l c) ≡ []
-none_read u c l h e = ap (λ (j : ℕ). drop (length u) (take j c)) e ∙ ap (drop (length u)) h.0 ∙ drop-length u
+none_read u c l h e = ap (λ (j : ℕ). drop (length u) (take j c)) e ∙ ap (drop (length u)) h.0 ∙ drop_of_length-le u (le_refl (length u))
 
 -- and none will
 all_read : (u c rest : List ℕ) (l : ℕ) → Refilled u l c → l ≡ length u → rest ≡ [] → u ++ (drop (length u) (take l c) ++ rest) ≡ u
@@ -139,27 +129,27 @@ short_here at (Body k b n) e = let z : ◌≡◌ {A = ℕ} 0 1 = cc in absurd (o
 short_here at Wrong e = let z : ◌≡◌ {A = ℕ} 0 1 = cc in absurd (omega arith)
 
 -- at the end of the input, the rest
-bad_cut : (u : List ℕ) → cut_at u 0 ≡ Short → job_at u 0 ≡ job.Bad
+bad_cut : (u : List ℕ) → cut_at u 0 ≡ Short → job_at u 0 ≡ None
 unfolding job_at
 bad_cut u q = ap (job_by u) q
 
 cond_false : (t : Bool) (x : List ℕ) → t ≡ false → cond t x [] ≡ []
 cond_false t x e = ap (λ (b : Bool). cond b x []) e
 
-nothing_written : (u : List ℕ) (n : ℕ) (o : Bool) (r : Record) (m : List ℕ) → length u ≡ 0 → wrote u n o r m ≡ []
+nothing_written : (u : List ℕ) (n : ℕ) (r : Used) (m : List ℕ) → length u ≡ 0 → wrote u n r m ≡ []
 unfolding wrote_from
-nothing_written [] n o r m e = refl
-nothing_written (x ∷ u) n o r m e = absurd (omega arith)
+nothing_written [] n r m e = refl
+nothing_written (x ∷ u) n r m e = absurd (omega arith)
 
 module _ (f : Flow) (m u : List ℕ) (more : f.more ≡ true) where
-  goes_on : to_write f m u ≡ wrote u f.number f.opened f.unit m
-  goes_on = ap (λ (x : Bool). cond x (wrote u f.number f.opened f.unit m) []) more
+  goes_on : to_write f m u ≡ wrote u f.number f.unit m
+  goes_on = ap (λ (x : Bool). cond x (wrote u f.number f.unit m) []) more
 
   cut_writes : (t : Bool) → cut_at u 0 ≡ Short → (length u ≡ 0 → ⊥) → to_write f m u ≡ (ran_of (front f (length u)) m u t).said
   cut_writes t q z =
-      let a : After Ran = run_of f.opened f.unit m (job_at u 0) in
-      goes_on ∙ wrote_step u f.number f.opened f.unit m (omega arith)
-      ∙ ap (λ (l : List ℕ). line_of (f.number + 1) a.result.answer ++ l) (cond_false a.result.more _ (bad_ends f.opened f.unit m (job_at u 0) (bad_cut u q)))
+      let a : After Ran = run_of f.unit m (job_at u 0) in
+      goes_on ∙ wrote_step u f.number f.unit m (omega arith)
+      ∙ ap (λ (l : List ℕ). line_of (f.number + 1) a.result.answer ++ l) (cond_false a.result.more _ (bad_ends f.unit m (job_at u 0) (bad_cut u q)))
       ∙ append-nil (line_of (f.number + 1) a.result.answer)
 
 -- what a flow that came of a turn has still to write
@@ -167,7 +157,7 @@ left_over : (g : Flow) (n c rest : List ℕ) (y : After Flow) → yields g n ≡
 left_over g n c rest y e = ap (λ (x : After Flow). to_write x.result x.memory (unread x.result c ++ rest)) e
 
 over : (g : Flow) (n x : List ℕ) → g.more ≡ false → to_write g n x ≡ []
-over g n x e = cond_false g.more (wrote x g.number g.opened g.unit n) e
+over g n x e = cond_false g.more (wrote x g.number g.unit n) e
 
 -- a read, and what it leads to
 refill_writes : (f g : Flow) (m n u c rest : List ℕ) → f.more ≡ true → cut_at u 0 ≡ Short → yields g n ≡ (refilled_of f m u g.len g.taken).after → Refilled u g.len c
@@ -183,10 +173,10 @@ refill_writes f g m n u c rest more short e h last = go (eqb g.len (length u)) (
         let stops : g.more ≡ false = ap (λ (x : After Flow). x.result.more) r in
         ap (to_write f m) (all_read u c rest g.len h (eqb-true g.len (length u) p) (last stops))
         ∙ goes_on f m u more
-        ∙ nothing_written u f.number f.opened f.unit m (eqb-true (length u) 0 q)
+        ∙ nothing_written u f.number f.unit m (eqb-true (length u) 0 q)
         ∙ sym (over g n (unread g c ++ rest) stops)
     go true false p q r =
-        let stops : g.more ≡ false = ap (λ (x : After Flow). x.result.more) r ∙ bad_ends f.opened f.unit m (job_at u 0) (bad_cut u short) in
+        let stops : g.more ≡ false = ap (λ (x : After Flow). x.result.more) r ∙ bad_ends f.unit m (job_at u 0) (bad_cut u short) in
         let line = (ran_of (front f (length u)) m u g.taken).said in
         ap (to_write f m) (all_read u c rest g.len h (eqb-true g.len (length u) p) (last stops))
         ∙ cut_writes f m u more g.taken short (eqb-false (length u) 0 q)
@@ -237,11 +227,11 @@ runs_write {f} {m} {b} (then {i} {o} {x} {y} {z} g n c t more turn) rest last =
 
 -- the loop, from the start of a job: what it hands over is the front of what its input and all that may follow have written
 pub looped_front : (m b : List ℕ) (g : Flow) (n c : List ℕ) (l : Looped first m b g n c) (rest : List ℕ) → (g.more ≡ false → rest ≡ [])
-    → wrote (l.input ++ rest) 0 false zeros m ≡ l.output ++ to_write g n (unread g c ++ rest)
+    → wrote (l.input ++ rest) 0 None m ≡ l.output ++ to_write g n (unread g c ++ rest)
 looped_front m b g n c l rest last = runs_write l.runs rest last
 
 -- where the job is over, it is all of that
-pub looped_writes : (m b : List ℕ) (g : Flow) (n c : List ℕ) (l : Looped first m b g n c) → g.more ≡ false → l.output ≡ wrote l.input 0 false zeros m
+pub looped_writes : (m b : List ℕ) (g : Flow) (n c : List ℕ) (l : Looped first m b g n c) → g.more ≡ false → l.output ≡ wrote l.input 0 None m
 looped_writes m b g n c l e =
-    sym (ap (λ (i : List ℕ). wrote i 0 false zeros m) (sym (append-nil l.input)) ∙ looped_front m b g n c l [] (λ _. refl)
+    sym (ap (λ (i : List ℕ). wrote i 0 None m) (sym (append-nil l.input)) ∙ looped_front m b g n c l [] (λ _. refl)
     ∙ ap (λ (x : List ℕ). l.output ++ x) (over g n (unread g c ++ []) e) ∙ append-nil l.output)

@@ -1,26 +1,17 @@
 -- The ways that a turn goes, each as the turn's definition has it.
 -- Assumes nothing.
-use mathlib.Core.Path.{◌≡◌, refl, sym, ap, ◌∙◌, subst}
-use mathlib.Core.Bool.{Bool, true, false, cond}
-use mathlib.Core.List.{List, [], ◌++◌}
-use Prim.Native.Nat.{ℕ, ◌+◌, ◌-◌, ◌≤◌, ◌<◌}
-use native.Mathlib.Omega.{arith}
-use borrow.Author.Tests.{eq-eqb, ne_eqb}
-use lib.Dec.{eqb}
-use lib.ListN.{length, take}
+use Rattle.std.proofs.Common.{◌≡◌, refl, sym, ap, ◌∙◌, subst, Bool, true, false, cond, List, [], ◌++◌, ℕ, ◌+◌, ◌-◌, ◌≤◌, ◌<◌, arith, eq-eqb, ne_eqb, eqb, length, take}
 use Rattle.words.specs.After.{After, yields}
 use Rattle.job_records.specs.declared.Cut.{Cut}
 use Rattle.job_records.specs.declared.Cut.TheVariants.{Body, Short, Wrong}
 use Rattle.job_stream.specs.declared.Flow.{Flow}
 use Rattle.job_stream.specs.Turns.{Turned, unread, ran_of, front, ended_of, refilled_of, turn_by, cut_of, turn_of, Refilled, BufferBy, Turn, read_by, Runs, start, then, first, most, Looped}
-use Rattle.record.specs.declared.Record.{Record}
-use Rattle.record.specs.Record.{zeros}
 
 -- ---- a read, after which k bytes that are not run yet stand at the front
 
 -- the input has ended, and nothing is left
 pub refill_stops : (f : Flow) (m u : List ℕ) (k : ℕ) → k ≡ length u → k ≡ 0
-    → yields (record { opened = f.opened; unit = f.unit; number = f.number; at = 0; len = k; more = false; taken = f.taken }) m ≡ (refilled_of f m u k f.taken).after
+    → yields (record { unit = f.unit; number = f.number; at = 0; len = k; more = false; taken = f.taken }) m ≡ (refilled_of f m u k f.taken).after
 refill_stops f m u k e z = rw (eq-eqb k (length u) e, eq-eqb (length u) 0 (sym e ∙ z), z)
 
 -- the input has ended within a record
@@ -42,19 +33,21 @@ refilled u b k l e h p q = (ap (λ (j : ℕ). take j b) (sym e) ∙ h, omega ari
 
 -- ---- a turn
 
-pub turn_body : (f g : Flow) (m n b : List ℕ) (k s l : ℕ) → cut_of f b ≡ Body k s l → yields g n ≡ (ran_of f m (take f.len b) g.taken).after → Turn f m b g n b
+-- a record, or a length that no kind has
+pub turn_runs : (f g : Flow) (m n b : List ℕ) → (cut_of f b ≡ Short → ⊥) → yields g n ≡ (ran_of f m (take f.len b) g.taken).after → Turn f m b g n b
 unfolding turn_of
-turn_body f g m n b k s l e r = record {
-  leaves = r ∙ ap (λ (c : Cut). (turn_by f m b g.len g.taken c).after) (sym e);
-  buffer = subst (BufferBy f b g.len b) (sym e) refl;
-}
-
-pub turn_wrong : (f g : Flow) (m n b : List ℕ) → cut_of f b ≡ Wrong → yields g n ≡ (ran_of f m (take f.len b) g.taken).after → Turn f m b g n b
-unfolding turn_of
-turn_wrong f g m n b e r = record {
-  leaves = r ∙ ap (λ (c : Cut). (turn_by f m b g.len g.taken c).after) (sym e);
-  buffer = subst (BufferBy f b g.len b) (sym e) refl;
-}
+turn_runs f g m n b other r = go (cut_of f b) refl
+  where
+    go : (c : Cut) → cut_of f b ≡ c → Turn f m b g n b
+    go Short e = absurd (other e)
+    go (Body k s l) e = record {
+      leaves = r ∙ ap (λ (c : Cut). (turn_by f m b g.len g.taken c).after) (sym e);
+      buffer = subst (BufferBy f b g.len b) (sym e) refl;
+    }
+    go Wrong e = record {
+      leaves = r ∙ ap (λ (c : Cut). (turn_by f m b g.len g.taken c).after) (sym e);
+      buffer = subst (BufferBy f b g.len b) (sym e) refl;
+    }
 
 pub turn_short : (f g : Flow) (m n b d : List ℕ) → cut_of f b ≡ Short → yields g n ≡ (refilled_of f m (unread f b) g.len g.taken).after → Refilled (unread f b) g.len d
     → Turn f m b g n d
@@ -85,41 +78,35 @@ turn_number f g m n b d h =
 
 -- ---- the loop
 
--- a run from the start of a job, with so many turns left
-pub record Going (m b : List ℕ) (g : Flow) (n c : List ℕ) (left : ℕ) : Type 0 where
-  pub turns : ℕ
+-- a run from the start of a job, of so many turns
+pub record Going (m b : List ℕ) (g : Flow) (n c : List ℕ) (turns : ℕ) : Type 0 where
   pub input : List ℕ
   pub output : List ℕ
   pub runs : Runs first m b turns input output g n c
-  pub count : turns + left ≡ most
   pub few : g.number ≤ turns
 
-pub going_start : (m b : List ℕ) (r : Record) → r ≡ zeros → Going m b (record { opened = false; unit = r; number = 0; at = 0; len = 0; more = true; taken = true }) m b most
-going_start m b r e = subst (λ (x : Record). Going m b (record { opened = false; unit = x; number = 0; at = 0; len = 0; more = true; taken = true }) m b most) (sym e) (record {
-  turns = 0;
+pub going_start : (m b : List ℕ) → Going m b first m b 0
+going_start m b = record {
   input = [];
   output = [];
   runs = start;
-  count = omega arith;
   few = omega arith;
-})
+}
 
-pub going_next : (m b : List ℕ) (g : Flow) (n c : List ℕ) (left : ℕ) (h : Flow) (p d : List ℕ) → Going m b g n c left → 0 < left → g.more ≡ true → Turn g n c h p d
-    → Going m b h p d (left - 1)
-going_next m b g n c left h p d i z e t = record {
-  turns = i.turns + 1;
+pub going_next : (m b : List ℕ) (g : Flow) (n c : List ℕ) (turns : ℕ) (h : Flow) (p d : List ℕ) → Going m b g n c turns → g.more ≡ true → Turn g n c h p d
+    → Going m b h p d (turns + 1)
+going_next m b g n c turns h p d i e t = record {
   input = i.input ++ read_by g c h.len d (cut_of g c);
   output = i.output ++ (turn_of g n c h.len h.taken).said;
   runs = then h p d i.runs e t;
-  count = omega (arith, i.count);
   few = omega (arith, i.few, turn_number g h n p c d t);
 }
 
-pub going_ends : (m b : List ℕ) (g : Flow) (n c : List ℕ) (left : ℕ) → Going m b g n c left → (g.more ≡ true → g.taken ≡ true → left ≡ 0) → Looped first m b g n c
-going_ends m b g n c left i e = record {
-  turns = i.turns;
+pub going_ends : (m b : List ℕ) (g : Flow) (n c : List ℕ) (turns : ℕ) → Going m b g n c turns → (g.more ≡ true → g.taken ≡ true → turns ≡ most) → Looped first m b g n c
+going_ends m b g n c turns i e = record {
+  turns = turns;
   input = i.input;
   output = i.output;
   runs = i.runs;
-  ended = λ p q. omega (arith, i.count, e p q);
+  ended = e;
 }

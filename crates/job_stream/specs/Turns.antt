@@ -1,7 +1,6 @@
 -- A turn of the job's loop: one record is run, or one read puts more bytes behind those that are not run yet.
 -- Assumes nothing.
-use Rattle.std.specs.Prelude.{ℕ, ◌+◌, ◌≤◌, ◌≡◌, Bool, true, false, cond, List, [], ◌++◌, eqb, length, take, drop}
-use Rattle.record.specs.Record.{zeros}
+use Rattle.std.specs.Prelude.{ℕ, ◌+◌, ◌≤◌, ◌≡◌, Bool, true, false, cond, List, [], ◌++◌, eqb, length, take, drop, None}
 use Rattle.words.specs.After.{After, yields}
 use Rattle.job_records.specs.declared.Cut.{Cut}
 use Rattle.job_records.specs.declared.Cut.TheVariants.{Body, Short, Wrong}
@@ -13,7 +12,7 @@ use Rattle.job_stream.specs.declared.Flow.{Flow}
 
 -- a job that starts: no open was granted, nothing ran, nothing is read
 abbrev pub first : Flow
-first = record { opened = false; unit = zeros; number = 0; at = 0; len = 0; more = true; taken = true }
+first = record { unit = None; number = 0; at = 0; len = 0; more = true; taken = true }
 
 -- what a turn leaves, and the bytes that it hands over to be written
 pub record Turned : Type 0 where
@@ -27,10 +26,9 @@ unread f b = drop f.at (take f.len b)
 -- the record at the position in s is run: the unit's call, the next number, the position behind the record. Whether the line was taken is given
 abbrev pub ran_of : Flow → List ℕ → List ℕ → Bool → Turned
 ran_of f m s t =
-    let a : After Ran = run_of f.opened f.unit m (job_at s f.at) in
+    let a : After Ran = run_of f.unit m (job_at s f.at) in
     record {
       after = yields (record {
-        opened = a.result.opened;
         unit = a.result.unit;
         number = f.number + 1;
         at = next_of f.at (cut_at s f.at);
@@ -43,11 +41,11 @@ ran_of f m s t =
 
 -- the flow at the front of a buffer of so many bytes
 abbrev pub front : Flow → ℕ → Flow
-front f n = record { opened = f.opened; unit = f.unit; number = f.number; at = 0; len = n; more = f.more; taken = f.taken }
+front f n = record { unit = f.unit; number = f.number; at = 0; len = n; more = f.more; taken = f.taken }
 
 -- a job that has nothing left to run
 abbrev pub stopped : Flow → Flow
-stopped f = record { opened = f.opened; unit = f.unit; number = f.number; at = 0; len = 0; more = false; taken = f.taken }
+stopped f = record { unit = f.unit; number = f.number; at = 0; len = 0; more = false; taken = f.taken }
 
 -- at the end of the input the rest u is a record that is cut; no rest, and the job is over
 abbrev pub ended_of : Flow → List ℕ → List ℕ → Bool → Turned

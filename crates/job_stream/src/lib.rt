@@ -10,22 +10,28 @@ ghost use Rattle.job_lines.specs.Text.{line_of};
 ghost use Rattle.job_stream.specs.Turns.{first, unread, ran_of, refilled_of, Refilled, Turn, most, Looped};
 
 use job_records::Cut;
-use puts::part;
+use job_run::Ran;
 use record::Record;
 use spec::Answer;
 use std::io::{Read, Write};
 
-// A job that runs: whether an open was granted, the unit's record in use, how many records ran, where the next one starts
+// A job that runs: the unit's record in use, once an open was granted, how many records ran, where the next one starts
 // in the buffer, how many bytes the buffer holds, whether the job goes on, and whether its lines are taken.
 #[derive(Drop)]
 pub struct Flow {
-    pub opened: bool,
-    pub unit: Record,
+    pub unit: Option<Record>,
     pub number: u64,
     pub at: usize,
     pub len: usize,
     pub more: bool,
     pub taken: bool,
+}
+
+// The first len bytes of a buffer, or all.
+fn part(buf: &[u8], len: usize) -> &[u8]
+    ensures { result.now ≡ take len buf.now }
+{
+    if len <= buf.len() { &buf[..len] } else { buf }
 }
 
 // Writes a text, which has to be the line of that number and answer, and answers whether it was taken.
@@ -37,9 +43,8 @@ fn write_text<W: Write>(to: &mut W, number: u64, answer: Answer, text: &[u8]) ->
 
 // Writes the line of a record, and answers whether it was taken.
 fn write_line<W: Write>(to: &mut W, number: u64, answer: Answer) -> bool {
-    let mut out = [0u8; 128];
-    let n = job_lines::line(number, answer, &mut out);
-    write_text(to, number, answer, part(&out, n))
+    let line = job_lines::line(number, answer);
+    write_text(to, number, answer, line.as_slice())
 }
 
 // Runs the record at the position, and writes its line.
@@ -47,25 +52,26 @@ fn run_record<W: Write>(f: Flow, to: &mut W, mem: &mut [u64; 8192], buf: &[u8; 4
     requires { f.number < most }
     ensures { yields result mem.new ≡ (ran_of f mem.old (take f.len buf.now) result.taken).after }
 {
-    let at = f.at;
-    let len = f.len;
-    let unit = f.unit;
+    let Flow {
+        unit,
+        number,
+        at,
+        len,
+        ..
+    } = f;
     let input = part(buf, len);
     let job = job_records::job_at(input, at);
-    let next = job_records::read_next(input, at);
-    let ran = job_run::run_job(f.opened, unit, mem, job);
-    let after = ran.unit;
-    let answer = ran.answer;
-    let number = f.number + 1;
-    let taken = write_line(to, number, answer);
+    let next = job_records::next_at(input, at);
+    let Ran { unit, answer, more } = job_run::run_job(unit, mem, job);
+    let now = number + 1;
+    let taken = write_line(to, now, answer);
     Flow {
-        opened: ran.opened,
-        unit: after,
-        number: number,
+        unit,
+        number: now,
         at: next,
-        len: len,
-        more: ran.more,
-        taken: taken,
+        len,
+        more,
+        taken,
     }
 }
 
@@ -73,15 +79,12 @@ fn run_record<W: Write>(f: Flow, to: &mut W, mem: &mut [u64; 8192], buf: &[u8; 4
 fn keep(buf: &mut [u8], at: usize, len: usize) -> usize
     ensures { (result ≡ length (drop at (take len buf.old))) × (take result buf.new ≡ drop at (take len buf.old)) }
 {
-    let end = if len < buf.len() { len } else { buf.len() };
-    let mut i: usize = 0;
-    let mut j = at;
-    while j < end {
-        buf[i] = buf[j];
-        i += 1;
-        j += 1;
+    let end = len.min(buf.len());
+    if end <= at {
+        return 0;
     }
-    i
+    buf.copy_within(at..end, 0);
+    end - at
 }
 
 // Reads on behind the first kept bytes, and answers how many bytes came; 0 at the end of the input and where a read fails.
@@ -108,18 +111,18 @@ fn refill<R: Read, W: Write>(
 {
     let kept = keep(buf, f.at, f.len);
     let got = read_on(from, buf, kept);
-    let mut g = f;
-    g.at = 0;
-    if got == 0 {
-        g.len = kept;
-        if kept == 0 {
-            g.more = false;
-            return g;
-        }
-        return run_record(g, to, mem, buf);
+    let f = Flow {
+        at: 0,
+        len: kept + got,
+        ..f
+    };
+    if got > 0 {
+        return f;
     }
-    g.len = kept + got;
-    g
+    if kept == 0 {
+        return Flow { more: false, ..f };
+    }
+    run_record(f, to, mem, buf)
 }
 
 // One record, or one read.
@@ -134,14 +137,13 @@ fn turn<R: Read, W: Write>(
     ensures { Turn f mem.old buf.old result mem.new buf.new }
 {
     match job_records::cut_at(part(buf, f.len), f.at) {
-        Cut::Body { kind, start, len } => run_record(f, to, mem, buf),
-        Cut::Wrong => run_record(f, to, mem, buf),
         Cut::Short => refill(f, from, to, mem, buf),
+        _ => run_record(f, to, mem, buf),
     }
 }
 
-// The turns of a job. A proved loop has to end, and nothing says that the input does, so the turns are counted down from a
-// number that no run uses up.
+// The turns of a job. A proved loop has to end, and nothing says that the input does, so the turns are counted up to a
+// number that no run comes to.
 fn run_turns<R: Read, W: Write>(
     from: &mut R,
     to: &mut W,
@@ -151,18 +153,18 @@ fn run_turns<R: Read, W: Write>(
     ensures { Looped first mem.old buf.old result mem.new buf.new }
 {
     let mut f = Flow {
-        opened: false,
-        unit: Record::zeros(),
+        unit: None,
         number: 0,
         at: 0,
         len: 0,
         more: true,
         taken: true,
     };
-    let mut turns = u64::MAX;
-    while turns > 0 && f.more && f.taken {
+    for _turn in 0..u64::MAX {
+        if !(f.more && f.taken) {
+            break;
+        }
         f = turn(f, from, to, mem, buf);
-        turns -= 1;
     }
     f
 }
