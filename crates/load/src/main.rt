@@ -18,6 +18,7 @@ fn read_full<R: Read>(from: &mut R, buf: &mut [u8]) -> io::Result<usize>
     ensures ended { IfOk result (λ n. n < length buf.new → IsAtEnd (R.remaining from.new)) }
 {
     let mut done = 0;
+    // No `for`, and no `read_exact`: how often a read comes back is open, and that it was cut is no error here.
     while done < buf.len() {
         let n = from.read(&mut buf[done..])?;
         if n == 0 {
@@ -52,7 +53,7 @@ fn run<R: Read, W: Write>(from: &mut R, to: &mut W) -> io::Result<()>
     let input = &asked[..n];
     let mut out = room();
     let len = load_records::put_asked(input, &mut out);
-    write_load(to, input, puts::part(&out, len))
+    write_load(to, input, &out[..len])
 }
 
 fn main(rt: HostRuntime) -> io::Result<()> {

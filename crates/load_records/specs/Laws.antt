@@ -1,9 +1,9 @@
 -- A draw is below 2^31, and so is the state after a call; a number, byte by byte; a load, record by record.
-use Rattle.std.specs.Prelude.{ℕ, zero, suc, ◌+◌, ◌-◌, ◌*◌, ◌/◌, ◌%◌, ◌≤◌, ◌<◌, ◌≡◌, refl, Bool, true, false, cond, List, [], ◌∷◌, ◌++◌, eqb, length}
-use Rattle.std.proofs.Common.{arith, ap, ap₂, sym, ◌∙◌, lt-ltb, le-ltb, length-append}
-use Rattle.std.proofs.lemmas.List.{get_or_append_left}
+use Rattle.std.specs.Prelude.{ℕ, suc, ◌+◌, ◌-◌, ◌≤◌, ◌<◌, ◌≡◌, Bool, true, false, cond, List, [], ◌++◌, eqb, length}
+use Rattle.std.proofs.Common.{arith, ap₂, sym, ◌∙◌, lt-ltb, le-ltb, length-append}
+use Rattle.job_records.specs.Laws.{number_front}
 use Rattle.job_records.specs.Records.{number}
-use Rattle.job_records.specs.Encoded.{bytes_of, open_bytes, call_bytes}
+use Rattle.job_records.specs.Encoded.{open_bytes, call_bytes}
 use Rattle.load_spec.specs.declared.Drawn.{Drawn}
 use Rattle.load_spec.specs.Load.{states, next, kind_by, drawn_as, drawn_by, calls_from, bytes_all, most, load_of, load_by}
 
@@ -34,24 +34,6 @@ drawn_below s =
     as_below (kind_by (next s)) (next (next s)) (next (next (next s))) (next (next (next (next s))))
     (next_below (next s)) (next_below (next (next s))) (next_below (next (next (next s))))
 
--- ---- a number's bytes
-
--- none are left
-pub bytes_none : (w i n : ℕ) → w ≤ i → bytes_of (w - i) n ≡ []
-bytes_none w i n h =
-    let e : w - i ≡ 0 = omega arith in
-    ap (λ (k : ℕ). bytes_of k n) e
-
--- the next one, and those behind it
-pub bytes_more : (w i n : ℕ) → i < w → bytes_of (w - i) n ≡ (n % 256) ∷ bytes_of (w - (i + 1)) (n / 256)
-bytes_more w i n h =
-    let e : w - i ≡ suc (w - (i + 1)) = omega arith in
-    ap (λ (k : ℕ). bytes_of k n) e
-
-pub length_bytes : (w n : ℕ) → length (bytes_of w n) ≡ w
-length_bytes zero n = refl
-length_bytes (suc w) n = ap suc (length_bytes w (n / 256))
-
 -- ---- the load, record by record
 
 pub load_is : (seed count : ℕ) → seed < states → count ≤ most → load_of seed count ≡ open_bytes 4 4 ++ bytes_all (calls_from count seed)
@@ -62,12 +44,11 @@ pub calls_none : (n s : ℕ) → n ≡ 0 → bytes_all (calls_from n s) ≡ []
 unfolding bytes_all calls_from
 calls_none n s e = rw e
 
--- d is the call after the state
-pub calls_more : (n s : ℕ) (d : Drawn) → 0 < n → d ≡ drawn_by s → bytes_all (calls_from n s) ≡ call_bytes d.call ++ bytes_all (calls_from (n - 1) d.state)
+-- d is the call after the state, and i calls came before it
+pub calls_more : (n i s : ℕ) (d : Drawn) → i < n → d ≡ drawn_by s → bytes_all (calls_from (n - i) s) ≡ call_bytes d.call ++ bytes_all (calls_from (n - (i + 1)) d.state)
 unfolding bytes_all calls_from
-calls_more zero s d h e = absurd (omega arith)
-calls_more (suc n) s d h e =
-    let f : suc n - 1 ≡ n = omega arith in
+calls_more n i s d h e =
+    let f : n - i ≡ suc (n - (i + 1)) = omega arith in
     rw (e, f)
 
 -- ---- what is out of range or cut asks for nothing
@@ -89,11 +70,6 @@ unfolding load_by
 load_whole_lem input h = rw (le-ltb (length input) 16 h)
 
 -- ---- bytes behind the first 16 do not count
-
-number_front : (w : ℕ) (s t : List ℕ) (i : ℕ) → i + w ≤ length s → number w (s ++ t) i ≡ number w s i
-number_front zero s t i h = refl
-number_front (suc w) s t i h =
-    ap₂ (λ (x y : ℕ). x + 256 * y) (get_or_append_left s t 0 i (omega arith)) (number_front w s t (i + 1) (omega arith))
 
 pub load_front : (s t : List ℕ) → length s ≡ 16 → load_by (s ++ t) ≡ load_by s
 load_front s t h =

@@ -2,13 +2,14 @@
 #![tactic(auto)]
 
 ghost use Rattle.std.specs.Prelude.{◌≡◌, ◌++◌, ◌+◌, ◌*◌, ◌≤◌, ◌<◌, length, take};
-ghost use Rattle.puts.specs.Puts.{Puts};
-ghost use Rattle.job_records.specs.Encoded.{bytes_of, record_bytes, call_bytes};
+ghost use Rattle.arrayvec.specs.ArrayVec.{array_vec_len};
+ghost use Rattle.job_records.specs.Records.{size_in, number_in};
+ghost use Rattle.job_records.specs.Encoded.{bytes_of, open_bytes, body_bytes, call_bytes};
 ghost use Rattle.load_spec.specs.Load.{states, next, high, guest_by, host_by, address_by, level_by, writable_by, value_by, drawn_as, drawn_by, most, longest, load_of, load_by};
 
-use job_records::Call;
+use arrayvec::ArrayVec;
+use job_records::{Call, Kind};
 use load_spec::Drawn;
-use puts::put;
 
 // ---- draws
 
@@ -75,16 +76,16 @@ fn value_by(draw: u64) -> u64
     4096 * (high_of(draw) % 16) + 3
 }
 
-// The call of a kind; d, e and f are the draws for its body, in the order of the body.
-fn drawn_as(kind: u64, d: u64, e: u64, f: u64) -> Drawn
-    ensures { result ≡ drawn_as kind d e f }
+// The call of a kind with that number, as from 2 to 9; d, e and f are the draws for its body, in the order of the body.
+fn drawn_as(number: u64, d: u64, e: u64, f: u64) -> Drawn
+    ensures { result ≡ drawn_as number d e f }
 {
-    match kind {
-        2 => Drawn {
+    match Kind::of(number) {
+        Some(Kind::Root) => Drawn {
             call: Call::Root(guest_by(d)),
             state: d,
         },
-        3 => Drawn {
+        Some(Kind::Map) => Drawn {
             call: Call::Map {
                 guest: guest_by(d),
                 host: host_by(e),
@@ -92,29 +93,29 @@ fn drawn_as(kind: u64, d: u64, e: u64, f: u64) -> Drawn
             },
             state: f,
         },
-        4 => Drawn {
+        Some(Kind::Unmap) => Drawn {
             call: Call::Unmap(guest_by(d)),
             state: d,
         },
-        5 => Drawn {
+        Some(Kind::SetMark) => Drawn {
             call: Call::SetMark {
                 address: address_by(d),
                 level: level_by(e),
             },
             state: e,
         },
-        6 => Drawn {
+        Some(Kind::ClearMark) => Drawn {
             call: Call::ClearMark {
                 address: address_by(d),
                 level: level_by(e),
             },
             state: e,
         },
-        7 => Drawn {
+        Some(Kind::Load) => Drawn {
             call: Call::Load(address_by(d)),
             state: d,
         },
-        8 => Drawn {
+        Some(Kind::Store) => Drawn {
             call: Call::Store {
                 address: address_by(d),
                 value: value_by(e),
@@ -132,6 +133,7 @@ fn drawn_as(kind: u64, d: u64, e: u64, f: u64) -> Drawn
 }
 
 // The call after a state: a draw for its kind, then those for its body.
+#[tactic(auto, unfolding(load_spec::specs::Load::drawn_by))]
 fn drawn_by(state: u64) -> Drawn
     requires { state < states }
     ensures { result ≡ drawn_by state }
@@ -145,80 +147,108 @@ fn drawn_by(state: u64) -> Drawn
 
 // ---- records
 
-// Puts a number in so many bytes, the lowest first.
-fn put_bytes(out: &mut [u8], at: usize, n: u64, width: usize) -> usize
-    requires { at + width ≤ length out.old }
-    ensures { (result ≡ at + width) × (Puts out.old at out.new result (bytes_of width n)) }
+// The bytes of a record as they are put together, in memory of their own: the longest are a map's.
+type Bytes = ArrayVec<u8, 21>;
+
+// Puts bytes.
+fn put(out: &mut Bytes, bytes: &[u8])
+    requires { array_vec_len out.old + length bytes.now ≤ 21 }
+    ensures { out.new.items ≡ out.old.items ++ bytes.now }
 {
-    let mut rest = n;
-    let mut i: usize = 0;
-    while i < width {
-        put(out, at + i, (rest % 256) as u8);
-        rest = rest / 256;
-        i += 1;
-    }
-    at + i
+    out.try_extend_from_slice(bytes).unwrap();
 }
 
-// Puts the length of a record and its kind.
-fn put_head(out: &mut [u8], at: usize, size: u64, kind: u64) -> usize
-    requires { at + 4 ≤ length out.old }
-    ensures { (result ≡ at + 4) × (Puts out.old at out.new result (bytes_of 2 size ++ bytes_of 2 kind)) }
+// Puts a number in two bytes, the lowest first.
+#[tactic(auto, using(crate::proofs::Numbers::two_bytes))]
+fn put_short(out: &mut Bytes, n: u16)
+    requires { array_vec_len out.old + 2 ≤ 21 }
+    ensures { out.new.items ≡ out.old.items ++ bytes_of 2 n }
 {
-    let from = put_bytes(out, at, size, 2);
-    put_bytes(out, from, kind, 2)
+    put(out, &n.to_le_bytes());
 }
 
-// Puts a record of two numbers, each in so many bytes.
-fn put_two(out: &mut [u8], at: usize, kind: u64, m: u64, left: usize, n: u64, right: usize) -> usize
-    requires { at + (4 + (left + right)) ≤ length out.old }
-    ensures { (result ≡ at + (4 + (left + right))) × (Puts out.old at out.new result (record_bytes kind (bytes_of left m ++ bytes_of right n))) }
+// Puts a number in eight.
+#[tactic(auto, using(crate::proofs::Numbers::eight_bytes))]
+fn put_long(out: &mut Bytes, n: u64)
+    requires { array_vec_len out.old + 8 ≤ 21 }
+    ensures { out.new.items ≡ out.old.items ++ bytes_of 8 n }
 {
-    let size = 2 + (left + right);
-    let from = put_head(out, at, size as u64, kind);
-    let second = put_bytes(out, from, m, left);
-    put_bytes(out, second, n, right)
+    put(out, &n.to_le_bytes());
 }
 
-// Puts a record of one number, in eight bytes.
-fn put_one(out: &mut [u8], at: usize, kind: u64, n: u64) -> usize
-    requires { at + 12 ≤ length out.old }
-    ensures { (result ≡ at + 12) × (Puts out.old at out.new result (record_bytes kind (bytes_of 8 n))) }
+// Puts two numbers in eight bytes each.
+fn put_longs(out: &mut Bytes, m: u64, n: u64)
+    requires { array_vec_len out.old + 16 ≤ 21 }
+    ensures { out.new.items ≡ out.old.items ++ (bytes_of 8 m ++ bytes_of 8 n) }
 {
-    put_two(out, at, kind, n, 8, 0, 0)
+    put_long(out, m);
+    put_long(out, n);
 }
 
-// Puts the record of a map.
-fn put_map(out: &mut [u8], at: usize, guest: u64, host: u64, writable: bool) -> usize
-    requires { at + 21 ≤ length out.old }
-    ensures { (result ≡ at + 21) × (Puts out.old at out.new result (call_bytes (Call.Map guest host writable))) }
+// The head of a record of a kind: its length and the kind.
+fn head_of(kind: Kind) -> Bytes
+    ensures { result.items ≡ bytes_of 2 (2 + size_in kind) ++ bytes_of 2 (number_in kind) }
 {
-    let from = put_head(out, at, 19, 3);
-    let second = put_bytes(out, from, guest, 8);
-    let third = put_bytes(out, second, host, 8);
-    let byte: u64 = if writable { 1 } else { 0 };
-    put_bytes(out, third, byte, 1)
+    let mut out = Bytes::new();
+    put_short(&mut out, 2 + kind.size() as u16);
+    put_short(&mut out, kind.number());
+    out
 }
 
-// Puts the record of a call.
-fn put_call(out: &mut [u8], at: usize, call: Call) -> usize
-    requires { at + 21 ≤ length out.old }
-    ensures { (result ≤ at + 21) × (Puts out.old at out.new result (call_bytes call)) }
+// The record of an open.
+fn open_record(hosts: u16, shadows: u16) -> Bytes
+    ensures { result.items ≡ open_bytes hosts shadows }
+{
+    let mut out = head_of(Kind::Open);
+    put_short(&mut out, hosts);
+    put_short(&mut out, shadows);
+    out
+}
+
+// Puts the body of a call's record.
+#[tactic(auto, using(crate::proofs::Numbers::bool_byte))]
+fn put_body(out: &mut Bytes, call: Call)
+    requires { array_vec_len out.old ≤ 4 }
+    ensures { out.new.items ≡ out.old.items ++ body_bytes call }
 {
     match call {
-        Call::Root(guest) => put_one(out, at, 2, guest),
+        Call::Root(n) | Call::Unmap(n) | Call::Load(n) => put_long(out, n),
         Call::Map {
             guest,
             host,
             writable,
-        } => put_map(out, at, guest, host, writable),
-        Call::Unmap(guest) => put_one(out, at, 4, guest),
-        Call::SetMark { address, level } => put_two(out, at, 5, address, 8, level, 1),
-        Call::ClearMark { address, level } => put_two(out, at, 6, address, 8, level, 1),
-        Call::Load(address) => put_one(out, at, 7, address),
-        Call::Store { address, value } => put_two(out, at, 8, address, 8, value, 8),
-        Call::Device { address, value } => put_two(out, at, 9, address, 8, value, 8),
+        } => {
+            put_longs(out, guest, host);
+            out.push(u8::from(writable));
+        }
+        Call::SetMark { address, level } | Call::ClearMark { address, level } => {
+            put_long(out, address);
+            out.push((level % 256) as u8);
+        }
+        Call::Store { address, value } | Call::Device { address, value } => {
+            put_longs(out, address, value)
+        }
     }
+}
+
+// The record of a call.
+#[tactic(auto, using(crate::proofs::Numbers::body_size), unfolding(job_records::specs::Encoded::call_bytes))]
+fn record_of(call: Call) -> Bytes
+    ensures { result.items ≡ call_bytes call }
+{
+    let mut out = head_of(call.kind());
+    put_body(&mut out, call);
+    out
+}
+
+// Puts a record at a position, and answers the position past it.
+fn put_record(out: &mut [u8], at: usize, record: &Bytes) -> usize
+    requires { at + array_vec_len record.now ≤ length out.old }
+    ensures { (result ≡ at + array_vec_len record.now) × (result ≤ at + 21) × (take result out.new ≡ take at out.old ++ record.now.items) }
+{
+    let end = at + record.len();
+    out[at..end].copy_from_slice(record.as_slice());
+    end
 }
 
 // ---- the load
@@ -226,25 +256,23 @@ fn put_call(out: &mut [u8], at: usize, call: Call) -> usize
 // Puts the load of a seed and a count at the start of the buffer, and answers its length.
 fn put_load(out: &mut [u8], seed: u64, count: u64) -> usize
     requires { (seed < states) × (count ≤ most) × (8 + 21 * count ≤ length out.old) }
-    ensures { take result out.new ≡ load_of seed count }
+    ensures { (result ≤ length out.new) × (take result out.new ≡ load_of seed count) }
 {
-    let mut at = put_two(out, 0, 1, 4, 2, 4, 2);
+    let mut at = put_record(out, 0, &open_record(4, 4));
     let mut state = seed;
-    let mut left = count;
-    while left > 0 {
-        let drawn = drawn_by(state);
-        let call = drawn.call;
-        at = put_call(out, at, call);
-        state = drawn.state;
-        left -= 1;
+    for _record in 0..count {
+        let Drawn { call, state: next } = drawn_by(state);
+        at = put_record(out, at, &record_of(call));
+        state = next;
     }
     at
 }
 
-// Puts the load that an input asks for, and answers its length; none where the input is cut or a number is out of range.
+// Puts the load that an input asks for, and answers its length: 0 where the input is cut or a number is out of range. It is no Option, since the load
+// is empty there, and a caller writes it as any other.
 pub fn put_asked(input: &[u8], out: &mut [u8]) -> usize
     requires { longest ≤ length out.old }
-    ensures { take result out.new ≡ load_by input.now }
+    ensures { (result ≤ length out.new) × (take result out.new ≡ load_by input.now) }
 {
     if input.len() < 16 {
         return 0;
