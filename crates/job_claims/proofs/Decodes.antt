@@ -1,53 +1,46 @@
 -- The records that the program splits off and decodes are those of document 01.
 -- Assumes nothing.
-use mathlib.Core.Path.{◌≡◌, refl, sym, ap, ◌∙◌}
-use mathlib.Core.Logic.{◌⊎◌, inl, inr}
-use mathlib.Core.Bool.{Bool, true, false, cond}
-use mathlib.Core.List.{List, [], ◌∷◌}
-use Prim.Native.Nat.{ℕ, zero, suc, ◌+◌, ◌-◌, ◌≤◌, ◌<◌}
-use native.Mathlib.Omega.{arith}
-use borrow.Author.Tests.{leb-true, leb-false, ltb-true, ltb-false, le-leb, lt-leb, ne_eqb}
-use lib.Dec.{leb, ltb, eqb}
-use lib.ListN.{length, take, drop, length-take, length-drop}
+use Rattle.std.proofs.Common.{Option, Some, None, ◌≡◌, refl, sym, ap, ◌∙◌, ◌⊎◌, inl, inr, Bool, true, false, cond, List, [], ◌∷◌, ℕ, zero, suc, ◌+◌, ◌-◌, ◌≤◌, ◌<◌, arith, leb-true, leb-false, ltb-true, ltb-false, le-leb, ne_eqb, leb, ltb, length, take, drop, length-take, length-drop}
+use Rattle.std.proofs.lemmas.Bool.{lt-leb}
 use Rattle.job_records.specs.declared.Cut.{Cut}
 use Rattle.job_records.specs.declared.Cut.TheVariants.{Body, Short, Wrong}
-use Rattle.job_records.specs.declared.Job.{Job}
-use Rattle.job_records.specs.declared.Job.TheVariants as job
-use Rattle.job_records.specs.Records.{number, cut_at, next_of, sized, open_body, map_body, number_body, mark_body, pair_body, job_of, job_by, job_at}
+use Rattle.job_records.specs.declared.Kind.{Kind}
+use Rattle.job_records.specs.declared.Kind.TheVariants as kind
+use Rattle.job_records.specs.Records.{number, cut_at, next_of, kind_at, size_in, job_in, job_by_kind, job_of, job_by, job_at}
 use Rattle.job_stream.specs.Whole.{behind}
 use Rattle.job_claims.specs.Job.{length_of, asks_of, until_bad, records_from, records_of}
 
 -- ---- no kind has a body of more than 17 bytes
 
-bad_both : (t : Bool) (x y : Job) → x ≡ job.Bad → y ≡ job.Bad → cond t x y ≡ job.Bad
-bad_both true x y p q = p
-bad_both false x y p q = q
+small : (k : Kind) → size_in k ≤ 17
+small kind.Open = omega arith
+small kind.Root = omega arith
+small kind.Map = omega arith
+small kind.Unmap = omega arith
+small kind.SetMark = omega arith
+small kind.ClearMark = omega arith
+small kind.Load = omega arith
+small kind.Store = omega arith
+small kind.Device = omega arith
 
 module _ (b : List ℕ) (long : 17 < length b) where
-  bad_sized : (n : ℕ) (x : Job) → n ≤ 17 → sized n b x ≡ job.Bad
-  bad_sized n x h =
-      let other : length b ≡ n → ⊥ = λ e. omega arith in
-      ap (λ (t : Bool). cond t x job.Bad) (ne_eqb (length b) n other)
+  kind_bad : (o : Option Kind) → job_by_kind o b ≡ None
+  kind_bad None = refl
+  kind_bad (Some k) =
+      let s : size_in k ≤ 17 = small k in
+      let other : length b ≡ size_in k → ⊥ = λ e. omega arith in
+      ap (λ (t : Bool). cond t (Some (job_in k b)) None) (ne_eqb (length b) (size_in k) other)
 
-  long_bad : (k : ℕ) → job_of k b ≡ job.Bad
+  long_bad : (k : ℕ) → job_of k b ≡ None
   unfolding job_of
-  long_bad k =
-      bad_both (eqb k 1) (open_body b) _ (bad_sized 4 _ (omega arith))
-      (bad_both (eqb k 2) (number_body 2 b) _ (bad_sized 8 _ (omega arith))
-      (bad_both (eqb k 3) (map_body b) _ (bad_sized 17 _ (omega arith))
-      (bad_both (eqb k 4) (number_body 4 b) _ (bad_sized 8 _ (omega arith))
-      (bad_both (eqb k 5) (mark_body 5 b) _ (bad_sized 9 _ (omega arith))
-      (bad_both (eqb k 6) (mark_body 6 b) _ (bad_sized 9 _ (omega arith))
-      (bad_both (eqb k 7) (number_body 7 b) _ (bad_sized 8 _ (omega arith))
-      (bad_both (eqb k 8) (pair_body 8 b) _ (bad_sized 16 _ (omega arith))
-      (bad_both (eqb k 9) (pair_body 9 b) _ (bad_sized 16 _ (omega arith)) refl))))))))
+  long_bad k = kind_bad (kind_at k)
 
 -- ---- the first record
 
 -- it asks for the same, and ends at the same place, unless it is the last
 pub record First (s : List ℕ) : Type 0 where
   pub asks : job_at s 0 ≡ asks_of s
-  pub ends : (asks_of s ≡ job.Bad) ⊎ (behind s ≡ drop (2 + length_of s) s)
+  pub ends : (asks_of s ≡ None) ⊎ (behind s ≡ drop (2 + length_of s) s)
 
 abbrev tree : Bool → Bool → Bool → Bool → Cut → Cut
 tree a b c d x = cond a (cond b Wrong (cond c Wrong (cond d Short x))) Short
@@ -56,31 +49,31 @@ module _ (s : List ℕ) where
   abbrev n : ℕ
   n = length_of s
 
-  abbrev kind : ℕ
-  kind = number 2 s 2
+  abbrev numbered : ℕ
+  numbered = number 2 s 2
 
   -- what is asked, by the two tests of the specification
-  asks_by : (x y : Bool) → leb 2 n ≡ x → leb (2 + n) (length s) ≡ y → asks_of s ≡ cond x (cond y (job_of kind (take (n - 2) (drop 4 s))) job.Bad) job.Bad
-  asks_by x y p q = λ i. cond (p i) (cond (q i) (job_of kind (take (n - 2) (drop 4 s))) job.Bad) job.Bad
+  asks_by : (x y : Bool) → leb 2 n ≡ x → leb (2 + n) (length s) ≡ y → asks_of s ≡ cond x (cond y (job_of numbered (take (n - 2) (drop 4 s))) None) None
+  asks_by x y p q = λ i. cond (p i) (cond (q i) (job_of numbered (take (n - 2) (drop 4 s))) None) None
 
-  short_asks : (x : Bool) → leb 2 n ≡ x → length s < 2 + n → asks_of s ≡ job.Bad
+  short_asks : (x : Bool) → leb 2 n ≡ x → length s < 2 + n → asks_of s ≡ None
   short_asks true p h = asks_by true false p (lt-leb (2 + n) (length s) h)
   short_asks false p h = asks_by false _ p refl
 
-  cut_by_lem : (a b c d : Bool) → leb 2 (length s) ≡ a → ltb n 2 ≡ b → ltb 19 n ≡ c → ltb (length s - 2) n ≡ d → cut_at s 0 ≡ tree a b c d (Body kind 4 (n - 2))
-  cut_by_lem a b c d e f g h = λ i. tree (e i) (f i) (g i) (h i) (Body kind 4 (n - 2))
+  cut_by_lem : (a b c d : Bool) → leb 2 (length s) ≡ a → ltb n 2 ≡ b → ltb 19 n ≡ c → ltb (length s - 2) n ≡ d → cut_at s 0 ≡ tree a b c d (Body numbered 4 (n - 2))
+  cut_by_lem a b c d e f g h = λ i. tree (e i) (f i) (g i) (h i) (Body numbered 4 (n - 2))
 
-  bad_first : cut_at s 0 ≡ Short ⊎ cut_at s 0 ≡ Wrong → asks_of s ≡ job.Bad → First s
+  bad_first : cut_at s 0 ≡ Short ⊎ cut_at s 0 ≡ Wrong → asks_of s ≡ None → First s
   unfolding job_at
   bad_first (inl c) e = record { asks = ap (job_by s) c ∙ sym e; ends = inl e }
   bad_first (inr c) e = record { asks = ap (job_by s) c ∙ sym e; ends = inl e }
 
-  long_asks : (y : Bool) → leb (2 + n) (length s) ≡ y → 19 < n → asks_of s ≡ job.Bad
+  long_asks : (y : Bool) → leb (2 + n) (length s) ≡ y → 19 < n → asks_of s ≡ None
   long_asks false q h = asks_by true false (le-leb 2 n (omega arith)) q
   long_asks true q h =
       let b = take (n - 2) (drop 4 s) in
       let l : 17 < length b = omega (arith, length-take (n - 2) (drop 4 s), length-drop 4 s, leb-true (2 + n) (length s) q) in
-      asks_by true true (le-leb 2 n (omega arith)) q ∙ long_bad b l kind
+      asks_by true true (le-leb 2 n (omega arith)) q ∙ long_bad b l numbered
 
   pub first_same : First s
   unfolding job_at

@@ -1,9 +1,6 @@
 -- Document 01's example of a job, computed from its bytes to its lines by the specification.
 -- Assumes nothing.
-use mathlib.Core.Path.{◌≡◌, refl}
-use mathlib.Core.List.{List, [], ◌∷◌}
-use Prim.Native.Nat.{ℕ}
-use lib.ListN.{replicate}
+use Rattle.std.proofs.Common.{◌≡◌, refl, List, [], ◌∷◌, ℕ, replicate}
 use Rattle.spec.specs.Computing.{specifying}
 use Rattle.job_lines.specs.Text.{decimal, hexadecimal}
 use Rattle.job_records.specs.Records.{job_of}

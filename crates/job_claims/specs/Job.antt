@@ -1,16 +1,15 @@
 -- A job as document 01 has it: what its bytes ask for, and what machine and book say to each record. Document 01, "Job program".
 -- No definition here knows the unit, its record or its tables.
 -- Assumes nothing.
-use Rattle.std.specs.Prelude.{ℕ, zero, suc, ◌+◌, ◌-◌, ◌/◌, false, cond, List, [], ◌∷◌, ◌++◌, leb, length, take, drop}
+use Rattle.std.specs.Prelude.{ℕ, zero, suc, ◌+◌, ◌-◌, ◌/◌, false, cond, List, [], ◌∷◌, ◌++◌, leb, length, take, drop, Some, None}
 use Rattle.std.proofs.Math.Option.{Option, none, some}
 use Rattle.spec.specs.Answer as say
 use Rattle.spec.specs.Answer.{Line}
 use Rattle.spec.specs.Call.{Call}
 use Rattle.spec.specs.Run.{State, step, opening}
 use Rattle.spec.specs.Config.{Config}
-use Rattle.job_records.specs.declared.Job.{Job}
 use Rattle.job_records.specs.declared.Job.TheVariants as job
-use Rattle.job_records.specs.Records.{number, job_of, asked}
+use Rattle.job_records.specs.Records.{Wanted, number, job_of, asked}
 use Rattle.job_lines.specs.Text.{decimal, text_of}
 
 -- ---- the input
@@ -21,26 +20,25 @@ length_of s = number 2 s 0
 
 -- what the first record asks for: its kind is in the two bytes after the length, its body is the rest of it. A record that is shorter than its
 -- kind, or longer than the input, is 13, as one is whose length is not its kind's or whose kind is unknown
-abbrev pub asks_of : List ℕ → Job
+abbrev pub asks_of : List ℕ → Wanted
 asks_of s =
     cond (leb 2 (length_of s))
-    (cond (leb (2 + length_of s) (length s)) (job_of (number 2 s 2) (take (length_of s - 2) (drop 4 s))) job.Bad)
-    job.Bad
+    (cond (leb (2 + length_of s) (length s)) (job_of (number 2 s 2) (take (length_of s - 2) (drop 4 s))) None)
+    None
 
 -- after 13 nothing is read
-abbrev pub until_bad : Job → List Job → List Job
-until_bad (job.Open h s) js = job.Open h s ∷ js
-until_bad (job.Call x) js = job.Call x ∷ js
-until_bad job.Bad js = job.Bad ∷ []
+abbrev pub until_bad : Wanted → List Wanted → List Wanted
+until_bad (Some j) js = Some j ∷ js
+until_bad None js = None ∷ []
 
 -- at most k records of the input
-unfoldable pub records_from : ℕ → List ℕ → List Job
+unfoldable pub records_from : ℕ → List ℕ → List Wanted
 records_from zero s = []
 records_from (suc k) [] = []
 records_from (suc k) (x ∷ s) = until_bad (asks_of (x ∷ s)) (records_from k (drop (2 + length_of (x ∷ s)) (x ∷ s)))
 
 -- the records of the input: it has no more of them than bytes
-abbrev pub records_of : List ℕ → List Job
+abbrev pub records_of : List ℕ → List Wanted
 records_of s = records_from (length s) s
 
 -- ---- machine and book
@@ -62,12 +60,12 @@ called (some s) x =
     (u.0, some u.1)
 
 -- what is said to one record; m is the memory that an opening meets
-abbrev pub said : Job → List ℕ → Option State → Line × Option State
-said (job.Open h s) m o =
+abbrev pub said : Wanted → List ℕ → Option State → Line × Option State
+said (Some (job.Open h s)) m o =
     let u : Line × Option State = opening (sizes (length m) h s) false m in
     (u.0, opened_by u.1 o)
-said (job.Call x) m o = called o (asked x)
-said job.Bad m o = (say.no 13, o)
+said (Some (job.Call x)) m o = called o (asked x)
+said None m o = (say.no 13, o)
 
 -- the memory that an opening meets: that of the start before any granted opening. After one, the guest words are the machine's, and t stands
 -- in the frames of the tables: which words those are is open
@@ -85,7 +83,7 @@ others [] = []
 others (t ∷ ts) = ts
 
 -- the lines of a list of records on a memory
-unfoldable pub said_all : List Job → List (List ℕ) → List ℕ → Option State → List Line
+unfoldable pub said_all : List Wanted → List (List ℕ) → List ℕ → Option State → List Line
 said_all [] ts m k = []
 said_all (j ∷ js) ts m k =
     let u : Line × Option State = said j (meets m (first ts) k) k in
