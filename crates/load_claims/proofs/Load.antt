@@ -1,22 +1,13 @@
 -- A load is read back as the calls that were drawn, and the job program says to them what machine and book say.
 -- Assumes nothing.
-use Prim.Native.Nat.{ℕ, zero, suc, ◌+◌, ◌≤◌, ◌<◌}
-use native.Mathlib.Omega.{arith}
-use mathlib.Core.Path.{◌≡◌, refl, sym, ap, subst, ◌∙◌}
-use mathlib.Core.Bool.{Bool, true, false, cond}
-use mathlib.Core.List.{List, [], ◌∷◌, ◌++◌, map}
-use mathlib.Core.Option.{none}
-use borrow.Author.Tests.{ltb-true, ltb-false}
-use lib.Dec.{eqb, ltb}
-use lib.ListN.{length, length-append}
+use Rattle.std.proofs.Common.{Some, None, ℕ, zero, suc, ◌+◌, ◌≤◌, ◌<◌, arith, ◌≡◌, refl, sym, ap, subst, ◌∙◌, Bool, true, false, cond, List, [], ◌∷◌, ◌++◌, map, ltb-true, ltb-false, eqb, ltb, length, length-append}
+use Rattle.std.proofs.Math.Option.{none}
 use Rattle.spec.specs.Prefix.{All}
 use Rattle.spec_laws.proofs.Lists.{all_any}
-use Rattle.record.specs.declared.Record.{Record}
 use Rattle.job_records.specs.declared.Call.{Call}
 use Rattle.job_records.specs.declared.Call.TheVariants as call
-use Rattle.job_records.specs.declared.Job.{Job}
 use Rattle.job_records.specs.declared.Job.TheVariants as job
-use Rattle.job_records.specs.Records.{number}
+use Rattle.job_records.specs.Records.{Wanted, number}
 use Rattle.job_records.specs.Encoded.{open_bytes}
 use Rattle.job_stream.specs.Whole.{wrote}
 use Rattle.job_claims.specs.Job.{records_from, records_of, said_all, bytes_from}
@@ -25,7 +16,7 @@ use Rattle.job_claims.proofs.Bytes.{job_bytes}
 use Rattle.load_spec.specs.declared.Drawn.{Drawn}
 use Rattle.load_spec.specs.Load.{states, next, kind_by, drawn_as, drawn_by, calls_from, bytes_all, most, load_of, load_by}
 use Rattle.load_records.specs.Laws.{either, load_is, load_seed, load_count}
-use Rattle.load_claims.specs.Load.{jobs_of, FromTwoToNine, Read, Reads, Fits}
+use Rattle.load_claims.specs.Load.{asked_for, jobs_of, FromTwoToNine, Read, Reads, Fits}
 use Rattle.load_claims.proofs.Back.{records_open, records_calls, calls_long}
 
 -- ---- the calls that are drawn
@@ -63,13 +54,13 @@ kind_of_call (call.Device a v) = (omega arith, omega arith)
 
 -- ---- no record is bad
 
-open_read : (h s : ℕ) → Read (job.Open h s)
+open_read : (h s : ℕ) → Read (Some (job.Open h s))
 open_read h s e = let z : ◌≡◌ {A = ℕ} 0 1 = cc in absurd (omega arith)
 
-call_read : (x : Call) → Read (job.Call x)
+call_read : (x : Call) → Read (asked_for x)
 call_read x e = let z : ◌≡◌ {A = ℕ} 0 1 = cc in absurd (omega arith)
 
-calls_read : (xs : List Call) → All Read (map job.Call xs)
+calls_read : (xs : List Call) → All Read (map asked_for xs)
 calls_read [] = tt
 calls_read (x ∷ xs) = (call_read x, calls_read xs)
 
@@ -83,7 +74,7 @@ load_found seed count h k =
     ap records_of (load_is seed count h k)
     ∙ ap (λ (n : ℕ). records_from n (open_bytes 4 4 ++ b)) l
     ∙ records_open (7 + length b) b
-    ∙ ap (λ (js : List Job). job.Open 4 4 ∷ js) (records_calls (7 + length b) xs (calls_fit count seed) (omega (arith, calls_long xs)))
+    ∙ ap (λ (js : List Wanted). Some (job.Open 4 4) ∷ js) (records_calls (7 + length b) xs (calls_fit count seed) (omega (arith, calls_long xs)))
 
 -- For every seed below 2^31 and every count up to 65,535: decoding the bytes gives an open 4 4 and then so many records, those that were drawn, each of
 -- a kind from 2 to 9, and none that is bad
@@ -96,10 +87,10 @@ load_reads seed count h k = record {
 }
 
 -- The job program's lines on them, by the definitions that its functions are proved equal to, are those of machine and book to the calls that were drawn
-pub load_lines_lem : (seed count : ℕ) → seed < states → count ≤ most → (r : Record) (m : List ℕ)
-    → wrote (load_of seed count) 0 false r m ≡ bytes_from 1 (said_all (jobs_of seed count) (tables_of (jobs_of seed count) false r m) m none)
-load_lines_lem seed count h k r m =
-    job_bytes (load_of seed count) r m ∙ ap (λ (js : List Job). bytes_from 1 (said_all js (tables_of js false r m) m none)) (load_found seed count h k)
+pub load_lines_lem : (seed count : ℕ) → seed < states → count ≤ most → (m : List ℕ)
+    → wrote (load_of seed count) 0 None m ≡ bytes_from 1 (said_all (jobs_of seed count) (tables_of (jobs_of seed count) None m) m none)
+load_lines_lem seed count h k m =
+    job_bytes (load_of seed count) m ∙ ap (λ (js : List Wanted). bytes_from 1 (said_all js (tables_of js None m) m none)) (load_found seed count h k)
 
 -- ---- whatever the program is given
 
