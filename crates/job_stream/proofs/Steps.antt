@@ -1,6 +1,6 @@
 -- The ways that a turn goes, each as the turn's definition has it.
 -- Assumes nothing.
-use Rattle.std.proofs.Common.{◌≡◌, refl, sym, ap, ◌∙◌, subst, Bool, true, false, cond, List, [], ◌++◌, ℕ, ◌+◌, ◌-◌, ◌≤◌, ◌<◌, arith, eq-eqb, ne_eqb, eqb, length, take}
+use Rattle.std.proofs.Common.{◌≡◌, refl, sym, ap, ◌∙◌, subst, Bool, true, false, cond, List, [], ◌++◌, ℕ, ◌+◌, ◌≤◌, arith, eq-eqb, ne_eqb, eqb, length, take}
 use Rattle.words.specs.After.{After, yields}
 use Rattle.job_records.specs.declared.Cut.{Cut}
 use Rattle.job_records.specs.declared.Cut.TheVariants.{Body, Short, Wrong}

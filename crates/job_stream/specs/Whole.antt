@@ -1,6 +1,6 @@
 -- What a job writes for a whole input, by the definitions that records, unit and lines are proved equal to.
 -- Assumes nothing.
-use Rattle.std.specs.Prelude.{ℕ, zero, suc, ◌+◌, Bool, cond, List, [], ◌∷◌, ◌++◌, length, drop}
+use Rattle.std.specs.Prelude.{ℕ, zero, suc, ◌+◌, cond, List, [], ◌∷◌, ◌++◌, length, drop}
 use Rattle.words.specs.After.{After}
 use Rattle.job_records.specs.Records.{cut_at, next_of, job_at}
 use Rattle.job_run.specs.declared.Ran.{Ran}

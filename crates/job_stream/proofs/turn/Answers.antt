@@ -1,7 +1,5 @@
 -- The cut of the bytes that are there decides.
-use Rattle.std.proofs.Common.{List, ◌≡◌, take, ap, sym, ◌∙◌}
-use Rattle.job_records.specs.Records.{cut_at}
-use Rattle.job_stream.specs.declared.Flow.{Flow}
+use Rattle.std.proofs.Common.{◌≡◌, sym, ◌∙◌}
 use Rattle.job_stream.specs.Turns.{cut_of}
 use Rattle.job_stream.proofs.Steps.{turn_runs, turn_short}
 use Rattle.job_stream.proofs.turn.Goals as goal
