@@ -19,7 +19,11 @@ fn digit_of(d: u64) -> u8
     requires { d < 16 }
     ensures { result ≡ digit d }
 {
-    if d < 10 { 48 + d as u8 } else { 87 + d as u8 }
+    if d < 10 {
+        b'0' + d as u8
+    } else {
+        b'a' - 10 + d as u8
+    }
 }
 
 // Puts a text.
@@ -83,7 +87,8 @@ fn put_fault(out: &mut Line, fault: Fault)
     put_pair(out, spec::level_of(fault), spec::frame_of(fault));
 }
 
-// Puts what an answer says. No record of a job asks for a forecast: its figures are here so that each answer has its text.
+// Puts what an answer says. No `write!`: its clauses say what stands in the line where it answers Ok, and nothing says that it does where there is
+// room, so that the line's clause would stay open. No record of a job asks for a forecast: its figures are here so that each answer has its text.
 fn put_answer(out: &mut Line, answer: Answer)
     requires { array_vec_len out.old + 92 ≤ LONGEST }
     ensures room { array_vec_len out.new ≤ array_vec_len out.old + 92 }
