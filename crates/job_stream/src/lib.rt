@@ -16,7 +16,8 @@ use spec::Answer;
 use std::io::{Read, Write};
 
 // A job that runs: the unit's record in use, once an open was granted, how many records ran, where the next one starts
-// in the buffer, how many bytes the buffer holds, whether the job goes on, and whether its lines are taken.
+// in the buffer, how many bytes the buffer holds, whether the job goes on, and whether its lines are taken. The last two are apart, since the claim
+// about the loop (job_loop) holds where the job is over, and says nothing where a line was not taken.
 #[derive(Drop)]
 pub struct Flow {
     pub unit: Option<Record>,
