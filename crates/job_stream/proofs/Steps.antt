@@ -1,35 +1,11 @@
 -- The ways that a turn goes, each as the turn's definition has it.
 -- Assumes nothing.
-use Rattle.std.proofs.Common.{◌≡◌, refl, sym, ap, ◌∙◌, subst, Bool, true, false, cond, List, [], ◌++◌, ℕ, ◌+◌, ◌≤◌, arith, eq-eqb, ne_eqb, eqb, length, take}
+use Rattle.std.proofs.Common.{◌≡◌, refl, sym, ap, ◌∙◌, subst, Bool, true, false, cond, List, [], ◌++◌, ℕ, ◌+◌, ◌≤◌, arith, eqb, length, take}
 use Rattle.words.specs.After.{After, yields}
 use Rattle.job_records.specs.declared.Cut.{Cut}
 use Rattle.job_records.specs.declared.Cut.TheVariants.{Body, Short, Wrong}
 use Rattle.job_stream.specs.declared.Flow.{Flow}
-use Rattle.job_stream.specs.Turns.{Turned, unread, ran_of, front, ended_of, refilled_of, turn_by, cut_of, turn_of, Refilled, BufferBy, Turn, read_by, Runs, start, then, first, most, Looped}
-
--- ---- a read, after which k bytes that are not run yet stand at the front
-
--- the input has ended, and nothing is left
-pub refill_stops : (f : Flow) (m u : List ℕ) (k : ℕ) → k ≡ length u → k ≡ 0
-    → yields (record { unit = f.unit; number = f.number; at = 0; len = k; more = false; taken = f.taken }) m ≡ (refilled_of f m u k f.taken).after
-refill_stops f m u k e z = rw (eq-eqb k (length u) e, eq-eqb (length u) 0 (sym e ∙ z), z)
-
--- the input has ended within a record
-pub refill_runs : (f g : Flow) (m n u b : List ℕ) (k : ℕ) → k ≡ length u → (k ≡ 0 → ⊥) → take k b ≡ u
-    → yields g n ≡ (ran_of (front f k) m (take k b) g.taken).after → yields g n ≡ (refilled_of f m u g.len g.taken).after
-refill_runs f g m n u b k e z h r =
-    let l : g.len ≡ length u = ap (λ (x : After Flow). x.result.len) r ∙ e in
-    let some : length u ≡ 0 → ⊥ = λ q. z (e ∙ q) in
-    rw (eq-eqb g.len (length u) l, ne_eqb (length u) 0 some) (r ∙ ap (λ (s : List ℕ). (ran_of (front f k) m s g.taken).after) h ∙ ap (λ (j : ℕ). (ran_of (front f j) m u g.taken).after) e)
-
--- some bytes came
-pub refill_reads : (f : Flow) (m u : List ℕ) (k r : ℕ) → k ≡ length u → (r ≡ 0 → ⊥) → yields (front f (k + r)) m ≡ (refilled_of f m u (k + r) f.taken).after
-refill_reads f m u k r e z =
-    let more : k + r ≡ length u → ⊥ = λ q. z (omega arith) in
-    rw (ne_eqb (k + r) (length u) more)
-
-pub refilled : (u b : List ℕ) (k l : ℕ) → k ≡ length u → take k b ≡ u → k ≤ l → l ≤ length b → Refilled u l b
-refilled u b k l e h p q = (ap (λ (j : ℕ). take j b) (sym e) ∙ h, omega arith, q)
+use Rattle.job_stream.specs.Turns.{Turned, unread, ran_of, front, ended_of, refilled_of, turn_by, cut_of, turn_of, Refilled, BufferBy, Turn, read_by, Runs, start, then, first}
 
 -- ---- a turn
 
@@ -100,13 +76,4 @@ going_next m b g n c turns h p d i e t = record {
   output = i.output ++ (turn_of g n c h.len h.taken).said;
   runs = then h p d i.runs e t;
   few = omega (arith, i.few, turn_number g h n p c d t);
-}
-
-pub going_ends : (m b : List ℕ) (g : Flow) (n c : List ℕ) (turns : ℕ) → Going m b g n c turns → (g.more ≡ true → g.taken ≡ true → turns ≡ most) → Looped first m b g n c
-going_ends m b g n c turns i e = record {
-  turns = turns;
-  input = i.input;
-  output = i.output;
-  runs = i.runs;
-  ended = e;
 }
