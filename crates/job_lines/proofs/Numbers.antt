@@ -1,5 +1,5 @@
 -- A number digit by digit: in decimal as std writes it, in hexadecimal from the last digit on.
-use Rattle.std.proofs.Common.{ℕ, zero, suc, ◌+◌, ◌-◌, ◌/◌, ◌%◌, ◌^◌, ◌<◌, ◌≤◌, ◌≡◌, sym, List, [], ◌∷◌, ◌++◌, arith, lt-ltb, le-ltb}
+use Rattle.std.proofs.Common.{ℕ, zero, suc, ◌+◌, ◌-◌, ◌/◌, ◌%◌, ◌^◌, ◌<◌, ◌≤◌, ◌≡◌, refl, sym, List, [], ◌∷◌, ◌++◌, arith, lt-ltb, le-ltb}
 use Rattle.std.proofs.Common.{decimal as written}
 use Rattle.std.proofs.lemmas.Fmt.{AppendsLastDigit, decimal_from_appends, length-decimal-le}
 use Rattle.job_lines.specs.Text.{digit, decimal, hexadecimal}
@@ -27,6 +27,22 @@ appends = record { one = one; more = more }
 pub decimal_text : (n : ℕ) → n < 2 ^ 64 → written n ≡ decimal 19 n
 unfolding digits
 decimal_text n h = sym (decimal_from_appends digits appends 20 n h (length-decimal-le 20 n (omega arith) (omega arith) h))
+
+pub decimal_zero : (k n : ℕ) → k ≡ 0 → decimal k n ≡ digit (n % 10) ∷ []
+unfolding decimal
+decimal_zero k n e = rw e
+
+pub decimal_one : (k n : ℕ) → n < 10 → decimal k n ≡ digit (n % 10) ∷ []
+unfolding decimal
+decimal_one zero n h = refl
+decimal_one (suc k) n h = rw (lt-ltb n 10 h)
+
+pub decimal_more : (k n : ℕ) → (k ≡ 0 → ⊥) → 10 ≤ n → decimal k n ≡ decimal (k - 1) (n / 10) ++ (digit (n % 10) ∷ [])
+unfolding decimal
+decimal_more zero n z h = absurd (z refl)
+decimal_more (suc k) n z h =
+    let e : suc k - 1 ≡ k = omega arith in
+    rw (le-ltb n 10 h, e)
 
 pub hex_zero : (k n : ℕ) → k ≡ 0 → hexadecimal k n ≡ []
 unfolding hexadecimal

@@ -1,9 +1,9 @@
 -- A draw is below 2^31, and so is the state after a call; a number, byte by byte; a load, record by record.
-use Rattle.std.specs.Prelude.{ℕ, suc, ◌+◌, ◌-◌, ◌≤◌, ◌<◌, ◌≡◌, Bool, true, false, cond, List, [], ◌++◌, eqb, length}
-use Rattle.std.proofs.Common.{arith, ap₂, sym, ◌∙◌, lt-ltb, le-ltb, length-append}
+use Rattle.std.specs.Prelude.{ℕ, zero, suc, ◌+◌, ◌-◌, ◌/◌, ◌%◌, ◌≤◌, ◌<◌, ◌≡◌, refl, Bool, true, false, cond, List, [], ◌∷◌, ◌++◌, eqb, length}
+use Rattle.std.proofs.Common.{arith, ap, ap₂, sym, ◌∙◌, lt-ltb, le-ltb, length-append}
 use Rattle.job_records.specs.Laws.{number_front}
 use Rattle.job_records.specs.Records.{number}
-use Rattle.job_records.specs.Encoded.{open_bytes, call_bytes}
+use Rattle.job_records.specs.Encoded.{bytes_of, open_bytes, call_bytes}
 use Rattle.load_spec.specs.declared.Drawn.{Drawn}
 use Rattle.load_spec.specs.Load.{states, next, kind_by, drawn_as, drawn_by, calls_from, bytes_all, most, load_of, load_by}
 
@@ -33,6 +33,24 @@ unfolding drawn_by
 drawn_below s =
     as_below (kind_by (next s)) (next (next s)) (next (next (next s))) (next (next (next (next s))))
     (next_below (next s)) (next_below (next (next s))) (next_below (next (next (next s))))
+
+-- ---- a number's bytes
+
+-- none are left
+pub bytes_none : (w i n : ℕ) → w ≤ i → bytes_of (w - i) n ≡ []
+bytes_none w i n h =
+    let e : w - i ≡ 0 = omega arith in
+    ap (λ (k : ℕ). bytes_of k n) e
+
+-- the next one, and those behind it
+pub bytes_more : (w i n : ℕ) → i < w → bytes_of (w - i) n ≡ (n % 256) ∷ bytes_of (w - (i + 1)) (n / 256)
+bytes_more w i n h =
+    let e : w - i ≡ suc (w - (i + 1)) = omega arith in
+    ap (λ (k : ℕ). bytes_of k n) e
+
+pub length_bytes : (w n : ℕ) → length (bytes_of w n) ≡ w
+length_bytes zero n = refl
+length_bytes (suc w) n = ap suc (length_bytes w (n / 256))
 
 -- ---- the load, record by record
 

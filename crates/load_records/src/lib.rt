@@ -5,6 +5,7 @@ ghost use Rattle.std.specs.Prelude.{◌≡◌, ◌++◌, ◌+◌, ◌*◌, ◌�
 ghost use Rattle.arrayvec.specs.ArrayVec.{array_vec_len};
 ghost use Rattle.job_records.specs.Records.{size_in, number_in};
 ghost use Rattle.job_records.specs.Encoded.{bytes_of, open_bytes, body_bytes, call_bytes};
+ghost use Rattle.load_records.specs.Puts.{Puts};
 ghost use Rattle.load_spec.specs.Load.{states, next, high, guest_by, host_by, address_by, level_by, writable_by, value_by, drawn_as, drawn_by, most, longest, load_of, load_by};
 
 use arrayvec::ArrayVec;
@@ -244,7 +245,7 @@ fn record_of(call: Call) -> Bytes
 // Puts a record at a position, and answers the position past it.
 fn put_record(out: &mut [u8], at: usize, record: &Bytes) -> usize
     requires { at + array_vec_len record.now ≤ length out.old }
-    ensures { (result ≡ at + array_vec_len record.now) × (result ≤ at + 21) × (take result out.new ≡ take at out.old ++ record.now.items) }
+    ensures { (result ≡ at + array_vec_len record.now) × (result ≤ at + 21) × (Puts out.old at out.new result record.now.items) }
 {
     let end = at + record.len();
     out[at..end].copy_from_slice(record.as_slice());
