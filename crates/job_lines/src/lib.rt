@@ -45,7 +45,7 @@ fn put_decimal(out: &mut Line, n: u64)
     put_text(out, digits.format(n).as_bytes());
 }
 
-// Puts so many hexadecimal digits of a number.
+// Puts so many hexadecimal digits of a number. A recursion on how many, as the text is defined: the lowest digit comes last.
 fn put_hex(out: &mut Line, n: u64, width: usize)
     requires { array_vec_len out.old + width ≤ LONGEST }
     ensures room { array_vec_len out.new ≤ array_vec_len out.old + width }

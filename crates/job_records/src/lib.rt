@@ -66,24 +66,18 @@ pub fn cut_at(s: &[u8], at: usize) -> Cut
     }
 }
 
-// The body of the record that starts at a position, as a part of the caller's slice; an empty part where there is none.
+// The body of the record that starts at a position, as a reader there hands it out: a part of the caller's slice, empty where there is no whole record.
 pub fn body_at(s: &[u8], at: usize) -> &[u8]
     ensures { result.now ≡ body_of s.now (cut_at s.now at) }
 {
-    match cut_at(s, at) {
-        Cut::Body { start, len, .. } => &s[start..start + len],
-        Cut::Short | Cut::Wrong => &[],
-    }
+    Reader::new(s, at).body()
 }
 
-// Where the record that starts at a position ends; the position itself where there is no whole record.
+// Where a reader at a position stands once it has moved on: the record's end, or the position itself where there is no whole record.
 pub fn next_at(s: &[u8], at: usize) -> usize
     ensures { result ≡ next_of at (cut_at s.now at) }
 {
-    match cut_at(s, at) {
-        Cut::Body { start, len, .. } => start + len,
-        Cut::Short | Cut::Wrong => at,
-    }
+    Reader::new(s, at).skip().at
 }
 
 // ---- what a record asks for
@@ -252,7 +246,7 @@ pub fn job_at(s: &[u8], at: usize) -> Option<Job>
     ensures { result ≡ job_at s.now at }
 {
     match cut_at(s, at) {
-        Cut::Body { kind, start, len } => decode(kind, &s[start..start + len]),
+        Cut::Body { kind, .. } => decode(kind, body_at(s, at)),
         Cut::Short | Cut::Wrong => None,
     }
 }
@@ -274,20 +268,26 @@ impl<'a> Reader<'a> {
         Reader { src, at }
     }
 
-    // The body of the record at the cursor, as a part of the input.
+    // The body of the record at the cursor, as a part of the input; an empty part where there is no whole record.
     pub fn body(self) -> &'a [u8]
         ensures { result.now ≡ body_of self.entry.src.now (cut_at self.entry.src.now self.entry.at) }
     {
-        body_at(self.src, self.at)
+        match cut_at(self.src, self.at) {
+            Cut::Body { start, len, .. } => &self.src[start..start + len],
+            Cut::Short | Cut::Wrong => &[],
+        }
     }
 
-    // The reader behind the record at the cursor.
+    // The reader behind the record at the cursor; where there is no whole record it stays.
     pub fn skip(self) -> Reader<'a>
         ensures { (result.src ≡ self.entry.src) × (result.at ≡ next_of self.entry.at (cut_at self.entry.src.now self.entry.at)) }
     {
-        Reader {
-            at: next_at(self.src, self.at),
-            ..self
+        match cut_at(self.src, self.at) {
+            Cut::Body { start, len, .. } => Reader {
+                at: start + len,
+                ..self
+            },
+            Cut::Short | Cut::Wrong => self,
         }
     }
 }

@@ -25,7 +25,7 @@ loop-record-preserved c =
     let d = c.drawn_by-call in
     let p = c.put_record-at-in-loop-record in
     let n : length p.new.out ≡ length l.out = search rules in
-    let more = calls_more c.args.count l._record l.state d.result c.loop-record-test.true d.ensures in
+    let more = calls_more c.args.count l._record l.state d.result (omega (arith, c.loop-record-test.true)) d.ensures in
     record {
       long = n ∙ l.invariant.long;
       drawn = subst (λ (x : Drawn). x.state < states) (sym d.ensures) (drawn_below l.state);
